@@ -1,0 +1,6 @@
+# The gate, and the proofs alone.
+.PHONY: test check
+test:
+	rt ci
+check:
+	rt all check

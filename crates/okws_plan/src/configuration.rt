@@ -1,0 +1,80 @@
+//! What a configuration says.
+
+use crate::statement::Statement;
+use okws_base::items::Items;
+use okws_base::name::{Identifier, Name, Path};
+use okws_base::value::{Kind, Row};
+
+/// A column of a table; `key` marks the one whose values may stand in one row only.
+#[derive(Drop)]
+pub struct Column {
+    pub name: Identifier,
+    pub kind: Kind,
+    pub key: bool,
+}
+
+/// A table of a proxy, with the rows that it has when a run begins.
+#[derive(Drop)]
+pub struct Table {
+    pub name: Identifier,
+    pub columns: Items<Column>,
+    pub first: Items<Row>,
+}
+
+/// A query of a proxy; numbers are 0 to 65,535 and need not follow one another.
+#[derive(Drop)]
+pub struct Query {
+    pub number: u16,
+    pub statement: Statement,
+}
+
+/// A database proxy: its tables and the queries that may be called there.
+#[derive(Drop)]
+pub struct ProxyPlan {
+    pub name: Name,
+    pub tables: Items<Table>,
+    pub queries: Items<Query>,
+}
+
+/// A service, and the words that start its program.
+#[derive(Drop)]
+pub struct ServicePlan {
+    pub name: Name,
+    pub words: Items<Items<u8>>,
+}
+
+/// A path that a service owns.
+#[derive(Drop)]
+pub struct Owned {
+    pub path: Path,
+    pub service: u16,
+}
+
+/// A query of a proxy that a service may call.
+#[derive(Clone, Copy, PartialEq, Eq)]
+pub struct Granted {
+    pub service: u16,
+    pub proxy: u16,
+    pub query: u16,
+}
+
+/// A template that a service may read.
+#[derive(Clone, Copy, PartialEq, Eq)]
+pub struct Readable {
+    pub service: u16,
+    pub template: u16,
+}
+
+/// What an operator's file says of a site. Proxies, services and templates are numbered from 0 in
+/// the order of their declaration; `retry` is the number of tries after which a service is given up.
+#[derive(Drop)]
+pub struct Config {
+    pub proxies: Items<ProxyPlan>,
+    pub services: Items<ServicePlan>,
+    pub templates: Items<Name>,
+    pub retry: u16,
+    pub paths: Items<Owned>,
+    pub grants: Items<Granted>,
+    pub readables: Items<Readable>,
+    pub loggers: Items<u16>,
+}

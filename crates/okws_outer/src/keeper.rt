@@ -1,0 +1,55 @@
+//! Keepers of a proxy's rows.
+
+ghost use Rattle.std.specs.Prelude.{◌≡◌, ℕ, List, true, IsErrOf};
+ghost use Rattle.std.specs.declared.option.Option.{Option};
+ghost use Rattle.okws_base.specs.declared.value.Value.{Value};
+ghost use Rattle.okws_plan.specs.declared.configuration.Table.{Table};
+ghost use Rattle.okws_outer.specs.Fits.{fits};
+ghost use Rattle.okws_outer.specs.Streams.{Counts};
+ghost use Rattle.okws_outer.specs.Keeping.{Runs};
+ghost use Rattle.okws_outer.specs.declared.keeper.RunError.TheVariants.{NoMemory};
+
+use okws_base::value::Value;
+use okws_plan::statement::{Answer, Statement};
+use std::alloc::{AllocError, Global};
+
+/// Why a statement was not run.
+#[derive(Clone, Copy, Debug, PartialEq, Eq)]
+pub enum RunError {
+    /// The keeper failed and counted it.
+    Failed,
+    /// Memory was refused.
+    NoMemory,
+}
+
+impl From<AllocError> for RunError {
+    ghost from_gives = { λ _ e. e ≡ NoMemory };
+
+    fn from(_: AllocError) -> Self {
+        RunError::NoMemory
+    }
+}
+
+/// A keeper of the rows of a proxy's tables.
+pub trait Keeper {
+    /// The tables that the keeper was made for.
+    ghost tables: { Self → List Table };
+
+    /// The rows of each table, where the keeper tells.
+    ghost told: { Self → Option (List (List (List Value))) };
+
+    /// How many calls have failed; it never falls, and stays at 2^64 - 1 once it is there.
+    ghost faults: { Self → ℕ };
+
+    /// Runs a statement with these arguments; where it has no answer the rows are as they were.
+    fn run(
+        &mut self,
+        alloc: Global,
+        statement: &Statement,
+        args: &[Value],
+    ) -> Result<Answer, RunError>
+        requires fits { fits statement.now.parameters args.now ≡ true }
+        ensures rows { Runs (tables self.old) statement.now args.now (told self.old) (told self.new) result }
+        ensures tables { tables self.new ≡ tables self.old }
+        ensures faults { Counts (faults self.old) (faults self.new) (IsErrOf result RunError.Failed) };
+}

@@ -1,0 +1,11 @@
+//! Objects in memory, which tell what they hold. The calls of an object are numbered from 0, and the
+//! calls of listed numbers fail and are counted.
+
+mod failing;
+pub mod files;
+pub mod link;
+mod room;
+pub mod sink;
+pub mod source;
+#[cfg(test)]
+mod tests;

@@ -1,0 +1,50 @@
+//! Which calls of an object fail, and how many have.
+
+ghost use Rattle.std.specs.Prelude.{◌≡◌, ◌≤◌, ◌+◌, ◌==◌, true, false, length};
+ghost use Rattle.okws_outer.specs.Streams.{Counts, Rose};
+
+/// The numbers of the calls that fail, the number of the next call, and the count of faults.
+#[derive(Clone, Copy)]
+pub(crate) struct Failing<'a> {
+    pub(crate) calls: &'a [u64],
+    next: u64,
+    pub(crate) faults: u64,
+}
+
+impl<'a> Failing<'a> {
+    pub(crate) fn at(calls: &'a [u64]) -> Self
+        ensures calls { result.calls.now ≡ calls.now }
+        ensures faults { result.faults ≡ 0 }
+    {
+        Failing {
+            calls,
+            next: 0,
+            faults: 0,
+        }
+    }
+
+    /// Numbers a call, and tells whether it fails, which is then counted.
+    pub(crate) fn fails(&mut self) -> bool
+        ensures calls { self.new.calls ≡ self.old.calls }
+        ensures faults { Counts self.old.faults self.new.faults (result ≡ true) }
+        ensures never { (length self.old.calls.now == 0) ≡ true → result ≡ false }
+    {
+        let call = self.next;
+        self.next = self.next.saturating_add(1);
+        let fails = self.calls.contains(&call);
+        if fails {
+            self.count();
+        }
+        fails
+    }
+
+    /// Counts a fault; the count stays at 2^64 - 1.
+    pub(crate) fn count(&mut self)
+        ensures calls { self.new.calls ≡ self.old.calls }
+        ensures later { self.old.faults ≤ self.new.faults }
+        ensures rose { Rose self.old.faults self.new.faults }
+        ensures by { self.new.faults ≤ self.old.faults + 1 }
+    {
+        self.faults = self.faults.saturating_add(1);
+    }
+}

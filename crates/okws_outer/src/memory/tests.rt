@@ -1,0 +1,150 @@
+//! Each object in memory on a plain way and on the ways that no clause tells: which calls fail, and
+//! where the bytes are cut.
+
+use crate::files::Files;
+use crate::memory::files::{Entry, MemoryFiles};
+use crate::memory::link::MemoryLink;
+use crate::memory::sink::MemorySink;
+use crate::memory::source::MemorySource;
+use crate::printing::print;
+use crate::reading::{ReadError, read_file, read_whole};
+use crate::stream::{Link, Pull, Put, Sink, Source};
+use crate::world::{Held, Outside, World};
+use std::test::Fail;
+
+const FILES: [Entry<'static>; 2] = [
+    Entry {
+        path: "site",
+        bytes: b"okws 1\n",
+    },
+    Entry {
+        path: "script",
+        bytes: b"launch guest\n",
+    },
+];
+
+fn is_read(read: &Result<Vec<u8>, ReadError>, want: Result<&[u8], ReadError>) -> bool {
+    match (read, want) {
+        (Ok(bytes), Ok(want)) => bytes.as_slice() == want,
+        (Err(error), Err(want)) => *error == want,
+        _ => false,
+    }
+}
+
+#[test]
+fn source_comes_in_pieces(rt: HostRuntime) -> Result<(), Fail> {
+    let mut source = MemorySource::new(b"hello", 2, &[1]);
+    let mut piece = [0u8; 4];
+    for (pull, bytes) in [
+        (Pull::Took(2), b"he".as_slice()),
+        (Pull::Failed, b"he"),
+        (Pull::Took(2), b"ll"),
+        (Pull::Took(1), b"ol"),
+        (Pull::End, b"ol"),
+    ] {
+        assert_eq!(rt; source.pull(&mut piece), pull);
+        assert_eq!(rt; &piece[..2], bytes);
+    }
+    assert_eq!(rt; source.faults(), 1);
+    Ok(())
+}
+
+#[test]
+fn whole_source_is_read_to_the_limit(rt: HostRuntime) -> Result<(), Fail> {
+    for (limit, want) in [
+        (4, b"hello".as_slice()),
+        (3, b"hell"),
+        (9, b"hello"),
+        (0, b"h"),
+    ] {
+        let mut source = MemorySource::new(b"hello", 2, &[]);
+        let read = read_whole(rt.alloc(), &mut source, limit);
+        assert!(rt; is_read(&read, Ok(want)), "at {limit}");
+    }
+    Ok(())
+}
+
+#[test]
+fn put_past_the_room_stops(rt: HostRuntime) -> Result<(), Fail> {
+    let mut sink = MemorySink::new(rt.alloc(), 5, &[1])?;
+    for (put, bytes) in [
+        (Put::Done, b"abc".as_slice()),
+        (Put::Stopped(0), b"xyz"),
+        (Put::Stopped(2), b"def"),
+        (Put::Stopped(0), b"g"),
+        (Put::Done, b""),
+    ] {
+        assert_eq!(rt; sink.put(bytes), put);
+    }
+    assert_eq!(rt; sink.given(), b"abcde".as_slice());
+    assert_eq!(rt; sink.faults(), 3);
+    Ok(())
+}
+
+#[test]
+fn link_is_cut_in_single_bytes(rt: HostRuntime) -> Result<(), Fail> {
+    let mut link = MemoryLink::new(rt.alloc(), 1, &[2]);
+    let mut piece = [0u8; 8];
+    link.feed(b"ab")?;
+    assert_eq!(rt; link.pull(&mut piece), Pull::Took(1));
+    link.feed(b"c")?;
+    link.feed_end();
+    assert_eq!(rt; link.left(), b"bc".as_slice());
+    for pull in [Pull::Took(1), Pull::Failed, Pull::Took(1), Pull::End] {
+        assert_eq!(rt; link.pull(&mut piece), pull);
+    }
+    assert_eq!(rt; piece[0], b'c');
+    assert_eq!(rt; link.is_ended(), true);
+    Ok(())
+}
+
+#[test]
+fn link_takes_what_room_was_made_for(rt: HostRuntime) -> Result<(), Fail> {
+    let mut link = MemoryLink::new(rt.alloc(), 1, &[]);
+    assert_eq!(rt; link.put(b"a"), Put::Stopped(0));
+    link.make_room(2)?;
+    assert_eq!(rt; link.put(b"ab"), Put::Done);
+    assert_eq!(rt; link.given(), b"ab".as_slice());
+    assert_eq!(rt; link.faults(), 1);
+    Ok(())
+}
+
+#[test]
+fn files_are_read_by_their_paths(rt: HostRuntime) -> Result<(), Fail> {
+    let mut files = MemoryFiles::new(&FILES, 3, &[]);
+    for (path, want) in [
+        ("script", Ok(b"launch guest\n".as_slice())),
+        ("nowhere", Err(ReadError::Failed)),
+        ("site", Ok(b"okws 1\n")),
+    ] {
+        let read = read_file(rt.alloc(), &mut files, path, 99);
+        assert!(rt; is_read(&read, want), "at {path}");
+    }
+    Ok(())
+}
+
+#[test]
+fn printing_goes_on_after_a_fault(rt: HostRuntime) -> Result<(), Fail> {
+    let files = MemoryFiles::new(&FILES, 3, &[]);
+    let out = MemorySink::new(rt.alloc(), 9, &[1])?;
+    let mut world = Held {
+        objects: Some(Outside {
+            files,
+            out,
+            seed: [0; 32],
+        }),
+    };
+    let Outside {
+        files,
+        mut out,
+        seed,
+    } = world.open();
+    let mut stopped = false;
+    for bytes in [b"ab".as_slice(), b"cd", b"ef"] {
+        print(&mut out, &mut stopped, bytes);
+    }
+    assert_eq!(rt; stopped, true);
+    assert_eq!(rt; out.given(), b"ab".as_slice());
+    world.close(Outside { files, out, seed });
+    Ok(())
+}

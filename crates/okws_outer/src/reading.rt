@@ -1,0 +1,76 @@
+//! Reads a source, or a file, whole.
+
+ghost use Rattle.std.specs.Prelude.{◌≡◌, ◌≤◌, ◌<◌, ◌+◌, ◌^◌, take, length, IfOk, IfSome, IsErrOf};
+ghost use Rattle.okws_outer.specs.Streams.{Rose};
+ghost use Rattle.okws_outer.specs.declared.reading.ReadError.TheVariants.{NoMemory};
+
+use crate::files::Files;
+use crate::stream::{Pull, Source};
+use std::alloc::{AllocError, Global};
+
+/// Why a source was not read.
+#[derive(Clone, Copy, Debug, PartialEq, Eq)]
+pub enum ReadError {
+    /// A pull failed and was counted.
+    Failed,
+    /// Memory was refused.
+    NoMemory,
+}
+
+impl From<AllocError> for ReadError {
+    ghost from_gives = { λ _ e. e ≡ NoMemory };
+
+    fn from(_: AllocError) -> Self {
+        ReadError::NoMemory
+    }
+}
+
+/// Bytes that are asked for at a time.
+const PIECE: usize = 4096;
+
+/// Reads a source to its end, or to one byte above the limit, by which the caller sees that there is
+/// more than the limit. The limit is in bytes and below 2^32.
+pub fn read_whole<S: Source>(
+    alloc: Global,
+    source: &mut S,
+    limit: usize,
+) -> Result<Vec<u8>, ReadError>
+    requires { limit < 2 ^ 32 }
+    ensures bytes { IfSome (S.left source.old) (λ all. IfOk result (λ bytes. bytes.items ≡ take (limit + 1) all)) }
+    ensures size { IfOk result (λ bytes. length bytes.items ≤ limit + 1) }
+    ensures faults { S.faults source.old ≤ S.faults source.new }
+    ensures failed { IsErrOf result ReadError.Failed → Rose (S.faults source.old) (S.faults source.new) }
+{
+    let mut bytes = Vec::new(alloc);
+    let mut piece = [0u8; PIECE];
+    while bytes.len() <= limit {
+        let room = (limit + 1 - bytes.len()).min(PIECE);
+        match source.pull(&mut piece[..room]) {
+            Pull::Took(count) => bytes.extend_from_slice(&piece[..count])?,
+            Pull::End => break,
+            Pull::Failed => return Err(ReadError::Failed),
+        }
+    }
+    Ok(bytes)
+}
+
+/// Reads the file at a path to its end, or to one byte above the limit, which is in bytes and below
+/// 2^32. A file that can't be opened is a fault.
+pub fn read_file<F: Files>(
+    alloc: Global,
+    files: &mut F,
+    path: &str,
+    limit: usize,
+) -> Result<Vec<u8>, ReadError>
+    requires { limit < 2 ^ 32 }
+    ensures bytes { IfSome (F.held files.old path.now) (λ all. IfOk result (λ bytes. bytes.items ≡ take (limit + 1) all)) }
+    ensures size { IfOk result (λ bytes. length bytes.items ≤ limit + 1) }
+    ensures held { F.held files.new ≡ F.held files.old }
+    ensures faults { F.faults files.old ≤ F.faults files.new }
+    ensures failed { IsErrOf result ReadError.Failed → Rose (F.faults files.old) (F.faults files.new) }
+{
+    let mut file = files.open(path);
+    let read = read_whole(alloc, &mut file, limit);
+    files.close(file);
+    read
+}

@@ -1,0 +1,95 @@
+//! Bytes that come in and bytes that go out.
+
+ghost use Rattle.std.specs.Prelude.{◌≡◌, ◌<◌, ◌≤◌, ◌+◌, ℕ, List, length, Bool, true};
+ghost use Rattle.std.specs.declared.option.Option.{Option};
+ghost use Rattle.okws_outer.specs.declared.stream.Pull.{Pull};
+ghost use Rattle.okws_outer.specs.declared.stream.Pull.TheVariants.{Failed};
+ghost use Rattle.okws_outer.specs.declared.stream.Put.{Put};
+ghost use Rattle.okws_outer.specs.declared.stream.Put.TheVariants.{Done};
+ghost use Rattle.okws_outer.specs.Streams.{Counts, Pulls, Puts};
+
+/// What a pull answers.
+#[derive(Clone, Copy, Debug, PartialEq, Eq)]
+pub enum Pull {
+    /// So many bytes came, 1 at the least; they stand at the front of what was given for them.
+    Took(usize),
+    /// No bytes are left.
+    End,
+    /// The call failed and was counted; no byte came.
+    Failed,
+}
+
+/// What a put answers.
+#[derive(Clone, Copy, Debug, PartialEq, Eq)]
+pub enum Put {
+    /// All bytes were given.
+    Done,
+    /// The call failed and was counted; only so many bytes from the front were given.
+    Stopped(usize),
+}
+
+/// Bytes that come in.
+pub trait Source {
+    /// The bytes that are left, where the source tells.
+    ghost left: { Self → Option (List ℕ) };
+
+    /// How many calls have failed; it never falls, and stays at 2^64 - 1 once it is there.
+    ghost faults: { Self → ℕ };
+
+    /// Takes bytes that are left, at most as many as there is room for.
+    fn pull(&mut self, into: &mut [u8]) -> Pull
+        requires { 0 < length into.old }
+        ensures bytes { Pulls (left self.old) (left self.new) into.new result }
+        ensures faults { Counts (faults self.old) (faults self.new) (result ≡ Failed) };
+}
+
+/// Bytes that go out.
+pub trait Sink {
+    /// The bytes that were given, where the sink tells.
+    ghost given: { Self → Option (List ℕ) };
+
+    /// How many calls have failed; it never falls, and stays at 2^64 - 1 once it is there.
+    ghost faults: { Self → ℕ };
+
+    /// Gives the bytes behind those that were given before.
+    fn put(&mut self, bytes: &[u8]) -> Put
+        ensures bytes { Puts (given self.old) (given self.new) bytes.now result }
+        ensures faults { Counts (faults self.old) (faults self.new) (result ≡ Done → ⊥) };
+}
+
+/// Bytes in both directions, with one count of faults.
+pub trait Link {
+    /// The bytes that are left to come in, where the link tells.
+    ghost left: { Self → Option (List ℕ) };
+
+    /// The bytes that were given to go out, where the link tells.
+    ghost given: { Self → Option (List ℕ) };
+
+    /// How many calls have failed; it never falls, and stays at 2^64 - 1 once it is there.
+    ghost faults: { Self → ℕ };
+
+    /// That no call fails but for want of room.
+    ghost steady: { Self → Bool };
+
+    /// How many bytes more a steady link is sure to take.
+    ghost room: { Self → ℕ };
+
+    /// Takes bytes that are left, at most as many as there is room for.
+    fn pull(&mut self, into: &mut [u8]) -> Pull
+        requires { 0 < length into.old }
+        ensures bytes { Pulls (left self.old) (left self.new) into.new result }
+        ensures given { given self.new ≡ given self.old }
+        ensures faults { Counts (faults self.old) (faults self.new) (result ≡ Failed) }
+        ensures sure { steady self.old ≡ true → result ≡ Failed → ⊥ }
+        ensures steady { steady self.new ≡ steady self.old }
+        ensures room { room self.new ≡ room self.old };
+
+    /// Gives the bytes behind those that were given before.
+    fn put(&mut self, bytes: &[u8]) -> Put
+        ensures bytes { Puts (given self.old) (given self.new) bytes.now result }
+        ensures left { left self.new ≡ left self.old }
+        ensures faults { Counts (faults self.old) (faults self.new) (result ≡ Done → ⊥) }
+        ensures sure { steady self.old ≡ true → length bytes.now ≤ room self.old → result ≡ Done }
+        ensures steady { steady self.new ≡ steady self.old }
+        ensures room { room self.old ≤ room self.new + length bytes.now };
+}

@@ -1,0 +1,28 @@
+//! Values that keep a journal.
+
+ghost use Rattle.std.specs.Prelude.{◌≡◌, ℕ, List};
+
+/// A value that stands for a journal. Each entry names the number of who made it, and new entries
+/// name the holder's.
+pub trait Journaled {
+    /// One entry of the journal.
+    type Entry;
+
+    /// The entries, the newest first.
+    ghost journal: { Self → List Self.Entry };
+
+    /// The number that an entry names.
+    ghost by: { Self.Entry → ℕ };
+
+    /// The number that new entries will name.
+    ghost holder: { Self → ℕ };
+
+    /// Has new entries name this number.
+    fn hold(&mut self, number: u16)
+        ensures same { journal self.new ≡ journal self.old }
+        ensures holder { holder self.new ≡ number };
+
+    /// The number that new entries name.
+    fn holder(&self) -> u16
+        ensures { result ≡ holder self.now };
+}

@@ -1,0 +1,4 @@
+pub mod Length
+pub mod Response
+pub mod Status
+pub mod Target

@@ -1,0 +1,180 @@
+//! The texts of responses (RFC 9112, sections 2.1, 4 and 9.6; RFC 9110, sections 8.3, 8.6, 9.3.2
+//! and 10.2.2).
+
+ghost use Rattle.std.specs.Prelude.{◌≡◌, ◌++◌, ◌∷◌, [], codes, decimal, length, IfOk, OnOk, if◌then◌else◌};
+ghost use Rattle.http_text.specs.Status.{phrase, phrase_text, status_text};
+ghost use Rattle.http_text.specs.Response.{crlf, is_head, location_line, response, own_response};
+
+use crate::status::phrase;
+use std::alloc::{AllocError, Global};
+
+/// The text of a response with this status, content type, location and content to a request of
+/// this method. An empty location is none; to HEAD the content is left out, and its length stays.
+/// A status that has no phrase gets an empty one.
+///
+/// Fails only where memory is refused.
+#[tactic(auto, unfolding(crate::specs::Response::response))]
+pub fn response(
+    alloc: Global,
+    status: u16,
+    content_type: &[u8],
+    location: &[u8],
+    content: &[u8],
+    method: &[u8],
+) -> Result<Vec<u8>, AllocError>
+    ensures { IfOk result (λ v. v.items ≡ response status content_type.now location.now content.now method.now) }
+{
+    let mut text = Vec::new(alloc);
+    push_status_line(alloc, &mut text, status)?;
+    push_content_type(&mut text, content_type)?;
+    push_location(&mut text, location)?;
+    push_content_length(alloc, &mut text, content.len())?;
+    text.extend_from_slice(b"Connection: close\r\n\r\n")?;
+    push_content(&mut text, content, method)?;
+    Ok(text)
+}
+
+/// The text of a response that the server makes itself: the content is the status, its phrase and
+/// LF, of type `text/plain`.
+///
+/// Fails only where memory is refused.
+pub fn own_response(alloc: Global, status: u16, method: &[u8]) -> Result<Vec<u8>, AllocError>
+    ensures { IfOk result (λ v. v.items ≡ own_response status method.now) }
+{
+    let mut content = Vec::new(alloc);
+    push_status(alloc, &mut content, status)?;
+    content.push(b'\n')?;
+    response(alloc, status, b"text/plain", b"", &content, method)
+}
+
+fn push_decimal(alloc: Global, text: &mut Vec<u8>, n: usize) -> Result<(), AllocError>
+    ensures { OnOk result (text.new.items ≡ text.old.items ++ decimal n) }
+{
+    let digits = format!(in alloc; "{n}")?;
+    text.extend_from_slice(digits.as_bytes())
+}
+
+/// The phrase of a status, or an empty one.
+fn phrase_or_empty(status: u16) -> &'static str
+    ensures { result.now ≡ phrase_text (phrase status) }
+{
+    match phrase(status) {
+        Some(text) => text,
+        None => "",
+    }
+}
+
+#[tactic(auto, unfolding(crate::specs::Status::status_text))]
+fn push_status(alloc: Global, text: &mut Vec<u8>, status: u16) -> Result<(), AllocError>
+    ensures { OnOk result (text.new.items ≡ text.old.items ++ status_text status) }
+{
+    let phrase = phrase_or_empty(status);
+    let line = format!(in alloc; "{status} {phrase}")?;
+    text.extend_from_slice(line.as_bytes())
+}
+
+fn push_status_line(alloc: Global, text: &mut Vec<u8>, status: u16) -> Result<(), AllocError>
+    ensures { OnOk result (text.new.items ≡ text.old.items ++ codes "HTTP/1.1 " ++ status_text status ++ crlf) }
+{
+    text.extend_from_slice(b"HTTP/1.1 ")?;
+    push_status(alloc, text, status)?;
+    text.extend_from_slice(b"\r\n")
+}
+
+fn push_content_type(text: &mut Vec<u8>, content_type: &[u8]) -> Result<(), AllocError>
+    ensures { OnOk result (text.new.items ≡ text.old.items ++ codes "Content-Type: " ++ content_type.now ++ crlf) }
+{
+    text.extend_from_slice(b"Content-Type: ")?;
+    text.extend_from_slice(content_type)?;
+    text.extend_from_slice(b"\r\n")
+}
+
+fn push_location(text: &mut Vec<u8>, location: &[u8]) -> Result<(), AllocError>
+    ensures { OnOk result (text.new.items ≡ text.old.items ++ location_line location.now) }
+{
+    if location.is_empty() {
+        return Ok(());
+    }
+    text.extend_from_slice(b"Location: ")?;
+    text.extend_from_slice(location)?;
+    text.extend_from_slice(b"\r\n")
+}
+
+fn push_content_length(alloc: Global, text: &mut Vec<u8>, n: usize) -> Result<(), AllocError>
+    ensures { OnOk result (text.new.items ≡ text.old.items ++ codes "Content-Length: " ++ decimal n ++ crlf) }
+{
+    text.extend_from_slice(b"Content-Length: ")?;
+    push_decimal(alloc, text, n)?;
+    text.extend_from_slice(b"\r\n")
+}
+
+fn push_content(text: &mut Vec<u8>, content: &[u8], method: &[u8]) -> Result<(), AllocError>
+    ensures { OnOk result (text.new.items ≡ text.old.items ++ (if is_head method.now then [] else content.now)) }
+{
+    if method == b"HEAD".as_slice() {
+        return Ok(());
+    }
+    text.extend_from_slice(content)
+}
+
+#[cfg(test)]
+mod tests {
+    use super::*;
+    use std::test::Fail;
+
+    #[test]
+    fn writes_responses(rt: HostRuntime) -> Result<(), Fail> {
+        let alloc = rt.alloc();
+        let got = response(alloc, 200, b"text/plain", b"", b"ok", b"GET")?;
+        assert_eq!(rt;
+            got.as_slice(),
+            b"HTTP/1.1 200 OK\r\nContent-Type: text/plain\r\nContent-Length: 2\r\nConnection: close\r\n\r\nok".as_slice()
+        );
+        let head = response(alloc, 200, b"text/plain", b"", b"ok", b"HEAD")?;
+        assert_eq!(rt;
+            head.as_slice(),
+            b"HTTP/1.1 200 OK\r\nContent-Type: text/plain\r\nContent-Length: 2\r\nConnection: close\r\n\r\n".as_slice()
+        );
+        let moved = response(alloc, 303, b"text/plain", b"/guest", b"", b"POST")?;
+        assert_eq!(rt;
+            moved.as_slice(),
+            b"HTTP/1.1 303 See Other\r\nContent-Type: text/plain\r\nLocation: /guest\r\nContent-Length: 0\r\nConnection: close\r\n\r\n".as_slice()
+        );
+        Ok(())
+    }
+
+    #[test]
+    fn writes_own_responses(rt: HostRuntime) -> Result<(), Fail> {
+        let rows = [
+            (
+                400,
+                b"HTTP/1.1 400 Bad Request\r\nContent-Type: text/plain\r\nContent-Length: 16\r\nConnection: close\r\n\r\n400 Bad Request\n".as_slice(),
+            ),
+            (
+                404,
+                b"HTTP/1.1 404 Not Found\r\nContent-Type: text/plain\r\nContent-Length: 14\r\nConnection: close\r\n\r\n404 Not Found\n",
+            ),
+            (
+                413,
+                b"HTTP/1.1 413 Content Too Large\r\nContent-Type: text/plain\r\nContent-Length: 22\r\nConnection: close\r\n\r\n413 Content Too Large\n",
+            ),
+            (
+                501,
+                b"HTTP/1.1 501 Not Implemented\r\nContent-Type: text/plain\r\nContent-Length: 20\r\nConnection: close\r\n\r\n501 Not Implemented\n",
+            ),
+            (
+                502,
+                b"HTTP/1.1 502 Bad Gateway\r\nContent-Type: text/plain\r\nContent-Length: 16\r\nConnection: close\r\n\r\n502 Bad Gateway\n",
+            ),
+            (
+                503,
+                b"HTTP/1.1 503 Service Unavailable\r\nContent-Type: text/plain\r\nContent-Length: 24\r\nConnection: close\r\n\r\n503 Service Unavailable\n",
+            ),
+        ];
+        for (status, text) in rows {
+            let own = own_response(rt.alloc(), status, b"GET")?;
+            assert_eq!(rt; own.as_slice(), text, "at {status}");
+        }
+        Ok(())
+    }
+}

@@ -1,0 +1,5 @@
+pub mod Private
+pub mod Steps
+pub mod Fits
+pub mod Currents
+pub mod Capped

@@ -59,6 +59,17 @@ impl<T> Items<T> {
     {
         &self.items
     }
+
+    /// Puts an item behind the last one; leaves the list as it was where memory is refused.
+    pub fn push(&mut self, item: T) -> Result<(), AllocError>
+    where
+        T: Drop,
+        ensures ok { OnOk result (self.new ≡ self.old ++ item ∷ []) }
+        ensures err { OnErr result (self.new ≡ self.old) }
+    {
+        self.items.push(item)?;
+        Ok(())
+    }
 }
 
 /// A copy of each item, in order.

@@ -1,17 +1,16 @@
 -- The verdicts of proxy p, looking back along its past J.
 use Rattle.std.specs.Prelude.{ℕ, ◌+◌, Bool, true, false, List, [], ◌∷◌, Option, Some, None, ◌==◌, ◌&&◌, nat_lt, nat_le, not, if◌then◌else◌, is_none}
 use Rattle.okws_base.specs.declared.limit.TheConstants.{MOST_SESSIONS, LONGEST_FRAME}
-use Rattle.okws_base.specs.Value.{kind_of, same_kind}
 use Rattle.okws_base.specs.declared.journal.Entry.{Entry}
 use Rattle.okws_base.specs.declared.value.Token.{Token}
 use Rattle.okws_base.specs.declared.value.Value.{Value}
-use Rattle.okws_base.specs.declared.value.Kind.{Kind}
 use Rattle.okws_base.specs.declared.denial.Rule.{Rule}
 use Rattle.okws_base.specs.declared.denial.Rule.TheVariants as rule
 use Rattle.okws_plan.specs.declared.event.Mark.{Mark}
 use Rattle.okws_plan.specs.declared.event.Mark.TheVariants.{Done, Fault}
 use Rattle.okws_plan.specs.Configuration.{in_force, tables, first_rows, query, grants}
 use Rattle.okws_plan.specs.Meaning.{mean}
+use Rattle.okws_plan.specs.Fits.{fits}
 use Rattle.okws_plan.specs.declared.configuration.Config.{Config}
 use Rattle.okws_plan.specs.declared.configuration.Query.{Query}
 use Rattle.okws_plan.specs.declared.statement.Answer.{Answer}
@@ -58,13 +57,6 @@ open_verdict J s k shown = open_answer (open_denial (issued J s shown) k (live_a
 -- The query, where the configuration in force grants it to s.
 abbrev pub granted : Config → ℕ → ℕ → ℕ → Option Query
 granted C p s q = if grants C s p q then query C p q else None
-
--- The arguments fit the parameters in count and kinds.
-abbrev pub fits : List Kind → List Value → Bool
-fits [] [] = true
-fits (k ∷ ks) (v ∷ vs) = same_kind k (kind_of v) && fits ks vs
-fits [] (v ∷ vs) = false
-fits (k ∷ ks) [] = false
 
 -- The query isn't granted, or the arguments don't fit.
 abbrev pub query_denial : Option Query → List Value → Option Rule

@@ -1,5 +1,5 @@
-pub mod Fits
 pub mod Streams
 pub mod Printing
 pub mod Entries
 pub mod Keeping
+pub mod Optional

@@ -1,10 +1,11 @@
 //! Keepers of a proxy's rows.
 
-ghost use Rattle.std.specs.Prelude.{◌≡◌, ℕ, List, true, IsErrOf};
+ghost use Rattle.std.specs.Prelude.{◌≡◌, ℕ, List, Bool, true, IsErrOf};
 ghost use Rattle.std.specs.declared.option.Option.{Option};
 ghost use Rattle.okws_base.specs.declared.value.Value.{Value};
 ghost use Rattle.okws_plan.specs.declared.configuration.Table.{Table};
-ghost use Rattle.okws_outer.specs.Fits.{fits};
+ghost use Rattle.okws_plan.specs.Fits.{fits};
+ghost use Rattle.okws_plan.specs.Rules.{keeps_rules};
 ghost use Rattle.okws_outer.specs.Streams.{Counts};
 ghost use Rattle.okws_outer.specs.Keeping.{Runs};
 ghost use Rattle.okws_outer.specs.declared.keeper.RunError.TheVariants.{NoMemory};
@@ -41,6 +42,9 @@ pub trait Keeper {
     /// How many calls have failed; it never falls, and stays at 2^64 - 1 once it is there.
     ghost faults: { Self → ℕ };
 
+    /// That no call fails.
+    ghost steady: { Self → Bool };
+
     /// Runs a statement with these arguments; where it has no answer the rows are as they were.
     fn run(
         &mut self,
@@ -49,7 +53,10 @@ pub trait Keeper {
         args: &[Value],
     ) -> Result<Answer, RunError>
         requires fits { fits statement.now.parameters args.now ≡ true }
+        requires rules { keeps_rules (tables self.old) statement.now ≡ true }
         ensures rows { Runs (tables self.old) statement.now args.now (told self.old) (told self.new) result }
         ensures tables { tables self.new ≡ tables self.old }
-        ensures faults { Counts (faults self.old) (faults self.new) (IsErrOf result RunError.Failed) };
+        ensures faults { Counts (faults self.old) (faults self.new) (IsErrOf result RunError.Failed) }
+        ensures sure { steady self.old ≡ true → IsErrOf result RunError.Failed → ⊥ }
+        ensures steady { steady self.new ≡ steady self.old };
 }

@@ -7,6 +7,7 @@
 pub mod files;
 pub mod keeper;
 pub mod memory;
+pub mod optional;
 pub mod printing;
 pub mod reading;
 pub mod stream;

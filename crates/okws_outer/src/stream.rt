@@ -1,6 +1,6 @@
 //! Bytes that come in and bytes that go out.
 
-ghost use Rattle.std.specs.Prelude.{◌≡◌, ◌<◌, ◌≤◌, ◌+◌, ℕ, List, length, Bool, true};
+ghost use Rattle.std.specs.Prelude.{◌≡◌, ◌<◌, ◌≤◌, ◌+◌, ℕ, List, length, Bool, true, None};
 ghost use Rattle.std.specs.declared.option.Option.{Option};
 ghost use Rattle.okws_outer.specs.declared.stream.Pull.{Pull};
 ghost use Rattle.okws_outer.specs.declared.stream.Pull.TheVariants.{Failed};
@@ -51,9 +51,10 @@ pub trait Sink {
     /// How many calls have failed; it never falls, and stays at 2^64 - 1 once it is there.
     ghost faults: { Self → ℕ };
 
-    /// Gives the bytes behind those that were given before.
+    /// Gives the bytes behind those that were given before. A sink that doesn't tell never does.
     fn put(&mut self, bytes: &[u8]) -> Put
         ensures bytes { Puts (given self.old) (given self.new) bytes.now result }
+        ensures untold { given self.old ≡ None → given self.new ≡ None }
         ensures faults { Counts (faults self.old) (faults self.new) (result ≡ Done → ⊥) };
 }
 

@@ -1,9 +1,10 @@
 //! What a configuration says.
 
 use crate::statement::Statement;
-use okws_base::items::Items;
+use okws_base::items::{Exact, Items};
 use okws_base::name::{Identifier, Name, Path};
 use okws_base::value::{Kind, Row};
+use std::alloc::{AllocError, Global};
 
 /// A column of a table; `key` marks the one whose values may stand in one row only.
 #[derive(Drop)]
@@ -13,12 +14,32 @@ pub struct Column {
     pub key: bool,
 }
 
+impl Exact for Column {
+    fn copy(&self, alloc: Global) -> Result<Column, AllocError> {
+        Ok(Column {
+            name: self.name.copy(alloc)?,
+            kind: self.kind,
+            key: self.key,
+        })
+    }
+}
+
 /// A table of a proxy, with the rows that it has when a run begins.
 #[derive(Drop)]
 pub struct Table {
     pub name: Identifier,
     pub columns: Items<Column>,
     pub first: Items<Row>,
+}
+
+impl Exact for Table {
+    fn copy(&self, alloc: Global) -> Result<Table, AllocError> {
+        Ok(Table {
+            name: self.name.copy(alloc)?,
+            columns: self.columns.copy(alloc)?,
+            first: self.first.copy(alloc)?,
+        })
+    }
 }
 
 /// A query of a proxy; numbers are 0 to 65,535 and need not follow one another.

@@ -6,8 +6,9 @@ ghost use Rattle.okws_base.specs.declared.value.Value.{Value};
 ghost use Rattle.frame_codec.specs.Spelling.{size, server_parts};
 ghost use Rattle.frame_codec.specs.declared.frame.ServerFrame.TheVariants as ServerFrame;
 ghost use Rattle.okws_plan.specs.Configuration.{grants, query, queries_of, tables, tables_of, first_rows};
+ghost use Rattle.okws_plan.specs.Fits.{fits};
 ghost use Rattle.okws_plan.specs.Meaning.{mean};
-ghost use Rattle.monitor_model.specs.Proxy.{granted, fits, query_denial, call_denial, rows, rows_after, call_mean, query_mean, within_frame, call_verdict};
+ghost use Rattle.monitor_model.specs.Proxy.{granted, query_denial, call_denial, rows, rows_after, call_mean, query_mean, within_frame, call_verdict};
 
 use crate::plain::proxy::opened_by;
 use crate::plain::standing::is_live;
@@ -50,7 +51,8 @@ fn query_of(config: &Config, proxy: u16, number: u16) -> Option<&Query>
     }
 }
 
-fn granted_query(config: &Config, proxy: u16, service: u16, number: u16) -> Option<&Query>
+/// The query of this number, where the configuration grants it to the service.
+pub fn granted_query(config: &Config, proxy: u16, service: u16, number: u16) -> Option<&Query>
     ensures { option_copied result ≡ granted config.now proxy service number }
 {
     if is_granted(config.grants.as_slice(), service, proxy, number) {
@@ -60,8 +62,9 @@ fn granted_query(config: &Config, proxy: u16, service: u16, number: u16) -> Opti
     }
 }
 
+/// Whether the values fit the kinds in count and kinds.
 #[tactic(auto, using(crate::proofs::Fits::fits_lengths))]
-fn fit(kinds: &[Kind], values: &[Value]) -> bool
+pub fn fit(kinds: &[Kind], values: &[Value]) -> bool
     ensures { result ≡ fits kinds.now values.now }
 {
     if kinds.len() != values.len() {
@@ -207,7 +210,7 @@ fn are_within_frame(_columns: usize, rows: &[Row]) -> bool
 }
 
 /// The answer, unless it is of rows whose frame would be too long.
-fn within(answer: Answer) -> Verdict
+pub fn within(answer: Answer) -> Verdict
     ensures { result ≡ within_frame answer }
 {
     match answer {

@@ -16,7 +16,8 @@ use okws_plan::configuration::Config;
 use okws_plan::event::LogEvent;
 use std::alloc::{AllocError, Global};
 
-fn may_log(loggers: &[u16], service: u16) -> bool
+/// Whether the service may write to the log.
+pub fn may_log(loggers: &[u16], service: u16) -> bool
     ensures { result ≡ list_any (λ t. t == service) loggers.now }
 {
     loggers.iter().any(|logger| *logger == service)
@@ -70,7 +71,8 @@ fn with_escaped(mut out: Vec<u8>, bytes: &[u8]) -> Result<Vec<u8>, AllocError>
     Ok(out)
 }
 
-fn name_of(config: &Config, service: u16) -> &[u8]
+/// The name of the service.
+pub fn name_of(config: &Config, service: u16) -> &[u8]
     ensures { result.now ≡ service_name config.now service }
 {
     match config.services.as_slice().get(service as usize) {
@@ -79,8 +81,9 @@ fn name_of(config: &Config, service: u16) -> &[u8]
     }
 }
 
+/// The bytes with a line of the log behind them.
 #[tactic(auto, unfolding(crate::specs::Logd::log_line))]
-fn with_line(
+pub fn with_line(
     alloc: Global,
     mut out: Vec<u8>,
     name: &[u8],

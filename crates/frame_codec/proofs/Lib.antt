@@ -1,2 +1,9 @@
 pub mod Sizes
 pub mod Widths
+pub mod Texts
+pub mod Loop
+pub mod Formats
+pub mod Values
+pub mod Payloads
+pub mod Whole
+pub mod Apart

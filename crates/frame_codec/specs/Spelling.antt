@@ -1,5 +1,5 @@
 -- The one spelling of each frame: a length of four bytes, a kind, and the fields.
-use Rattle.std.specs.Prelude.{◌≡◌, ℕ, ◌-◌, ◌<◌, ◌^◌, ◌++◌, ◌&&◌, ◌||◌, ◌==◌, nat_le, not, Bool, List, [], ◌∷◌, length, fold, sum_by, flat_map, All, IsUtf8, IsTrue, slice_index, neg_ℤ, pos, ◌≤ℤ◌, ◌<ℤ◌}
+use Rattle.std.specs.Prelude.{◌≡◌, ℕ, ◌-◌, ◌<◌, ◌^◌, ◌++◌, ◌&&◌, ◌||◌, ◌==◌, nat_le, not, Bool, List, [], ◌∷◌, length, fold, sum_by, flat_map, All, IsUtf8, IsTrue, slice_index, FitsSigned}
 use Rattle.std.specs.List.{list_all}
 use Rattle.std.specs.Int.{w16, w32, w64, to_be_bytes, cast_unsigned}
 use Rattle.okws_base.specs.Runs.{Each}
@@ -120,7 +120,7 @@ Bytewise bytes = All (λ b. b < 256) bytes
 
 -- A number has 64 bits, a text is UTF-8, and bytes are bytes.
 abbrev pub Spellable : Value → Type 0
-Spellable (Int n) = (neg_ℤ (pos (2 ^ 63)) ≤ℤ n) × (n <ℤ pos (2 ^ 63))
+Spellable (Int n) = FitsSigned w64 n
 Spellable (Text t) = IsUtf8 t
 Spellable (Bytes b) = Bytewise b
 

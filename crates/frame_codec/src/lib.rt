@@ -1,9 +1,12 @@
 //! Frames, which a service and its server send one another, and their spellings in bytes.
 #![tactic(auto)]
 
+mod field;
 pub mod frame;
 mod kind;
+pub mod laws;
 mod part;
+pub mod reading;
 pub mod reply;
 pub mod server;
 pub mod service;

@@ -1,11 +1,15 @@
 //! Spellings of frames, byte by byte.
 
+mod reading;
 mod server;
 mod service;
 
+use crate::frame::ServiceFrame;
+use crate::service::write_service_frame;
 use okws_base::items::Items;
 use okws_base::value::{Row, Text, Token, Value};
 use std::alloc::{AllocError, Global};
+use std::test::Fail;
 
 /// A token of service 0 at proxy 0, incarnation 1.
 const TOKEN: Token = Token {
@@ -36,4 +40,13 @@ fn blob(alloc: Global, n: usize) -> Result<Row, AllocError> {
     let mut row = Vec::new(alloc);
     row.push(Value::Bytes(Items::of(vec![in alloc; 0u8; n]?)))?;
     Ok(Items::of(row))
+}
+
+/// The frame's spelling in hexadecimal digits; none where the frame has no spelling.
+fn service_digits(alloc: Global, frame: &ServiceFrame) -> Result<String, Fail> {
+    if !frame.has_spelling() {
+        return Ok(String::new(alloc));
+    }
+    let bytes = write_service_frame(alloc, frame)?;
+    Ok(hex::encode(alloc, bytes)?)
 }

@@ -1,8 +1,7 @@
 //! What a service says.
 
-use super::{TOKEN, items, text};
+use super::{TOKEN, items, service_digits, text};
 use crate::frame::ServiceFrame;
-use crate::service::write_service_frame;
 use okws_base::items::Items;
 use okws_base::value::Value;
 use std::alloc::{AllocError, Global};
@@ -11,9 +10,7 @@ use std::test::Fail;
 
 /// The frame is spelled by these hexadecimal digits.
 fn spells(rt: &impl Abort, alloc: Global, frame: &ServiceFrame, digits: &str) -> Result<(), Fail> {
-    assert!(rt; frame.has_spelling(), "no spelling: {digits}");
-    let bytes = write_service_frame(alloc, frame)?;
-    assert_eq!(rt; hex::encode(alloc, bytes)?.as_str(), digits);
+    assert_eq!(rt; service_digits(alloc, frame)?.as_str(), digits);
     Ok(())
 }
 

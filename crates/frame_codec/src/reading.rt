@@ -1,0 +1,142 @@
+//! Reading what a service says.
+
+ghost use Rattle.std.specs.Prelude.{◌≡◌, ◌==◌, List, length, option_map, if◌then◌else◌};
+ghost use Rattle.frame_codec.specs.Reading.{Gives, open_at, call_at, reply_at, open_frame, call_frame, reply_frame, all_of, fields_at, payload_at};
+ghost use Rattle.frame_codec.specs.Answer.{Tells, IsAnswer, only_taken, sized, frame_at};
+
+use crate::field::{
+    ReadError, content_type_of, location_of, status_of, string_of, token_of, u16_at, u32_at,
+    values_of,
+};
+use crate::frame::ServiceFrame;
+use crate::kind::{CALL, OPEN, REPLY};
+use okws_base::limit::LONGEST_FRAME;
+use std::alloc::Global;
+
+/// What stands at the front of bytes that came from a service.
+#[derive(Drop)]
+pub enum Read {
+    /// A frame, and how many bytes it takes.
+    Frame(ServiceFrame, usize),
+    /// Fewer than four bytes, or a lawful length and fewer bytes than it tells.
+    Short,
+    /// No frame that is taken, whatever follows.
+    BadFrame,
+    /// Memory was refused.
+    NoMemory,
+}
+
+/// Nothing stands behind the fields.
+fn ended(rest: &[u8]) -> Result<(), ReadError>
+    ensures { Gives (λ x. x) result (if length rest.now == 0 then Some tt else None) }
+{
+    if rest.is_empty() {
+        Ok(())
+    } else {
+        Err(ReadError::Bad)
+    }
+}
+
+fn open_of(bytes: &[u8]) -> Result<ServiceFrame, ReadError>
+    ensures { Gives (λ frame. frame) result (option_map open_frame (all_of (open_at bytes.now))) }
+{
+    let (proxy, rest) = u16_at(bytes)?;
+    let (shown, rest) = token_of(rest)?;
+    ended(rest)?;
+    Ok(ServiceFrame::Open { proxy, shown })
+}
+
+fn call_of(alloc: Global, bytes: &[u8]) -> Result<ServiceFrame, ReadError>
+    ensures { Gives (λ frame. frame) result (option_map call_frame (all_of (call_at bytes.now))) }
+{
+    let (proxy, rest) = u16_at(bytes)?;
+    let (session, rest) = u32_at(rest)?;
+    let (query, rest) = u16_at(rest)?;
+    let (args, rest) = values_of(alloc, rest)?;
+    ended(rest)?;
+    Ok(ServiceFrame::Call {
+        proxy,
+        session,
+        query,
+        args,
+    })
+}
+
+fn reply_of(alloc: Global, bytes: &[u8]) -> Result<ServiceFrame, ReadError>
+    ensures { Gives (λ frame. frame) result (option_map reply_frame (all_of (reply_at bytes.now))) }
+{
+    let (status, rest) = status_of(bytes)?;
+    let (content_type, rest) = content_type_of(alloc, rest)?;
+    let (location, rest) = location_of(alloc, rest)?;
+    let (content, rest) = string_of(alloc, rest)?;
+    ended(rest)?;
+    Ok(ServiceFrame::Reply {
+        status,
+        content_type,
+        location,
+        content,
+    })
+}
+
+/// The frame of this kind whose fields are all of the bytes.
+#[tactic(auto, unfolding(crate::specs::Reading::fields_at))]
+fn fields_of(alloc: Global, kind: u8, bytes: &[u8]) -> Result<ServiceFrame, ReadError>
+    ensures { Gives (λ frame. frame) result (only_taken (fields_at kind bytes.now)) }
+{
+    if kind == OPEN {
+        open_of(bytes)
+    } else if kind == CALL {
+        call_of(alloc, bytes)
+    } else if kind == REPLY {
+        reply_of(alloc, bytes)
+    } else {
+        Err(ReadError::Bad)
+    }
+}
+
+/// The frame whose kind and fields are all of the bytes.
+fn payload_of(alloc: Global, bytes: &[u8]) -> Result<ServiceFrame, ReadError>
+    ensures { Gives (λ frame. frame) result (only_taken (payload_at bytes.now)) }
+{
+    match bytes {
+        [] => Err(ReadError::Bad),
+        [kind, fields @ ..] => fields_of(alloc, *kind, fields),
+    }
+}
+
+fn sized_frame(alloc: Global, size: u32, rest: &[u8]) -> Read
+    ensures { IsAnswer result (sized size rest.now) }
+{
+    let size = size as usize;
+    if size == 0 || size > LONGEST_FRAME {
+        return Read::BadFrame;
+    }
+    if rest.len() < size {
+        return Read::Short;
+    }
+    match payload_of(alloc, &rest[..size]) {
+        Ok(frame) => Read::Frame(frame, 4 + size),
+        Err(ReadError::Bad) => Read::BadFrame,
+        Err(ReadError::Memory) => Read::NoMemory,
+    }
+}
+
+#[tactic(auto, unfolding(crate::specs::Answer::frame_at))]
+fn first_frame(alloc: Global, bytes: &[u8]) -> Read
+    ensures { IsAnswer result (frame_at bytes.now) }
+{
+    match u32_at(bytes) {
+        Ok((size, rest)) => sized_frame(alloc, size, rest),
+        Err(ReadError::Bad) => Read::Short,
+        Err(ReadError::Memory) => Read::NoMemory,
+    }
+}
+
+/// Reads one frame from the front. It is Frame exactly where the spelling of a frame that is taken
+/// stands there, Short exactly where there are fewer than four bytes or a lawful length and fewer
+/// bytes than it tells, and else BadFrame; unless memory is refused, which gives NoMemory.
+pub fn read_service_frame(alloc: Global, bytes: &[u8]) -> Read
+    ensures { Tells bytes.now result }
+{
+    first_frame(alloc, bytes)
+}

@@ -7,4 +7,8 @@ pub mod launcher;
 pub mod log;
 pub mod proxy;
 pub mod pubd;
+#[cfg(test)]
+mod site;
 pub mod standing;
+#[cfg(test)]
+mod tests;

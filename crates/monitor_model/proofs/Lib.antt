@@ -3,3 +3,4 @@ pub mod Steps
 pub mod Fits
 pub mod Currents
 pub mod Capped
+pub mod Lawful

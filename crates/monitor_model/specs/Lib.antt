@@ -12,8 +12,15 @@ pub mod Merged
 pub mod Columns
 pub mod Worker
 pub mod Legal
+pub mod Unharmed
 pub mod Stage
 pub mod Script
+pub mod Lines
+pub mod Told
+pub mod Answered
+pub mod Given
+pub mod Entered
+pub mod Replied
 pub mod Played
 pub mod Own
 pub mod Example

@@ -1,13 +1,26 @@
 -- What a script's run leaves, and when it is a run of the script.
-use Rattle.std.specs.Prelude.{◌≡◌, ℕ, List, [], ◌∷◌, Option, Some, None, map, reverse}
+use Rattle.std.specs.Prelude.{◌≡◌, ℕ, List, [], ◌∷◌, ◌++◌, Option, Some, None, map, reverse}
+use Rattle.okws_base.specs.Runs.{Each}
 use Rattle.okws_plan.specs.declared.configuration.Config.{Config}
 use Rattle.okws_plan.specs.declared.script.Line.{Line}
 use Rattle.monitor_model.specs.declared.record.CellEvent.{CellEvent}
 use Rattle.monitor_model.specs.declared.record.CellEvent.TheVariants as cell
 use Rattle.monitor_model.specs.declared.record.Record.{Record}
-use Rattle.monitor_model.specs.Stage.{Stage, Stand, Opened}
+use Rattle.monitor_model.specs.Stage.{Stage, Stand, Opened, stand}
 use Rattle.monitor_model.specs.Script.{PlaysAll, refusal}
+use Rattle.okws_plan.specs.declared.script.Place.{Place}
+use Rattle.monitor_model.specs.Entered.{exchanges_at, entered_by}
+use Rattle.monitor_model.specs.Lines.{LineFits, PlaceFits}
+use Rattle.monitor_model.specs.Seen.{proxy_past}
+use Rattle.monitor_model.specs.Columns.{faults}
 use Rattle.monitor_model.specs.Legal.{IsLawful}
+use Rattle.monitor_model.specs.Unharmed.{IsUnharmed}
+use Rattle.monitor_model.specs.Told.{TellsAll}
+use Rattle.monitor_model.specs.Replied.{AnswersOnce}
+use Rattle.monitor_model.specs.Given.{given_since}
+use Rattle.monitor_model.specs.Cell.{said, last_booted}
+use Rattle.monitor_model.specs.Answered.{AreEventsIn}
+use Rattle.monitor_model.specs.Merged.{cell_past}
 
 -- A cell's journal, with its open dialog, if any, as the last event.
 abbrev pub with_open : Option Opened → List CellEvent → List CellEvent
@@ -38,3 +51,45 @@ pub record IsPlayed (C : Config) (seed : List ℕ) (lines : List Line) (R : Reco
 -- A run that is refused at a line: the lines before it are a run, and this line breaks the rule where they end.
 abbrev pub IsStopped : Config → List ℕ → List Line → Line → ℕ → Record → List ℕ → Type 0
 IsStopped C seed lines next rule R printed = (played : IsPlayed C seed lines R printed) × (refusal next played.stage ≡ Some rule)
+
+-- No Call is marked Fault.
+abbrev pub IsFaultless : Stage → Type 0
+IsFaultless stage = (p : ℕ) → faults (proxy_past stage.seen.proxies p) ≡ 0
+
+-- What holds of each run of a script whose lines name what is declared.
+abbrev pub OfEachRun : (Config → List ℕ → List Line → List ℕ → Stage → Type 0) → Type 0
+OfEachRun P = (C : Config) (seed : List ℕ) (lines : List Line) (printed : List ℕ) (stage : Stage) → Each (LineFits C) lines → PlaysAll C seed (reverse lines) printed stage → P C seed lines printed stage
+
+-- The record of a run is lawful, where no Call is marked Fault.
+abbrev pub RunsAreLawful : Type 0
+RunsAreLawful = OfEachRun (λ C seed lines printed stage. IsFaultless stage → IsLawful C seed (λ (p : ℕ). Some 0) 0 (record_of stage))
+
+-- Where no Call is marked Fault, the run and its record are a run of the script.
+abbrev pub RunsArePlayed : Type 0
+RunsArePlayed = OfEachRun (λ C seed lines printed stage. IsFaultless stage → IsPlayed C seed lines (record_of stage) printed)
+
+-- No dialog of a run ends by a fault of its link or for want of memory, and no item of its list is NoMemory.
+abbrev pub RunsAreUnharmed : Type 0
+RunsAreUnharmed = OfEachRun (λ C seed lines printed stage. IsUnharmed (record_of stage))
+
+-- What a run prints tells all that each incarnation heard, and nothing that it didn't.
+abbrev pub RunsTellAll : Type 0
+RunsTellAll = OfEachRun (λ C seed lines printed stage. TellsAll C seed (record_of stage) printed)
+
+-- Each frame that was heard in each dialog of a run is what the verdict of its entry in the run's journals says.
+abbrev pub RunsAreAnswered : Type 0
+RunsAreAnswered = OfEachRun (λ C seed lines printed stage. (s : ℕ) → AreEventsIn C (record_of stage) s (cell_past (record_of stage) s))
+
+-- What the last incarnation that was booted said, in whole frames, and what is left on its link, is all that came from it.
+abbrev pub RunsTakeAll : Type 0
+RunsTakeAll = OfEachRun (λ C seed lines printed stage. (s : ℕ) →
+    given_since (reverse lines) s ≡ said (last_booted (cell_past (record_of stage) s)) (cell_past (record_of stage) s) ++ (stand stage s).left)
+
+-- What an incarnation's entries at a column ask, and what the monitor's verdicts on them are, is just what its dialogs said to the column and heard, but for what was answered by NoMemory, in order.
+abbrev pub RunsEnterAll : Type 0
+RunsEnterAll = OfEachRun (λ C seed lines printed stage. (s k : ℕ) (at : Place) → PlaceFits C at →
+    exchanges_at C at s k (record_of stage) ≡ entered_by at k (cell_past (record_of stage) s))
+
+-- Each request of a run is answered once, unless its dialog wasn't begun or is open.
+abbrev pub RunsAnswerOnce : Type 0
+RunsAnswerOnce = OfEachRun (λ C seed lines printed stage. AnswersOnce C stage printed)

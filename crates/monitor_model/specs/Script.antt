@@ -1,5 +1,5 @@
 -- A script's run: what each kind of line makes of the state, with the events that it enters, and what it prints.
-use Rattle.std.specs.Prelude.{◌≡◌, ◌≢◌, ℕ, ◌+◌, ◌<◌, ◌≤◌, zero, suc, Bool, true, false, List, [], ◌∷◌, ◌++◌, ◌==◌, ◌&&◌, ◌||◌, not, nat_lt, nat_le, Option, Some, None, ◌⊎◌, length, map, reverse, flat_map, slice_get, slice_set, is_some, IsTrue, IsFalse, if◌then◌else◌}
+use Rattle.std.specs.Prelude.{◌≡◌, ◌≢◌, ℕ, ◌+◌, ◌<◌, ◌≤◌, zero, suc, Bool, true, false, List, [], ◌∷◌, ◌++◌, ◌==◌, ◌&&◌, ◌||◌, not, nat_lt, nat_le, Option, Some, None, ◌⊎◌, length, flat_map, slice_get, slice_set, is_some, IsTrue, IsFalse, if◌then◌else◌}
 use Rattle.okws_base.specs.declared.limit.TheConstants.{MOST_INCARNATIONS, MOST_EDITIONS, LONGEST_TEMPLATE, MOST_FRAMES}
 use Rattle.okws_base.specs.Past.{standing_by, last_by, is_just}
 use Rattle.okws_base.specs.Runs.{Runs}
@@ -31,7 +31,6 @@ use Rattle.http_text.specs.Target.{path}
 use Rattle.monitor_model.specs.declared.verdict.Push.{Push}
 use Rattle.monitor_model.specs.declared.verdict.Way.{Way}
 use Rattle.monitor_model.specs.declared.verdict.Way.TheVariants as way
-use Rattle.monitor_model.specs.declared.record.Item.{Item}
 use Rattle.monitor_model.specs.declared.record.Item.TheVariants.{Heard, Said}
 use Rattle.monitor_model.specs.declared.record.End.{End}
 use Rattle.monitor_model.specs.declared.record.End.TheVariants as end
@@ -262,12 +261,20 @@ continued s opened left S = with_stand S s (record (stand S s) { left = left; op
 abbrev pub heard_said : Opened → ServiceFrame → Opened
 heard_said opened frame = record opened { items = Said frame ∷ opened.items }
 
--- A frame was said as the dialog's n-th: it ends the dialog, or is answered by one frame.
+-- What answers a frame enters nothing, or one entry of the run's only number on what stands.
+abbrev pub IsNext : Seen → Seen → Type 0
+IsNext J now =
+    (now ≡ J)
+    ⊎ ((p : ℕ) × (event : ProxyEvent) × (now ≡ at_proxy p event J))
+    ⊎ ((event : PubdEvent) × (now ≡ at_pubd event J))
+    ⊎ ((event : LogEvent) × (now ≡ at_log event J))
+
+-- A frame was said as the dialog's n-th: it ends the dialog, or is answered by one frame; nobody else made an entry.
 abbrev pub Takes : Config → ℕ → Opened → ServiceFrame → List ℕ → Option End → Stage → List ℕ → Stage → Type 0
 Takes C s opened frame left (Some how) S text now =
     (now ≡ closed s (heard_said opened frame) how (continued s opened left S)) × (text ≡ closing_text (heard_said opened frame) how S)
 Takes C s opened frame left None S text now =
-    (heard : ServerFrame) × (seen : Seen) × Answers C (speaker S s) frame S.seen heard seen
+    (heard : ServerFrame) × (seen : Seen) × Answers C (speaker S s) frame S.seen heard seen × IsNext S.seen seen
     × (now ≡ with_seen (continued s (record opened { items = Heard heard ∷ Said frame ∷ opened.items }) left S) seen)
     × (text ≡ heard_line C s (incarnation (stand S s).past) heard)
 

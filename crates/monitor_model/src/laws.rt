@@ -26,7 +26,7 @@ ghost use Rattle.monitor_model.specs.Worker.{Lives, nothing_seen};
 ghost use Rattle.monitor_model.specs.Own.{OpenIsPrivate, RevokedIsNotAllowed, HeardGrows};
 ghost use Rattle.monitor_model.specs.Stage.{first_stage};
 ghost use Rattle.monitor_model.specs.Script.{PlaysAll, IsRefusedAt};
-ghost use Rattle.monitor_model.specs.Played.{IsPlayed, IsStopped, record_of};
+ghost use Rattle.monitor_model.specs.Played.{IsPlayed, IsStopped, record_of, RunsAreLawful, RunsArePlayed, RunsAreUnharmed, RunsTellAll, RunsAreAnswered, RunsTakeAll, RunsEnterAll, RunsAnswerOnce};
 ghost use Rattle.okws_plan.specs.declared.script.Line.{Line};
 ghost use Rattle.okws_plan.specs.declared.script.Line.TheVariants as line;
 ghost use Rattle.monitor_model.specs.declared.record.Record.{Record};
@@ -89,4 +89,43 @@ pub fn revoked_is_not_allowed()
 /// What an incarnation heard grows, at each of its dialogs, by what the dialog heard.
 pub fn heard_grows()
     ensures { HeardGrows }
+{}
+
+/// A script's run, whose lines name what is declared, is lawful where no Call is marked Fault, and no
+/// dialog of it ends by a fault of its link or for want of memory.
+pub fn script_runs_are_lawful()
+    ensures lawful { RunsAreLawful }
+    ensures played { RunsArePlayed }
+    ensures unharmed { RunsAreUnharmed }
+{}
+
+/// What a script's run prints, whose lines name what is declared, is lines of frames and of answers, and by
+/// them each incarnation heard just what its cell says that it heard.
+pub fn script_runs_tell_all()
+    ensures { RunsTellAll }
+{}
+
+/// Each frame that was heard in a dialog of a script's run, whose lines name what is declared, is what the
+/// verdict of its entry in the run's journals says, and each dialog fits its end.
+pub fn script_runs_are_answered()
+    ensures { RunsAreAnswered }
+{}
+
+/// What the last incarnation that was booted of a service said in a script's run, whose lines name what is
+/// declared, and what is left on its link, is all that came from it.
+pub fn script_runs_take_all()
+    ensures { RunsTakeAll }
+{}
+
+/// In a script's run, whose lines name what is declared, what the entries of an incarnation at a column ask,
+/// and what the monitor's verdicts on them are, is just what its dialogs said to the column and heard, but
+/// for what was answered by NoMemory, in order.
+pub fn script_runs_enter_all()
+    ensures { RunsEnterAll }
+{}
+
+/// Each request of a script's run, whose lines name what is declared, is answered once in what it prints,
+/// unless its dialog wasn't begun or is open.
+pub fn script_runs_answer_once()
+    ensures { RunsAnswerOnce }
 {}

@@ -1,0 +1,151 @@
+-- One event more at a cell.
+use Rattle.std.proofs.Common.{◌≡◌, ◌≢◌, ℕ, ◌<◌, ◌≤◌, Bool, true, false, List, ◌∷◌, Option, Some, None, refl, ap, sym, arith, length, eqb-true, ◌==◌, get_or-set_same, get_or-set_other, subst, le_trans}
+use Rattle.std.specs.Prelude.{filter, slice_set, slice_index_or}
+use Rattle.std.proofs.lemmas.Bool.{eqb-false}
+use Rattle.monitor_model.specs.declared.record.CellEvent.{CellEvent}
+use Rattle.monitor_model.specs.declared.record.CellEvent.TheVariants as cell
+use Rattle.monitor_model.specs.declared.record.CellEvent.TheVariants.{Boot, Retired, Missed}
+use Rattle.monitor_model.specs.declared.record.End.{End}
+use Rattle.monitor_model.specs.declared.record.End.TheVariants as end
+use Rattle.monitor_model.specs.declared.record.Own.{Own}
+use Rattle.monitor_model.specs.declared.record.Own.TheVariants as own
+use Rattle.monitor_model.specs.Cell.{incarnation, last_booted}
+use Rattle.monitor_model.specs.Legal.{ShownFits, EventShownFits}
+use Rattle.monitor_model.specs.Merged.{is_at_cell}
+use Rattle.monitor_model.specs.Stage.{Stand, Opened, empty_stand}
+use Rattle.monitor_model.specs.Played.{with_open}
+use Rattle.monitor_model.proofs.Lawful.Plain.{each_more}
+use Rattle.monitor_model.proofs.Lawful.Kept.{CellKept, EndFits}
+
+pub cell_booted : (s k : ℕ) (J : List CellEvent) (items : List Own) (greatest : ℕ) → CellKept s None J items greatest → incarnation J ≡ 0 → last_booted J < k → k ≤ greatest
+    → CellKept s None (Boot k ∷ J) (own.Boot s k ∷ items) greatest
+cell_booted s k J items greatest kept empty above begun = record {
+  own = ap (λ (xs : List Own). own.Boot s k ∷ xs) kept.own;
+  foreign = kept.foreign;
+  below = kept.below;
+  shown = (tt, kept.shown);
+  unharmed = (tt, kept.unharmed);
+  law = (kept.law, kept.silent, (empty, above));
+  silent = refl;
+  last = omega (arith, kept.last);
+}
+
+pub cell_retired : (s : ℕ) (J : List CellEvent) (items : List Own) (greatest : ℕ) → CellKept s None J items greatest → incarnation J ≢ 0
+    → CellKept s None (Retired ∷ J) (own.Retired s ∷ items) greatest
+cell_retired s J items greatest kept there = record {
+  own = ap (λ (xs : List Own). own.Retired s ∷ xs) kept.own;
+  foreign = kept.foreign;
+  below = kept.below;
+  shown = (tt, kept.shown);
+  unharmed = (tt, kept.unharmed);
+  law = (kept.law, kept.silent, there);
+  silent = refl;
+  last = kept.last;
+}
+
+pub cell_missed : (s k : ℕ) (J : List CellEvent) (items : List Own) (greatest : ℕ) → CellKept s None J items greatest → k ≢ incarnation J
+    → CellKept s None (Missed 0 k (incarnation J) ∷ J) (own.Missed s k (incarnation J) ∷ items) greatest
+cell_missed s k J items greatest kept other = record {
+  own = ap (λ (xs : List Own). own.Missed s k (incarnation J) ∷ xs) kept.own;
+  foreign = kept.foreign;
+  below = kept.below;
+  shown = (tt, kept.shown);
+  unharmed = (tt, kept.unharmed);
+  law = (kept.law, kept.silent, (refl, other));
+  silent = refl;
+  last = kept.last;
+}
+
+pub cell_opened : (s : ℕ) (opened : Opened) (J : List CellEvent) (items : List Own) (greatest : ℕ) → CellKept s None J items greatest → incarnation J ≢ 0
+    → CellKept s (Some opened) J (own.Dialog s ∷ items) greatest
+cell_opened s opened J items greatest kept there = record {
+  own = ap (λ (xs : List Own). own.Dialog s ∷ xs) kept.own;
+  foreign = kept.foreign;
+  below = kept.below;
+  shown = (tt, kept.shown);
+  unharmed = (tt, kept.unharmed);
+  law = (kept.law, kept.silent, there);
+  silent = kept.silent;
+  last = kept.last;
+}
+
+-- an open dialog with other items
+pub cell_went_on : (s : ℕ) (opened now : Opened) (J : List CellEvent) (items : List Own) (greatest : ℕ) → CellKept s (Some opened) J items greatest
+    → CellKept s (Some now) J items greatest
+cell_went_on s opened now J items greatest kept = record {
+  own = kept.own;
+  foreign = kept.foreign;
+  below = kept.below;
+  shown = kept.shown;
+  unharmed = kept.unharmed;
+  law = kept.law;
+  silent = kept.silent;
+  last = kept.last;
+}
+
+pub cell_closed : (s : ℕ) (opened : Opened) (how : End) (J : List CellEvent) (items : List Own) (greatest : ℕ) → CellKept s (Some opened) J items greatest → EndFits greatest how
+    → CellKept s None (cell.Dialog (record { worker = 0; items = opened.items; end = how }) ∷ J) items greatest
+cell_closed s opened how J items greatest kept fits = record {
+  own = kept.own;
+  foreign = kept.foreign;
+  below = kept.below;
+  shown = (fits.0, kept.shown.1);
+  unharmed = (fits.1, kept.unharmed.1);
+  law = kept.law;
+  silent = refl;
+  last = kept.last;
+}
+
+-- more was begun
+shown_above : (was greatest : ℕ) (how : End) → was ≤ greatest → ShownFits was how → ShownFits greatest how
+shown_above was greatest (end.Superseded shown) above fits = le_trans fits above
+shown_above was greatest end.Reply above fits = tt
+shown_above was greatest end.BadFrame above fits = tt
+shown_above was greatest end.Ended above fits = tt
+shown_above was greatest end.LinkFault above fits = tt
+shown_above was greatest end.FrameLimit above fits = tt
+shown_above was greatest end.Starved above fits = tt
+
+event_above : (was greatest : ℕ) → was ≤ greatest → (e : CellEvent) → EventShownFits was e → EventShownFits greatest e
+event_above was greatest above (cell.Dialog d) fits = shown_above was greatest d.end above fits
+event_above was greatest above (cell.Boot k) fits = tt
+event_above was greatest above cell.Retired fits = tt
+event_above was greatest above (cell.Missed worker wanted is) fits = tt
+event_above was greatest above (cell.Speaking worker items) fits = tt
+
+pub cell_above : (s : ℕ) (opened : Option Opened) (J : List CellEvent) (items : List Own) (was greatest : ℕ) → was ≤ greatest → CellKept s opened J items was → CellKept s opened J items greatest
+cell_above s opened J items was greatest above kept = record {
+  own = kept.own;
+  foreign = kept.foreign;
+  below = kept.below;
+  shown = each_more (EventShownFits was) (EventShownFits greatest) (with_open opened J) (event_above was greatest above) kept.shown;
+  unharmed = kept.unharmed;
+  law = kept.law;
+  silent = kept.silent;
+  last = le_trans kept.last above;
+}
+
+-- What is kept of the stand of cell s.
+abbrev pub StandKept : ℕ → Stand → List Own → ℕ → Type 0
+StandKept s there items greatest = CellKept s there.open_dialog there.past items greatest
+
+-- one cell changes, and all others stay
+stand_at : (s t : ℕ) (stands : List Stand) (there : Stand) (was now : List Own) (greatest : ℕ → ℕ) → s < length stands
+    → StandKept s there (filter (is_at_cell s) now) (greatest s)
+    → (s ≢ t → filter (is_at_cell t) now ≡ filter (is_at_cell t) was)
+    → StandKept t (slice_index_or stands t empty_stand) (filter (is_at_cell t) was) (greatest t)
+    → (b : Bool) → (s == t) ≡ b
+    → StandKept t (slice_index_or (slice_set stands s there) t empty_stand) (filter (is_at_cell t) now) (greatest t)
+stand_at s t stands there was now greatest declared here same_items rest true same =
+    subst (λ (r : ℕ). StandKept r (slice_index_or (slice_set stands s there) r empty_stand) (filter (is_at_cell r) now) (greatest r))
+    (eqb-true s t same) (rw (get_or-set_same stands s there empty_stand declared) here)
+stand_at s t stands there was now greatest declared here same_items rest false same =
+    let apart : t ≢ s = (λ (is : t ≡ s). eqb-false s t same (sym is)) in
+    rw (get_or-set_other stands s t there empty_stand apart, same_items (λ is. apart (sym is))) rest
+
+pub stands_with : (s : ℕ) (stands : List Stand) (there : Stand) (was now : List Own) (greatest : ℕ → ℕ) → s < length stands
+    → StandKept s there (filter (is_at_cell s) now) (greatest s)
+    → ((t : ℕ) → s ≢ t → filter (is_at_cell t) now ≡ filter (is_at_cell t) was)
+    → ((t : ℕ) → StandKept t (slice_index_or stands t empty_stand) (filter (is_at_cell t) was) (greatest t))
+    → (t : ℕ) → StandKept t (slice_index_or (slice_set stands s there) t empty_stand) (filter (is_at_cell t) now) (greatest t)
+stands_with s stands there was now greatest declared here same_items rest t = stand_at s t stands there was now greatest declared here (same_items t) (rest t) (s == t) refl

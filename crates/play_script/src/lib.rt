@@ -1,0 +1,13 @@
+//! Scripts: the lines of a script, what each says under a configuration, and the text by which a
+//! refused file is told.
+#![tactic(auto)]
+
+pub mod directive;
+pub mod laws;
+pub mod names;
+pub mod reading;
+pub mod refusal;
+pub mod rule;
+#[cfg(test)]
+mod tests;
+pub mod text;

@@ -1,0 +1,15 @@
+-- The column of okd as contracts see it.
+use Rattle.std.specs.Prelude.{ℕ, List, ◌∷◌}
+use Rattle.okws_base.specs.declared.journal.Entry.{Entry}
+use Rattle.okws_plan.specs.declared.configuration.Config.{Config}
+use Rattle.okws_plan.specs.declared.event.OkdEvent.{OkdEvent}
+
+-- The site's configuration, the entries of the column, the newest first, and the number that new entries name.
+pub record Seen : Type 0 where
+  pub config : Config
+  pub past : List (Entry OkdEvent)
+  pub holder : ℕ
+
+-- The same with one entry more.
+abbrev pub entered : Seen → OkdEvent → Seen
+entered p event = record p { past = record { worker = p.holder; event = event } ∷ p.past }

@@ -1,0 +1,10 @@
+//! The dispatcher's column: which incarnation of each service is up, and where each accepted request
+//! goes. Every call decides and makes its one entry at once.
+#![tactic(auto)]
+
+mod okd;
+mod owner;
+#[cfg(test)]
+mod tests;
+
+pub use okd::Okd;

@@ -1,0 +1,5 @@
+pub mod Mapped
+pub mod Changing
+pub mod Parted
+pub mod Ran
+pub mod Lawful

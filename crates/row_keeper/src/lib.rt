@@ -1,0 +1,10 @@
+//! A keeper that holds the rows of each table in a list, and tells them.
+#![tactic(auto)]
+
+mod failing;
+mod keeper;
+mod rows;
+#[cfg(test)]
+mod tests;
+
+pub use keeper::ListKeeper;

@@ -1,0 +1,5 @@
+use Rattle.statement_core.proofs.Recompiles.{statements_again}
+use Rattle.statement_core.proofs.law.statements_compile_again.Goals as goal
+
+pub returns : goal.returns
+returns c = statements_again

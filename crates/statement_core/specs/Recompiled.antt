@@ -1,0 +1,101 @@
+-- What canonical texts stand for: which tokens are read from them, and which statements.
+use Rattle.std.specs.Prelude.{◌≡◌, ℕ, ◌^◌, ℤ, pos, negsuc, Bool, true, not, ◌&&◌, nat_lt, nat_le, IsTrue, List, [], ◌∷◌, ◌++◌, length, Result, Ok, Err}
+use Rattle.std.specs.List.{list_all, list_any}
+use Rattle.std.specs.Str.{is_utf8}
+use Rattle.okws_base.specs.Names.{is_word, is_keyword, is_identifier}
+use Rattle.okws_base.specs.Value.{same_bytes}
+use Rattle.okws_base.specs.declared.value.Value.{Value}
+use Rattle.okws_base.specs.declared.value.Value.TheVariants as value
+use Rattle.okws_plan.specs.Rules.{keeps_rules}
+use Rattle.okws_plan.specs.declared.configuration.Column.{Column}
+use Rattle.okws_plan.specs.declared.configuration.Table.{Table}
+use Rattle.okws_plan.specs.declared.statement.Operand.{Operand}
+use Rattle.okws_plan.specs.declared.statement.Operand.TheVariants as operand
+use Rattle.okws_plan.specs.declared.statement.Condition.{Condition}
+use Rattle.okws_plan.specs.declared.statement.Assignment.{Assignment}
+use Rattle.okws_plan.specs.declared.statement.Action.{Action}
+use Rattle.okws_plan.specs.declared.statement.Action.TheVariants as action
+use Rattle.okws_plan.specs.declared.statement.Statement.{Statement}
+use Rattle.statement_core.specs.declared.error.Refusal.{Refusal}
+use Rattle.statement_core.specs.declared.token.Fixed.TheVariants as fixed
+use Rattle.statement_core.specs.declared.token.Token.{Token}
+use Rattle.statement_core.specs.declared.token.Token.TheVariants as token
+use Rattle.statement_core.specs.declared.token.Placed.{Placed}
+use Rattle.statement_core.specs.Canonical.{joined, canonical}
+use Rattle.statement_core.specs.Compiled.{compiled}
+use Rattle.statement_core.specs.Forms.{tokens_in}
+use Rattle.statement_core.specs.Tokens.{same_fixed, tokens}
+
+-- An integer has 64 bits: it is -9223372036854775808 to 9223372036854775807.
+abbrev pub has_64_bits : ℤ → Bool
+has_64_bits (pos n) = nat_lt n (2 ^ 63)
+has_64_bits (negsuc n) = nat_lt n (2 ^ 63)
+
+-- A byte is a number below 256.
+abbrev pub is_byte : ℕ → Bool
+is_byte b = nat_lt b 256
+
+-- A value that the program can hold: an integer of 64 bits, a text of UTF-8, or bytes.
+abbrev pub is_held : Value → Bool
+is_held (value.Int n) = has_64_bits n
+is_held (value.Text t) = is_utf8 t
+is_held (value.Bytes b) = list_all is_byte b
+
+-- A token that a text can have: a keyword or a sign, a word that is no keyword, a parameter of 64 bits, or a value that the program can hold.
+abbrev pub is_spelled : Token → Bool
+is_spelled (token.Fixed f) = not (same_fixed f fixed.End)
+is_spelled (token.Word w) = is_word w && not (is_keyword w)
+is_spelled (token.Parameter n) = nat_lt n (2 ^ 64)
+is_spelled (token.Literal v) = is_held v
+
+-- What tokens were found, whatever their places are.
+abbrev pub found_barely : Result (List Placed) Refusal → Result (List Token) Refusal
+found_barely (Ok found) = Ok (tokens_in found)
+found_barely (Err e) = Err e
+
+-- The canonical text of tokens has those tokens, and then its end.
+abbrev pub TokensAreReadAgain : Type 0
+TokensAreReadAgain = (ts : List Token) → IsTrue (list_all is_spelled ts) → found_barely (tokens (joined true ts)) ≡ Ok (ts ++ token.Fixed fixed.End ∷ [])
+
+-- No two items have one name.
+abbrev pub names_differ : {A : Type 0} → (A → List ℕ) → List A → Bool
+names_differ name [] = true
+names_differ name (x ∷ more) = not (list_any (λ other. same_bytes (name x) (name other)) more) && names_differ name more
+
+-- A table is named by an identifier, and has 1 to 256 columns, each named by an identifier of its own.
+abbrev pub is_declarable : Table → Bool
+is_declarable t =
+    is_identifier t.name && (nat_le 1 (length t.columns) && (nat_le (length t.columns) 256
+    && (list_all (λ (c : Column). is_identifier c.name) t.columns && names_differ (λ (c : Column). c.name) t.columns)))
+
+-- The tables of a proxy are at most 256, each of a name of its own.
+abbrev pub are_declarable : List Table → Bool
+are_declarable tables = nat_le (length tables) 256 && (list_all is_declarable tables && names_differ (λ (t : Table). t.name) tables)
+
+-- A literal is a value that the program can hold.
+abbrev pub holds_literal : Operand → Bool
+holds_literal (operand.Parameter n) = true
+holds_literal (operand.Literal v) = is_held v
+
+-- The literals of conditions are values that the program can hold.
+abbrev pub conditions_hold : List Condition → Bool
+conditions_hold conditions = list_all (λ (c : Condition). holds_literal c.operand) conditions
+
+-- The literals of an action are values that the program can hold.
+abbrev pub holds_literals : Action → Bool
+holds_literals (action.Select s) = conditions_hold s.conditions
+holds_literals (action.Insert values) = list_all holds_literal values
+holds_literals (action.Update assignments conditions) = list_all (λ (a : Assignment). holds_literal a.operand) assignments && conditions_hold conditions
+holds_literals (action.Delete conditions) = conditions_hold conditions
+
+-- The text compiles to the statement, if a configuration can declare the tables, the program can hold the statement's literals, and the statement keeps the rules of the query language for the tables.
+abbrev pub CompilesTo : List Table → Statement → List ℕ → Type 0
+CompilesTo tables st text = IsTrue (are_declarable tables) → IsTrue (holds_literals st.action) → IsTrue (keeps_rules tables st) → compiled tables text ≡ Ok st
+
+-- Each statement that keeps the rules is compiled from its canonical text.
+abbrev pub StatementsCompileAgain : Type 0
+StatementsCompileAgain = (tables : List Table) (st : Statement) → CompilesTo tables st (canonical tables st)
+
+-- Each statement that a text stands for keeps the rules for its tables.
+abbrev pub CompiledKeepsRules : Type 0
+CompiledKeepsRules = (tables : List Table) (text : List ℕ) (st : Statement) → compiled tables text ≡ Ok st → IsTrue (keeps_rules tables st)

@@ -1,12 +1,14 @@
 //! Bytes that come in and bytes that go out.
 
-ghost use Rattle.std.specs.Prelude.{◌≡◌, ◌<◌, ◌≤◌, ◌+◌, ℕ, List, length, Bool, true, None};
+ghost use Rattle.std.specs.Prelude.{◌≡◌, ◌<◌, ◌≤◌, ◌+◌, ℕ, List, length, Bool, true, None, OnOk};
 ghost use Rattle.std.specs.declared.option.Option.{Option};
 ghost use Rattle.okws_outer.specs.declared.stream.Pull.{Pull};
 ghost use Rattle.okws_outer.specs.declared.stream.Pull.TheVariants.{Failed};
 ghost use Rattle.okws_outer.specs.declared.stream.Put.{Put};
 ghost use Rattle.okws_outer.specs.declared.stream.Put.TheVariants.{Done};
 ghost use Rattle.okws_outer.specs.Streams.{Counts, Pulls, Puts};
+
+use std::alloc::AllocError;
 
 /// What a pull answers.
 #[derive(Clone, Copy, Debug, PartialEq, Eq)]
@@ -75,6 +77,9 @@ pub trait Link {
     /// How many bytes more a steady link is sure to take.
     ghost room: { Self → ℕ };
 
+    /// That nothing is to come in behind the bytes that are left.
+    ghost ended: { Self → Bool };
+
     /// Takes bytes that are left, at most as many as there is room for.
     fn pull(&mut self, into: &mut [u8]) -> Pull
         requires { 0 < length into.old }
@@ -83,6 +88,7 @@ pub trait Link {
         ensures faults { Counts (faults self.old) (faults self.new) (result ≡ Failed) }
         ensures sure { steady self.old ≡ true → result ≡ Failed → ⊥ }
         ensures steady { steady self.new ≡ steady self.old }
+        ensures ended { ended self.new ≡ ended self.old }
         ensures room { room self.new ≡ room self.old };
 
     /// Gives the bytes behind those that were given before.
@@ -92,5 +98,16 @@ pub trait Link {
         ensures faults { Counts (faults self.old) (faults self.new) (result ≡ Done → ⊥) }
         ensures sure { steady self.old ≡ true → length bytes.now ≤ room self.old → result ≡ Done }
         ensures steady { steady self.new ≡ steady self.old }
+        ensures ended { ended self.new ≡ ended self.old }
         ensures room { room self.old ≤ room self.new + length bytes.now };
+
+    /// Makes a steady link sure of room for n bytes more; where memory is refused it is as before.
+    fn make_room(&mut self, n: usize) -> Result<(), AllocError>
+        ensures made { OnOk result (steady self.old ≡ true → n ≤ room self.new) }
+        ensures room { room self.old ≤ room self.new }
+        ensures left { left self.new ≡ left self.old }
+        ensures given { given self.new ≡ given self.old }
+        ensures faults { faults self.new ≡ faults self.old }
+        ensures steady { steady self.new ≡ steady self.old }
+        ensures ended { ended self.new ≡ ended self.old };
 }

@@ -30,7 +30,8 @@ impl<'a> MemoryLink<'a> {
         ensures given { ⟦<MemoryLink<'a> as Link>⟧.given result ≡ Some [] }
         ensures faults { ⟦<MemoryLink<'a> as Link>⟧.faults result ≡ 0 }
         ensures steady { ⟦<MemoryLink<'a> as Link>⟧.steady result ≡ (length failing.now == 0) }
-        ensures open { result.ended ≡ false }
+        ensures ended { ⟦<MemoryLink<'a> as Link>⟧.ended result ≡ false }
+        ensures room { ⟦<MemoryLink<'a> as Link>⟧.room result ≡ 0 }
     {
         MemoryLink {
             coming: Vec::new(alloc),
@@ -53,7 +54,7 @@ impl<'a> MemoryLink<'a> {
         ensures faults { ⟦<MemoryLink<'a> as Link>⟧.faults self.new ≡ ⟦<MemoryLink<'a> as Link>⟧.faults self.old }
         ensures steady { ⟦<MemoryLink<'a> as Link>⟧.steady self.new ≡ ⟦<MemoryLink<'a> as Link>⟧.steady self.old }
         ensures room { ⟦<MemoryLink<'a> as Link>⟧.room self.new ≡ ⟦<MemoryLink<'a> as Link>⟧.room self.old }
-        ensures end { self.new.ended ≡ self.old.ended }
+        ensures ended { ⟦<MemoryLink<'a> as Link>⟧.ended self.new ≡ ⟦<MemoryLink<'a> as Link>⟧.ended self.old }
     {
         if self.at == self.coming.len() {
             self.at = 0;
@@ -64,7 +65,7 @@ impl<'a> MemoryLink<'a> {
 
     /// Says that no bytes are to come in behind those that are left.
     pub fn feed_end(&mut self)
-        ensures ended { self.new.ended ≡ true }
+        ensures ended { ⟦<MemoryLink<'a> as Link>⟧.ended self.new ≡ true }
         ensures left { ⟦<MemoryLink<'a> as Link>⟧.left self.new ≡ ⟦<MemoryLink<'a> as Link>⟧.left self.old }
         ensures given { ⟦<MemoryLink<'a> as Link>⟧.given self.new ≡ ⟦<MemoryLink<'a> as Link>⟧.given self.old }
         ensures faults { ⟦<MemoryLink<'a> as Link>⟧.faults self.new ≡ ⟦<MemoryLink<'a> as Link>⟧.faults self.old }
@@ -76,22 +77,9 @@ impl<'a> MemoryLink<'a> {
 
     /// Whether the end was fed.
     pub fn is_ended(&self) -> bool
-        ensures { result ≡ self.now.ended }
+        ensures { result ≡ ⟦<MemoryLink<'a> as Link>⟧.ended self.now }
     {
         self.ended
-    }
-
-    /// Makes room for n more bytes that are put; where memory is refused the link is as it was.
-    pub fn make_room(&mut self, n: usize) -> Result<(), AllocError>
-        ensures made { OnOk result (n ≤ ⟦<MemoryLink<'a> as Link>⟧.room self.new) }
-        ensures room { ⟦<MemoryLink<'a> as Link>⟧.room self.old ≤ ⟦<MemoryLink<'a> as Link>⟧.room self.new }
-        ensures given { ⟦<MemoryLink<'a> as Link>⟧.given self.new ≡ ⟦<MemoryLink<'a> as Link>⟧.given self.old }
-        ensures left { ⟦<MemoryLink<'a> as Link>⟧.left self.new ≡ ⟦<MemoryLink<'a> as Link>⟧.left self.old }
-        ensures faults { ⟦<MemoryLink<'a> as Link>⟧.faults self.new ≡ ⟦<MemoryLink<'a> as Link>⟧.faults self.old }
-        ensures steady { ⟦<MemoryLink<'a> as Link>⟧.steady self.new ≡ ⟦<MemoryLink<'a> as Link>⟧.steady self.old }
-        ensures end { self.new.ended ≡ self.old.ended }
-    {
-        self.room.make(n)
     }
 
     /// The bytes that are left to come in.
@@ -127,6 +115,8 @@ impl<'a> Link for MemoryLink<'a> {
 
     ghost room = { λ s. vec_capacity s.room.bytes - vec_len s.room.bytes };
 
+    ghost ended = { λ s. s.ended };
+
     fn pull(&mut self, into: &mut [u8]) -> Pull {
         if self.failing.fails() {
             return Pull::Failed;
@@ -151,5 +141,9 @@ impl<'a> Link for MemoryLink<'a> {
             return Put::Stopped(count);
         }
         Put::Done
+    }
+
+    fn make_room(&mut self, n: usize) -> Result<(), AllocError> {
+        self.room.make(n)
     }
 }

@@ -20,7 +20,7 @@ Headed = ℕ × List ℕ
 headed_is : (a b : Headed) → Some a ≡ Some b → a ≡ b
 headed_is a b e = cc
 
-heads_are : (n m : ℕ) (x y : List ℕ) → n < 2 ^ 32 → m < 2 ^ 32 → four n ++ x ≡ four m ++ y → (n ≡ m) × (x ≡ y)
+pub heads_are : (n m : ℕ) (x y : List ℕ) → n < 2 ^ 32 → m < 2 ^ 32 → four n ++ x ≡ four m ++ y → (n ≡ m) × (x ≡ y)
 heads_are n m x y low high e =
     let same = headed_is (n, x) (m, y) (sym (four_again n x low) ∙ ap (number_at w32) e ∙ four_again m y high) in
     (ap (λ (a : Headed). a.0) same, ap (λ (a : Headed). a.1) same)

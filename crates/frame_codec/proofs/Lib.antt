@@ -7,3 +7,5 @@ pub mod Values
 pub mod Payloads
 pub mod Whole
 pub mod Apart
+pub mod Bounded
+pub mod Stops

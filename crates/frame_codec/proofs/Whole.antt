@@ -12,7 +12,7 @@ use Rattle.frame_codec.specs.declared.reading.Read.TheVariants.{Frame, Short, Ba
 use Rattle.frame_codec.specs.Spelling.{four, size, service_parts, service_spelling, Spells, is_lawful_length}
 use Rattle.frame_codec.specs.Stream.{IsShort}
 use Rattle.frame_codec.specs.Reading.{number_at, fixed_at, payload_at}
-use Rattle.frame_codec.specs.Answer.{is_taken_kind, Tells, only_taken, given, sized, headed, frame_at, IsAnswer}
+use Rattle.frame_codec.specs.Answer.{Tells, given, sized, headed, frame_at, IsAnswer}
 use Rattle.frame_codec.proofs.Sizes.{length-four}
 use Rattle.frame_codec.proofs.Formats.{bytes_of, length-bytes_of, joined-is, IsBytes, IsBytes-take, four_format}
 use Rattle.frame_codec.proofs.Payloads.{payload_again, payload_takes}
@@ -22,7 +22,7 @@ use Rattle.frame_codec.proofs.Payloads.{payload_again, payload_takes}
 pub lawful_bounds : (n : ℕ) → IsTrue (is_lawful_length n) → (0 < n) × (n ≤ 1048576)
 lawful_bounds n is = (grind (arith, nat_tests), grind (arith, nat_tests))
 
-bounds_lawful : (n : ℕ) → 0 < n → n ≤ 1048576 → IsTrue (is_lawful_length n)
+pub bounds_lawful : (n : ℕ) → 0 < n → n ≤ 1048576 → IsTrue (is_lawful_length n)
 bounds_lawful n low high = grind (arith, nat_tests)
 
 not_zero : (n : ℕ) → 0 < n → eqb n 0 ≡ false
@@ -38,7 +38,7 @@ four_again n rest lt =
     let small : size (four n ∷ []) < 2 ^ 32 = omega (arith, length-four n) in
     ap (λ (t : List ℕ). number_at w32 (t ++ rest)) (sym (append-nil (four n))) ∙ four_format.again n rest lt small
 
-four_takes : (bytes : List ℕ) (n : ℕ) (rest : List ℕ) → IsBytes bytes → number_at w32 bytes ≡ Some (n, rest) → (bytes ≡ four n ++ rest) × IsBytes rest
+pub four_takes : (bytes : List ℕ) (n : ℕ) (rest : List ℕ) → IsBytes bytes → number_at w32 bytes ≡ Some (n, rest) → (bytes ≡ four n ++ rest) × IsBytes rest
 four_takes bytes n rest fits e =
     let t = four_format.takes bytes n rest fits e in
     (t.0 ∙ ap (λ (h : List ℕ). h ++ rest) (append-nil (four n)), t.2)
@@ -46,14 +46,14 @@ four_takes bytes n rest fits e =
 -- ---- what is spelled is read
 
 -- whatever reader answers of a payload
-pub sized_again : (n : ℕ) (body rest : List ℕ) → IsTrue (is_lawful_length n) → length body ≡ n → sized n (body ++ rest) ≡ given (only_taken (payload_at body)) (4 + n)
+pub sized_again : (n : ℕ) (body rest : List ℕ) → IsTrue (is_lawful_length n) → length body ≡ n → sized n (body ++ rest) ≡ given (payload_at body) (4 + n)
 sized_again n body rest lawful len =
     let bounds = lawful_bounds n lawful in
     let long : ltb (length (body ++ rest)) n ≡ false = le-ltb _ _ (omega (arith, length-append body rest)) in
     let small : ltb 1048576 n ≡ false = le-ltb _ _ bounds.1 in
     rw (not_zero n bounds.0, small, long, take_at body rest n len) refl
 
-pub frame_again : (front rest : List ℕ) (frame : ServiceFrame) → Spells front frame → frame_at (front ++ rest) ≡ given (only_taken (Some frame)) (length front)
+pub frame_again : (front rest : List ℕ) (frame : ServiceFrame) → Spells front frame → frame_at (front ++ rest) ≡ given (Some frame) (length front)
 unfolding frame_at
 frame_again front rest frame s =
     let n : ℕ = size (service_parts frame) in
@@ -66,8 +66,8 @@ frame_again front rest frame s =
     ∙ ap (λ (t : List ℕ). headed (number_at w32 t)) (append_assoc (four n) body rest)
     ∙ ap headed (four_again n (body ++ rest) small)
     ∙ sized_again n body rest s.lawful len
-    ∙ ap (λ (o : Option ServiceFrame). given (only_taken o) (4 + n)) (payload_again frame s.fits small)
-    ∙ ap (given (only_taken (Some frame))) (sym total)
+    ∙ ap (λ (o : Option ServiceFrame). given o (4 + n)) (payload_again frame s.fits small)
+    ∙ ap (given (Some frame)) (sym total)
 
 below_four : (n : ℕ) → n < 4 → ltb n 4 ≡ true
 below_four n h = grind (arith, nat_tests)
@@ -102,18 +102,13 @@ record IsFound (b d l : Bool) (o : Option ServiceFrame) (n : ℕ) (frame : Servi
   whole : l ≡ false
   is : o ≡ Some frame
   takes : taken ≡ n
-  kind : is_taken_kind frame ≡ true
 
-kept : (frame' : ServiceFrame) (t : Bool) → is_taken_kind frame' ≡ t → (n : ℕ) (frame : ServiceFrame) (taken : ℕ) → given (cond t (Some frame') None) n ≡ Frame frame taken → IsFound false false false (Some frame') n frame taken
-kept frame' true is n frame taken e = record { positive = refl; small = refl; whole = refl; is = cc; takes = cc; kind = cc }
-kept frame' false is n frame taken e = absurd cc
-
-tests_found : (b d l : Bool) (o : Option ServiceFrame) (n : ℕ) (frame : ServiceFrame) (taken : ℕ) → cond b BadFrame (cond d BadFrame (cond l Short (given (only_taken o) n))) ≡ Frame frame taken → IsFound b d l o n frame taken
+tests_found : (b d l : Bool) (o : Option ServiceFrame) (n : ℕ) (frame : ServiceFrame) (taken : ℕ) → cond b BadFrame (cond d BadFrame (cond l Short (given o n))) ≡ Frame frame taken → IsFound b d l o n frame taken
 tests_found true d l o n frame taken e = absurd cc
 tests_found false true l o n frame taken e = absurd cc
 tests_found false false true o n frame taken e = absurd cc
 tests_found false false false None n frame taken e = absurd cc
-tests_found false false false (Some f) n frame taken e = kept f (is_taken_kind f) refl n frame taken e
+tests_found false false false (Some f) n frame taken e = record { positive = refl; small = refl; whole = refl; is = cc; takes = cc }
 
 not_short : (o : Option ServiceFrame) (n : ℕ) → given o n ≡ Short → ⊥
 not_short None n e = cc
@@ -142,7 +137,7 @@ frame_found bytes frame taken fits e = by_head (number_at w32 bytes) refl e
         let whole : take taken bytes ≡ service_spelling frame =
         ap (λ (k : ℕ). take k bytes) s.takes ∙ ap (take (4 + n)) t.0 ∙ take_front (four n) a.1 n (length-four n) ∙ ap (λ (b : List ℕ). four n ++ b) p.0
         ∙ ap (λ (m : ℕ). four m ++ bytes_of (service_parts frame)) (sym len) ∙ sym (joined-is (four (size (service_parts frame))) (service_parts frame)) in
-        (omega (arith, s.takes, all, enough), record { fits = p.1; lawful = subst (λ (m : ℕ). IsTrue (is_lawful_length m)) (sym len) (bounds_lawful n (above_zero n s.positive) (ltb-false _ _ s.small)); spelled = whole }, s.kind)
+        (omega (arith, s.takes, all, enough), record { fits = p.1; lawful = subst (λ (m : ℕ). IsTrue (is_lawful_length m)) (sym len) (bounds_lawful n (above_zero n s.positive) (ltb-false _ _ s.small)); spelled = whole })
 
 none_short : (bytes : List ℕ) → number_at w32 bytes ≡ None → length bytes < 4
 unfolding number_at fixed_at
@@ -160,18 +155,17 @@ frame_short bytes fits e = by_head (number_at w32 bytes) refl e
     by_head None was e = inl (none_short bytes was)
     by_head (Some a) was e =
         let t = four_takes bytes a.0 a.1 fits was in
-        let s = tests_short (eqb a.0 0) (ltb 1048576 a.0) (ltb (length a.1) a.0) (only_taken (payload_at (take a.0 a.1))) (4 + a.0) e in
+        let s = tests_short (eqb a.0 0) (ltb 1048576 a.0) (ltb (length a.1) a.0) (payload_at (take a.0 a.1)) (4 + a.0) e in
         inr (a.0, a.1, bounds_lawful a.0 (above_zero a.0 s.0) (ltb-false _ _ s.1), t.0, ltb-true _ _ s.2)
-
-taken_is : (t : Bool) (frame : ServiceFrame) (n : ℕ) → t ≡ true → given (cond t (Some frame) None) n ≡ BadFrame → ⊥
-taken_is true frame n is e = cc
-taken_is false frame n is e = cc
 
 frame_bad : (bytes : List ℕ) → frame_at bytes ≡ BadFrame → Tells bytes BadFrame
 frame_bad bytes e = (
+  λ frame rest begins. given_is frame (length begins.0) (sym (frame_again begins.0 rest frame begins.1) ∙ ap frame_at (sym begins.2) ∙ e),
   λ short. let other = short_again bytes short in cc,
-  λ frame rest begins kind. taken_is (is_taken_kind frame) frame (length begins.0) kind (sym (frame_again begins.0 rest frame begins.1) ∙ ap frame_at (sym begins.2) ∙ e),
 )
+  where
+    given_is : (frame : ServiceFrame) (n : ℕ) → given (Some frame) n ≡ BadFrame → ⊥
+    given_is frame n is = cc
 
 -- What the reader answers it may tell.
 pub tells : (bytes : List ℕ) (answer : Read) → IsBytes bytes → IsAnswer answer (frame_at bytes) → Tells bytes answer

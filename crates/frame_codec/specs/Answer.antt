@@ -1,34 +1,20 @@
 -- What the reader of a service's frames answers.
-use Rattle.std.specs.Prelude.{◌≡◌, ℕ, ◌+◌, ◌≤◌, Bool, true, false, List, length, take, Option, Some, None, ◌==◌, nat_lt, if◌then◌else◌, IsTrue}
+use Rattle.std.specs.Prelude.{◌≡◌, ℕ, ◌+◌, ◌≤◌, List, length, take, Option, Some, None, ◌==◌, nat_lt, if◌then◌else◌}
 use Rattle.std.specs.Int.{w32}
 use Rattle.okws_base.specs.declared.limit.TheConstants.{LONGEST_FRAME}
 use Rattle.frame_codec.specs.declared.frame.ServiceFrame.{ServiceFrame}
-use Rattle.frame_codec.specs.declared.frame.ServiceFrame.TheVariants as said
 use Rattle.frame_codec.specs.declared.reading.Read.{Read}
 use Rattle.frame_codec.specs.declared.reading.Read.TheVariants.{Frame, Short, BadFrame, NoMemory}
 use Rattle.frame_codec.specs.Reading.{number_at, payload_at}
 use Rattle.frame_codec.specs.Spelling.{Spells}
-use Rattle.frame_codec.specs.Stream.{Begins, IsShort}
+use Rattle.frame_codec.specs.Stream.{IsShort, IsBad}
 
--- The kinds of frames that the reader takes: Open, Call and Reply. A whole Get or Log is BadFrame to it.
-abbrev pub is_taken_kind : ServiceFrame → Bool
-is_taken_kind (said.Open p shown) = true
-is_taken_kind (said.Call p n q args) = true
-is_taken_kind (said.Get name) = false
-is_taken_kind (said.Log text) = false
-is_taken_kind (said.Reply status content_type location content) = true
-
--- The answer tells of the bytes: a frame that is taken stands at their front with so many bytes, or they are Short, or neither is so. Where memory was refused it tells nothing.
+-- The answer tells of the bytes: a frame stands at their front with so many bytes, or they are Short, or neither is so. Where memory was refused it tells nothing.
 abbrev pub Tells : List ℕ → Read → Type 0
-Tells bytes (Frame frame taken) = (taken ≤ length bytes) × Spells (take taken bytes) frame × IsTrue (is_taken_kind frame)
+Tells bytes (Frame frame taken) = (taken ≤ length bytes) × Spells (take taken bytes) frame
 Tells bytes Short = IsShort bytes
-Tells bytes BadFrame = (IsShort bytes → ⊥) × ((frame : ServiceFrame) (rest : List ℕ) → Begins bytes frame rest → IsTrue (is_taken_kind frame) → ⊥)
+Tells bytes BadFrame = IsBad bytes
 Tells bytes NoMemory = Unit {0}
-
--- A frame of a kind that is taken.
-abbrev pub only_taken : Option ServiceFrame → Option ServiceFrame
-only_taken None = None
-only_taken (Some frame) = if is_taken_kind frame then Some frame else None
 
 -- The answer of a whole payload, behind which so many bytes end.
 abbrev pub given : Option ServiceFrame → ℕ → Read
@@ -41,7 +27,7 @@ sized n rest =
     if n == 0 then BadFrame
     else if nat_lt LONGEST_FRAME n then BadFrame
     else if nat_lt (length rest) n then Short
-    else given (only_taken (payload_at (take n rest))) (4 + n)
+    else given (payload_at (take n rest)) (4 + n)
 
 -- The answer by a length, if there is one, and the bytes behind it.
 abbrev pub headed : Option (ℕ × List ℕ) → Read

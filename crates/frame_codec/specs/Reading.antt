@@ -72,23 +72,27 @@ many_at (suc n) bytes = mapped (λ p. p.0 ∷ p.1) (both value_at (many_at n)) b
 unfoldable pub values_at : Reader (List Value)
 values_at bytes = after byte_at many_at bytes
 
--- The fields of each kind.
+-- The fields of an Open.
 abbrev pub open_at : Reader (ℕ × List ℕ)
 open_at bytes = both (number_at w16) (fixed_at 20) bytes
 
+-- The fields of a Call.
 abbrev pub call_at : Reader (ℕ × (ℕ × (ℕ × List Value)))
 call_at bytes = both (number_at w16) (both (number_at w32) (both (number_at w16) values_at)) bytes
 
+-- The fields of a Reply.
 abbrev pub reply_at : Reader (ℕ × (List ℕ × (List ℕ × List ℕ)))
 reply_at bytes = both (checked is_reply_status (number_at w16)) (both (checked is_content_type name_at) (both (checked is_location name_at) string_at)) bytes
 
--- The frame of these fields.
+-- The frame of an Open's fields.
 abbrev pub open_frame : ℕ × List ℕ → ServiceFrame
 open_frame p = Open p.0 (record { bytes = p.1 })
 
+-- The frame of a Call's fields.
 abbrev pub call_frame : ℕ × (ℕ × (ℕ × List Value)) → ServiceFrame
 call_frame p = Call p.0 p.1.0 p.1.1.0 p.1.1.1
 
+-- The frame of a Reply's fields.
 abbrev pub reply_frame : ℕ × (List ℕ × (List ℕ × List ℕ)) → ServiceFrame
 reply_frame p = Reply p.0 p.1.0 p.1.1.0 p.1.1.1
 

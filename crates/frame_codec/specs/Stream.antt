@@ -1,5 +1,5 @@
 -- The frames of a service's stream.
-use Rattle.std.specs.Prelude.{◌≡◌, ℕ, ◌<◌, ◌++◌, List, [], ◌∷◌, length, ◌⊎◌, IsTrue}
+use Rattle.std.specs.Prelude.{◌≡◌, ◌≢◌, ℕ, ◌<◌, ◌++◌, List, [], ◌∷◌, length, ◌⊎◌, IsTrue}
 use Rattle.frame_codec.specs.Spelling.{Spells, four, is_lawful_length}
 use Rattle.frame_codec.specs.declared.frame.ServiceFrame.{ServiceFrame}
 
@@ -23,3 +23,11 @@ IsBad bytes = BeginsNone bytes × (IsShort bytes → ⊥)
 abbrev pub FramesOf : List ℕ → List ServiceFrame → List ℕ → Type 0
 FramesOf bytes [] rest = (bytes ≡ rest) × BeginsNone rest
 FramesOf bytes (frame ∷ more) rest = (behind : List ℕ) × Begins bytes frame behind × FramesOf behind more rest
+
+-- Whatever frame begins with the bytes taken since the last frame, they end inside it, and none are left.
+abbrev pub IsBadStop : List ℕ → List ℕ → Type 0
+IsBadStop since left = (frame : ServiceFrame) (more : List ℕ) → Spells (since ++ more) frame → (since ≢ []) × (more ≢ []) × (left ≡ [])
+
+-- No byte was taken since the last frame, and none are left.
+abbrev pub IsEndStop : List ℕ → List ℕ → Type 0
+IsEndStop since left = (since ≡ []) × (left ≡ [])

@@ -3,8 +3,9 @@
 
 mod field;
 pub mod frame;
-mod kind;
+pub mod kind;
 pub mod laws;
+pub mod making;
 mod part;
 pub mod reading;
 pub mod reply;

@@ -31,7 +31,7 @@ pub(crate) trait Parts {
 }
 
 /// How many bytes there are.
-fn len(bytes: &[u8]) -> usize
+pub(crate) fn len(bytes: &[u8]) -> usize
     ensures len { result ≡ length bytes.now }
     ensures fits { Bytewise bytes.now }
 {

@@ -1,15 +1,19 @@
 //! Reading what a service says.
 
-ghost use Rattle.std.specs.Prelude.{◌≡◌, ◌==◌, List, length, option_map, if◌then◌else◌};
-ghost use Rattle.frame_codec.specs.Reading.{Gives, open_at, call_at, reply_at, open_frame, call_frame, reply_frame, all_of, fields_at, payload_at};
-ghost use Rattle.frame_codec.specs.Answer.{Tells, IsAnswer, only_taken, sized, frame_at};
+ghost use Rattle.std.specs.Prelude.{◌≡◌, ◌==◌, ◌↔◌, List, length, option_map, if◌then◌else◌, IfSome, IsNone, IsTrue, IsFalse, Some, [], ◌⊎◌, ℕ};
+ghost use Rattle.std.specs.Int.{w32};
+ghost use Rattle.frame_codec.specs.Reading.{Gives, number_at, open_at, call_at, name_at, string_at, reply_at, open_frame, call_frame, reply_frame, all_of, fields_at, payload_at};
+ghost use Rattle.frame_codec.specs.Spelling.{four, is_lawful_length};
+ghost use Rattle.frame_codec.specs.Stream.{Begins, IsShort, IsBad};
+ghost use Rattle.frame_codec.specs.Answer.{Tells, IsAnswer, sized, frame_at};
 
 use crate::field::{
-    ReadError, content_type_of, location_of, status_of, string_of, token_of, u16_at, u32_at,
-    values_of,
+    ReadError, content_type_of, location_of, name_of, status_of, string_of, token_of, u16_at,
+    u32_at, values_of,
 };
 use crate::frame::ServiceFrame;
-use crate::kind::{CALL, OPEN, REPLY};
+use crate::kind::{CALL, GET, LOG, OPEN, REPLY};
+use crate::part::lawful_length;
 use okws_base::limit::LONGEST_FRAME;
 use std::alloc::Global;
 
@@ -20,7 +24,7 @@ pub enum Read {
     Frame(ServiceFrame, usize),
     /// Fewer than four bytes, or a lawful length and fewer bytes than it tells.
     Short,
-    /// No frame that is taken, whatever follows.
+    /// No frame, whatever follows.
     BadFrame,
     /// Memory was refused.
     NoMemory,
@@ -62,6 +66,22 @@ fn call_of(alloc: Global, bytes: &[u8]) -> Result<ServiceFrame, ReadError>
     })
 }
 
+fn get_of(alloc: Global, bytes: &[u8]) -> Result<ServiceFrame, ReadError>
+    ensures { Gives (λ frame. frame) result (option_map ServiceFrame.Get (all_of (name_at bytes.now))) }
+{
+    let (template, rest) = name_of(alloc, bytes)?;
+    ended(rest)?;
+    Ok(ServiceFrame::Get(template))
+}
+
+fn log_of(alloc: Global, bytes: &[u8]) -> Result<ServiceFrame, ReadError>
+    ensures { Gives (λ frame. frame) result (option_map ServiceFrame.Log (all_of (string_at bytes.now))) }
+{
+    let (text, rest) = string_of(alloc, bytes)?;
+    ended(rest)?;
+    Ok(ServiceFrame::Log(text))
+}
+
 fn reply_of(alloc: Global, bytes: &[u8]) -> Result<ServiceFrame, ReadError>
     ensures { Gives (λ frame. frame) result (option_map reply_frame (all_of (reply_at bytes.now))) }
 {
@@ -81,12 +101,16 @@ fn reply_of(alloc: Global, bytes: &[u8]) -> Result<ServiceFrame, ReadError>
 /// The frame of this kind whose fields are all of the bytes.
 #[tactic(auto, unfolding(crate::specs::Reading::fields_at))]
 fn fields_of(alloc: Global, kind: u8, bytes: &[u8]) -> Result<ServiceFrame, ReadError>
-    ensures { Gives (λ frame. frame) result (only_taken (fields_at kind bytes.now)) }
+    ensures { Gives (λ frame. frame) result (fields_at kind bytes.now) }
 {
     if kind == OPEN {
         open_of(bytes)
     } else if kind == CALL {
         call_of(alloc, bytes)
+    } else if kind == GET {
+        get_of(alloc, bytes)
+    } else if kind == LOG {
+        log_of(alloc, bytes)
     } else if kind == REPLY {
         reply_of(alloc, bytes)
     } else {
@@ -96,7 +120,7 @@ fn fields_of(alloc: Global, kind: u8, bytes: &[u8]) -> Result<ServiceFrame, Read
 
 /// The frame whose kind and fields are all of the bytes.
 fn payload_of(alloc: Global, bytes: &[u8]) -> Result<ServiceFrame, ReadError>
-    ensures { Gives (λ frame. frame) result (only_taken (payload_at bytes.now)) }
+    ensures { Gives (λ frame. frame) result (payload_at bytes.now) }
 {
     match bytes {
         [] => Err(ReadError::Bad),
@@ -132,11 +156,49 @@ fn first_frame(alloc: Global, bytes: &[u8]) -> Read
     }
 }
 
-/// Reads one frame from the front. It is Frame exactly where the spelling of a frame that is taken
-/// stands there, Short exactly where there are fewer than four bytes or a lawful length and fewer
-/// bytes than it tells, and else BadFrame; unless memory is refused, which gives NoMemory.
+/// Reads one frame from the front. It is Frame exactly where the spelling of a frame stands there,
+/// Short exactly where there are fewer than four bytes or a lawful length and fewer bytes than it
+/// tells, and else BadFrame; unless memory is refused, which gives NoMemory.
 pub fn read_service_frame(alloc: Global, bytes: &[u8]) -> Read
     ensures { Tells bytes.now result }
 {
     first_frame(alloc, bytes)
+}
+
+/// The number that four bytes spell.
+#[tactic(auto, unfolding(crate::specs::Reading::number_at, crate::specs::Reading::fixed_at))]
+fn number_of(head: &[u8]) -> u32
+    requires { length head.now ≡ 4 }
+    ensures { number_at w32 head.now ≡ Some (result, []) }
+{
+    u32::from_be_bytes([head[0], head[1], head[2], head[3]])
+}
+
+/// The length that the four bytes at the front of a frame tell, in bytes behind these four; None
+/// where it isn't 1 to LONGEST_FRAME, whatever follows.
+pub fn told_length(head: &[u8]) -> Option<usize>
+    requires { length head.now ≡ 4 }
+    ensures told { IfSome result (λ n. IsTrue (is_lawful_length n) × (head.now ≡ four n)) }
+    ensures bad { IsNone result → IsBad head.now }
+{
+    let size = number_of(head);
+    match lawful_length(size as usize) {
+        Some(_) => Some(size as usize),
+        None => None,
+    }
+}
+
+/// Whether there are fewer than four bytes, or a lawful length and fewer bytes than it tells. Bytes
+/// that aren't short begin with a frame, or are bad.
+pub fn is_short(bytes: &[u8]) -> bool
+    ensures short { IsTrue result ↔ IsShort bytes.now }
+    ensures settled { IsFalse result → ((frame : ServiceFrame) × (rest : List ℕ) × Begins bytes.now frame rest) ⊎ IsBad bytes.now }
+{
+    if bytes.len() < 4 {
+        return true;
+    }
+    match told_length(&bytes[..4]) {
+        Some(size) => bytes.len() - 4 < size,
+        None => false,
+    }
 }

@@ -30,6 +30,9 @@ fn frames(rt: HostRuntime) -> Result<(), Fail> {
         "0000001f42000000000000000203010000000000000001020000000263790200000000",
         "0000001342000000000000000301010000000000000001",
         "0000001042000000000000000401020000000178",
+        "00000006430470616765",
+        "000000024300",
+        "0000000744000000026869",
         "000000154500c80a746578742f706c61696e00000000026f6b",
     ] {
         reads(&rt, rt.alloc(), digits)?;
@@ -72,9 +75,10 @@ fn no_frames(rt: HostRuntime) -> Result<(), Fail> {
         "0000000b4200000000000000010000",
         // A text that isn't UTF-8.
         "00000010420000000000000004010200000001ff",
-        // Kinds that aren't taken: Get, Log, one that a service hears, and none.
-        "00000006430470616765",
-        "0000000744000000026869",
+        // A byte behind a Get's name, and a Log's text that is longer than its payload.
+        "0000000743047061676500",
+        "0000000744000000036869",
+        // Kinds that no service says: one that it hears, and none.
         "0000000108",
         "00000001ff",
         // A Location, a status and a content type that no Reply has.

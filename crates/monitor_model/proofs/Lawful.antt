@@ -1,5 +1,6 @@
 pub mod Plain
 pub mod Kept
+pub mod Settled
 pub mod Columns
 pub mod Cells
 pub mod Stages

@@ -17,7 +17,8 @@ use Rattle.okws_plan.specs.declared.event.PubdEvent.{PubdEvent}
 use Rattle.okws_plan.specs.declared.event.PubdEvent.TheVariants as pubd
 use Rattle.okws_plan.specs.declared.event.LogEvent.{LogEvent}
 use Rattle.okws_plan.specs.declared.event.LogEvent.TheVariants as oklogd
-use Rattle.frame_codec.specs.Spelling.{server_spelling, service_spelling, Spells}
+use Rattle.frame_codec.specs.Spelling.{server_spelling, service_spelling}
+use Rattle.frame_codec.specs.Stream.{IsBadStop, IsEndStop}
 use Rattle.frame_codec.specs.declared.frame.ServiceFrame.{ServiceFrame}
 use Rattle.frame_codec.specs.declared.frame.ServiceFrame.TheVariants.{Open, Call, Get, Log, Reply}
 use Rattle.frame_codec.specs.declared.frame.ServerFrame.{ServerFrame}
@@ -141,16 +142,6 @@ Unanswered C w (Open p shown) J now = now ≡ J
 Unanswered C w (Get name) J now = now ≡ J
 Unanswered C w (Log text) J now = now ≡ J
 Unanswered C w (Reply status content_type location content) J now = now ≡ J
-
--- No frame of kinds 41 to 45 begins with the bytes taken since the last frame, or they end inside one and none are left.
-abbrev pub IsBadStop : List ℕ → List ℕ → Type 0
-IsBadStop since left =
-    ((frame : ServiceFrame) (more : List ℕ) → Spells (since ++ more) frame → ⊥)
-    ⊎ ((frame : ServiceFrame) × (more : List ℕ) × Spells (since ++ more) frame × (since ≢ []) × (more ≢ []) × (left ≡ []))
-
--- No byte was taken since the last frame, and none are left.
-abbrev pub IsEndStop : List ℕ → List ℕ → Type 0
-IsEndStop since left = (since ≡ []) × (left ≡ [])
 
 -- The last item is a Reply.
 abbrev pub EndsInReply : List Item → List Item → Type 0

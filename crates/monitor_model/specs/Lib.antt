@@ -15,7 +15,6 @@ pub mod Legal
 pub mod Unharmed
 pub mod Stage
 pub mod Script
-pub mod Lines
 pub mod Told
 pub mod Answered
 pub mod Given

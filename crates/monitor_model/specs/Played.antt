@@ -1,5 +1,5 @@
 -- What a script's run leaves, and when it is a run of the script.
-use Rattle.std.specs.Prelude.{◌≡◌, ℕ, List, [], ◌∷◌, ◌++◌, Option, Some, None, map, reverse}
+use Rattle.std.specs.Prelude.{◌≡◌, ℕ, List, [], ◌∷◌, Option, Some, None, map, reverse}
 use Rattle.okws_base.specs.Runs.{Each}
 use Rattle.okws_plan.specs.declared.configuration.Config.{Config}
 use Rattle.okws_plan.specs.declared.script.Line.{Line}
@@ -10,15 +10,14 @@ use Rattle.monitor_model.specs.Stage.{Stage, Stand, Opened, stand}
 use Rattle.monitor_model.specs.Script.{PlaysAll, refusal}
 use Rattle.okws_plan.specs.declared.script.Place.{Place}
 use Rattle.monitor_model.specs.Entered.{exchanges_at, entered_by}
-use Rattle.monitor_model.specs.Lines.{LineFits, PlaceFits}
+use Rattle.okws_plan.specs.Lines.{LineFits, PlaceFits}
 use Rattle.monitor_model.specs.Seen.{proxy_past}
 use Rattle.monitor_model.specs.Columns.{faults}
 use Rattle.monitor_model.specs.Legal.{IsLawful}
 use Rattle.monitor_model.specs.Unharmed.{IsUnharmed}
 use Rattle.monitor_model.specs.Told.{TellsAll}
 use Rattle.monitor_model.specs.Replied.{AnswersOnce}
-use Rattle.monitor_model.specs.Given.{given_since}
-use Rattle.monitor_model.specs.Cell.{said, last_booted}
+use Rattle.monitor_model.specs.Given.{TakesAll, given_since}
 use Rattle.monitor_model.specs.Answered.{AreEventsIn}
 use Rattle.monitor_model.specs.Merged.{cell_past}
 
@@ -80,10 +79,9 @@ RunsTellAll = OfEachRun (λ C seed lines printed stage. TellsAll C seed (record_
 abbrev pub RunsAreAnswered : Type 0
 RunsAreAnswered = OfEachRun (λ C seed lines printed stage. (s : ℕ) → AreEventsIn C (record_of stage) s (cell_past (record_of stage) s))
 
--- What the last incarnation that was booted said, in whole frames, and what is left on its link, is all that came from it.
+-- What the last incarnation that was booted said, in whole frames, and what is left on its link, is all that came from it; after the incarnation nothing is left, and all that came is what it said, and what its end left unread.
 abbrev pub RunsTakeAll : Type 0
-RunsTakeAll = OfEachRun (λ C seed lines printed stage. (s : ℕ) →
-    given_since (reverse lines) s ≡ said (last_booted (cell_past (record_of stage) s)) (cell_past (record_of stage) s) ++ (stand stage s).left)
+RunsTakeAll = OfEachRun (λ C seed lines printed stage. (s : ℕ) → TakesAll (cell_past (record_of stage) s) (stand stage s).left (given_since (reverse lines) s))
 
 -- What an incarnation's entries at a column ask, and what the monitor's verdicts on them are, is just what its dialogs said to the column and heard, but for what was answered by NoMemory, in order.
 abbrev pub RunsEnterAll : Type 0

@@ -123,10 +123,14 @@ abbrev pub request_method : Option Asked → List ℕ
 request_method None = []
 request_method (Some asked) = method_text asked.method
 
+-- Where a cell has no incarnation, nothing is left on its link, and no end stands there.
+abbrev pub settled : Stand → Stand
+settled there = if incarnation there.past == 0 then record there { left = []; has_ended = false } else there
+
 -- The open dialog of s ends, and its request is answered.
 abbrev pub closed : ℕ → Opened → End → Stage → Stage
 closed s opened how S =
-    with_stand S s (record (stand S s) { past = cell.Dialog (record { worker = 0; items = opened.items; end = how }) ∷ (stand S s).past; open_dialog = None })
+    with_stand S s (settled (record (stand S s) { past = cell.Dialog (record { worker = 0; items = opened.items; end = how }) ∷ (stand S s).past; open_dialog = None }))
 
 -- What is printed where an open dialog ends: the answer to its request.
 abbrev pub closing_text : Opened → End → Stage → List ℕ
@@ -150,7 +154,7 @@ superseded s S = superseded_if s (stand S s).open_dialog S
 abbrev pub retired : ℕ → Stage → Stage
 retired s S =
     if incarnation (stand S s).past == 0 then S
-    else with_item (with_stand S s (record (stand S s) { past = cell.Retired ∷ (stand S s).past })) (own.Retired s)
+    else with_item (with_stand S s (settled (record (stand S s) { past = cell.Retired ∷ (stand S s).past }))) (own.Retired s)
 
 -- A fresh link gets Boot of the greatest incarnation begun.
 abbrev pub freshly_booted : ℕ → Stage → Stage

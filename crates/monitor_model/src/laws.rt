@@ -112,7 +112,9 @@ pub fn script_runs_are_answered()
 {}
 
 /// What the last incarnation that was booted of a service said in a script's run, whose lines name what is
-/// declared, and what is left on its link, is all that came from it.
+/// declared, and what is left on its link, is all that came from it. Once the incarnation is gone nothing is
+/// left, and all that came is what it said, and what its end left unread: nothing where the bytes ended
+/// between frames, and after BadFrame some bytes that begin no frame.
 pub fn script_runs_take_all()
     ensures { RunsTakeAll }
 {}

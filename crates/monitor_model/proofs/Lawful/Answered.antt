@@ -14,6 +14,7 @@ use Rattle.frame_codec.specs.declared.frame.ServiceFrame.{ServiceFrame}
 use Rattle.frame_codec.specs.declared.frame.ServiceFrame.TheVariants as said
 use Rattle.frame_codec.specs.declared.frame.ServerFrame.{ServerFrame}
 use Rattle.frame_codec.specs.declared.frame.ServerFrame.TheVariants as frame
+use Rattle.monitor_model.specs.declared.record.CellEvent.{CellEvent}
 use Rattle.monitor_model.specs.declared.record.CellEvent.TheVariants as cell
 use Rattle.monitor_model.specs.declared.record.End.{End}
 use Rattle.monitor_model.specs.declared.record.End.TheVariants as end
@@ -25,16 +26,17 @@ use Rattle.monitor_model.specs.declared.verdict.Push.{Push}
 use Rattle.monitor_model.specs.Answered.{AnswersIn, AreAnsweredIn, IsOpenIn, AreEventsIn, speaker_of}
 use Rattle.monitor_model.specs.Cell.{incarnation, last_booted}
 use Rattle.monitor_model.specs.Course.{Answers, Speaker, called, opening, push_frame, said_count}
-use Rattle.monitor_model.specs.Lines.{LineFits}
+use Rattle.okws_plan.specs.Lines.{LineFits}
 use Rattle.monitor_model.specs.Merged.{cell_past}
-use Rattle.monitor_model.specs.Played.{record_of}
+use Rattle.monitor_model.specs.Played.{record_of, with_open}
 use Rattle.monitor_model.specs.Pubd.{drain_verdict}
 use Rattle.monitor_model.specs.Seen.{Seen, proxy_past}
 use Rattle.monitor_model.specs.Stage.{Stage, Stand, Opened, Asked, empty_stand, first_stage, stand, with_stand, with_seen, with_item}
-use Rattle.monitor_model.specs.Script.{at_pubd, greatest, begins, closed, installed, revoked, upped, downed, continued, heard_said, reply_end, said_end, said_end, speaker, missed, dialog_opened, given, has_ended, marked, Takes, Advances, GoesOn, Begun, Does, PlaysAll, refusal}
+use Rattle.monitor_model.specs.Script.{at_pubd, greatest, begins, closed, installed, revoked, upped, downed, continued, heard_said, reply_end, said_end, said_end, speaker, missed, dialog_opened, given, has_ended, marked, Takes, Advances, GoesOn, Begun, Does, PlaysAll, refusal, settled}
 use Rattle.monitor_model.specs.Standing.{up_at_okd}
 use Rattle.monitor_model.proofs.Lawful.Plain.{each_reverse, is_true_below, replicate_at}
 use Rattle.monitor_model.proofs.Lawful.Kept.{IsGood}
+use Rattle.monitor_model.proofs.Lawful.Settled.{closed_there, settled_keeps}
 use Rattle.monitor_model.proofs.Lawful.Stages.{open_is_declared}
 use Rattle.monitor_model.proofs.Lawful.Dialogs.{good_advances, good_opened}
 use Rattle.monitor_model.proofs.Lawful.Lines.{MayBegin, dialog_may_begin, good_install, good_marked, good_given, good_has_ended}
@@ -135,11 +137,12 @@ answering_at_once : (C : Config) (n s k : ℕ) (S : Stage) → IsAnswering C S �
     → IsAnswering C (closed s (record { request = n; items = [] }) (end.Superseded (greatest S s)) (with_item S (own.Dialog s)))
 answering_at_once C n s k S all declared shut is above =
     let then : Stage = closed s (record { request = n; items = [] }) (end.Superseded (greatest S s)) (with_item S (own.Dialog s)) in
-    let there : Stand = record (stand S s) { past = cell.Dialog (record { worker = 0; items = []; end = end.Superseded (greatest S s) }) ∷ (stand S s).past; open_dialog = None } in
+    let there : Stand = closed_there [] (end.Superseded (greatest S s)) (stand S s) in
     let later : IsLater (record_of S) (record_of then) = later_same S then refl refl refl in
     let below : incarnation (stand S s).past < greatest S s = omega arith in
-    answering_at C S then s there later refl declared
-    (events_later C (record_of S) (record_of then) s (stand S s).past later (shut_events C S s all shut), inl (greatest S s, refl, below, refl)) all
+    answering_at C S then s (settled there) later refl declared
+    (settled_keeps (λ (J : List CellEvent) (o : Option Opened). AreEventsIn C (record_of then) s (with_open o J)) there
+    (events_later C (record_of S) (record_of then) s (stand S s).past later (shut_events C S s all shut), inl (greatest S s, refl, below, refl))) all
 
 -- An item that was heard.
 abbrev pub IsHeard : Item → Type 0

@@ -16,12 +16,13 @@ use Rattle.monitor_model.specs.declared.record.Record.{Record}
 use Rattle.monitor_model.specs.Answered.{IsDialogIn, IsOpenIn, AreEventsIn, speaker_of}
 use Rattle.monitor_model.specs.Cell.{incarnation, last_booted, after_end}
 use Rattle.monitor_model.specs.Course.{Speaker, said_count}
-use Rattle.monitor_model.specs.Played.{record_of}
+use Rattle.monitor_model.specs.Played.{record_of, with_open}
 use Rattle.monitor_model.specs.Stage.{Stage, Stand, Opened, stand}
 use Rattle.monitor_model.specs.Standing.{up_at_okd}
-use Rattle.monitor_model.specs.Script.{greatest, begins, closed, superseded, superseded_if, retired, freshly_booted, booted, upped, downed, installed_all, revoked_all, launched, launched_rest, taken_down, relaunched, reply_end}
+use Rattle.monitor_model.specs.Script.{greatest, begins, closed, superseded, superseded_if, retired, freshly_booted, booted, upped, downed, installed_all, revoked_all, launched, launched_rest, taken_down, relaunched, reply_end, settled}
 use Rattle.monitor_model.proofs.Lawful.Plain.{none_some}
 use Rattle.monitor_model.proofs.Lawful.Kept.{IsGood}
+use Rattle.monitor_model.proofs.Lawful.Settled.{closed_there, retired_there, settled_keeps}
 use Rattle.monitor_model.proofs.Lawful.Stages.{open_is_declared, IsBootable, IsShut, IsEmpty, superseded_is_shut, retired_is_empty, retired_stage}
 use Rattle.monitor_model.proofs.Lawful.Launches.{begins_is_launchable, installed_is_bootable, revoked_is_launchable, taken_down_is_launchable}
 use Rattle.monitor_model.proofs.Lawful.Records.{journal}
@@ -57,11 +58,12 @@ pub answering_closed : (C : Config) (s : ℕ) (was opened : Opened) (how : End) 
     → (IsOpenIn C (record_of S) (speaker_of 0 s (stand S s).past) was.items → IsDialogIn C (record_of S) (speaker_of 0 s (stand S s).past) opened.items how)
     → IsAnswering C (closed s opened how S)
 answering_closed C s was opened how S all is ends =
-    let there : Stand = record (stand S s) { past = cell.Dialog (record { worker = 0; items = opened.items; end = how }) ∷ (stand S s).past; open_dialog = None } in
+    let there : Stand = closed_there opened.items how (stand S s) in
     let before : AreEventsIn C (record_of S) s (cell.Speaking 0 was.items ∷ (stand S s).past) = open_events C S s was all is in
     let later : IsLater (record_of S) (record_of (closed s opened how S)) = later_same S (closed s opened how S) refl refl refl in
-    answering_at C S (closed s opened how S) s there later refl (open_is_declared s S.stands was is)
-    (events_later C (record_of S) (record_of (closed s opened how S)) s (journal there) later (before.0, ends before.1)) all
+    answering_at C S (closed s opened how S) s (settled there) later refl (open_is_declared s S.stands was is)
+    (settled_keeps (λ (J : List CellEvent) (o : Option Opened). AreEventsIn C (record_of (closed s opened how S)) s (with_open o J)) there
+    (events_later C (record_of S) (record_of (closed s opened how S)) s (journal there) later (before.0, ends before.1))) all
 
 -- the ends
 ends_superseded : (C : Config) (R : Record) (w : Speaker) (items : List Item) (shown : ℕ) → w.incarnation < shown → IsOpenIn C R w items → IsDialogIn C R w items (end.Superseded shown)
@@ -131,7 +133,7 @@ bootable_is_above C seed s S b = omega (arith, was_booted (stand S s).past, b.fr
 answering_retired_when : (C : Config) (s : ℕ) (S : Stage) (b : Bool) → IsAnswering C S → s < length S.stands → (stand S s).open_dialog ≡ None → IsAnswering C (cond b S (retired_stage s S))
 answering_retired_when C s S true all declared shut = all
 answering_retired_when C s S false all declared shut =
-    let there : Stand = record (stand S s) { past = cell.Retired ∷ (stand S s).past } in
+    let there : Stand = retired_there (stand S s) in
     let later : IsLater (record_of S) (record_of (retired_stage s S)) = later_same S (retired_stage s S) refl refl refl in
     answering_at C S (retired_stage s S) s there later refl declared
     (rw shut (events_later C (record_of S) (record_of (retired_stage s S)) s (stand S s).past later (shut_events C S s all shut), tt)) all

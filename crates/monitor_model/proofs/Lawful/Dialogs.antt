@@ -13,6 +13,7 @@ use Rattle.frame_codec.specs.declared.frame.ServiceFrame.{ServiceFrame}
 use Rattle.frame_codec.specs.declared.frame.ServiceFrame.TheVariants as said
 use Rattle.frame_codec.specs.declared.frame.ServerFrame.{ServerFrame}
 use Rattle.frame_codec.specs.declared.frame.ServerFrame.TheVariants as frame
+use Rattle.monitor_model.specs.declared.record.CellEvent.{CellEvent}
 use Rattle.monitor_model.specs.declared.record.CellEvent.TheVariants as cell
 use Rattle.monitor_model.specs.declared.record.Item.TheVariants.{Heard, Said}
 use Rattle.monitor_model.specs.declared.record.End.{End}
@@ -25,8 +26,9 @@ use Rattle.monitor_model.specs.Merged.{is_at_cell}
 use Rattle.monitor_model.specs.Pubd.{drain_verdict}
 use Rattle.monitor_model.specs.Seen.{Seen, proxy_past}
 use Rattle.monitor_model.specs.Stage.{Stage, Stand, Opened, Asked, empty_stand, stand, with_stand, with_seen, with_item}
-use Rattle.monitor_model.specs.Script.{at_proxy, at_pubd, at_log, greatest, closed, continued, heard_said, reply_end, said_end, speaker, IsNext, Takes, Advances, GoesOn, Begun, missed, dialog_opened}
+use Rattle.monitor_model.specs.Script.{at_proxy, at_pubd, at_log, greatest, closed, continued, heard_said, reply_end, said_end, speaker, IsNext, Takes, Advances, GoesOn, Begun, missed, dialog_opened, settled}
 use Rattle.monitor_model.proofs.Lawful.Plain.{is_true_below, none_some}
+use Rattle.monitor_model.proofs.Lawful.Settled.{closed_there, settled_keeps}
 use Rattle.monitor_model.proofs.Lawful.Kept.{EndFits, CellKept, IsGood}
 use Rattle.monitor_model.proofs.Lawful.Columns.{mark_fits}
 use Rattle.monitor_model.proofs.Lawful.Cells.{cell_missed, cell_opened, cell_went_on, cell_closed}
@@ -197,9 +199,11 @@ opened_cell C seed s k opened S g shut above is =
 good_at_once : (C : Config) (seed : List ℕ) (s k : ℕ) (opened : Opened) (S : Stage) → IsGood C seed S → s < length S.stands → (stand S s).open_dialog ≡ None → 0 < k → incarnation (stand S s).past ≡ k
     → IsGood C seed (closed s opened (end.Superseded (greatest S s)) (with_item S (own.Dialog s)))
 good_at_once C seed s k opened S g declared shut above is =
-    good_dialog_item C seed s (record (stand S s) { past = cell.Dialog (record { worker = 0; items = opened.items; end = end.Superseded (greatest S s) }) ∷ (stand S s).past; open_dialog = None }) S g declared
+    let ended : Stand = closed_there opened.items (end.Superseded (greatest S s)) (stand S s) in
+    good_dialog_item C seed s (settled ended) S g declared
+    (settled_keeps (λ (J : List CellEvent) (o : Option Opened). CellKept s o J (own.Dialog s ∷ filter (is_at_cell s) S.seen.own) (greatest S s)) ended
     (cell_closed s opened (end.Superseded (greatest S s)) (stand S s).past (own.Dialog s ∷ filter (is_at_cell s) S.seen.own) (greatest S s)
-    (opened_cell C seed s k opened S g shut above is) (le_refl (greatest S s), refl))
+    (opened_cell C seed s k opened S g shut above is) (le_refl (greatest S s), refl)))
 
 pub good_opened : (C : Config) (seed : List ℕ) (n s k : ℕ) (asked : Asked) (S : Stage) → IsGood C seed S → s < length S.stands → (stand S s).open_dialog ≡ None → 0 < k → incarnation (stand S s).past ≡ k
     → IsGood C seed (dialog_opened C n s k asked S)

@@ -12,6 +12,7 @@ use Rattle.okws_plan.specs.declared.event.PubdEvent.TheVariants as pubd
 use Rattle.frame_codec.specs.declared.frame.ServiceFrame.{ServiceFrame}
 use Rattle.frame_codec.specs.declared.frame.ServerFrame.{ServerFrame}
 use Rattle.frame_codec.specs.declared.frame.ServerFrame.TheVariants as frame
+use Rattle.monitor_model.specs.declared.record.CellEvent.{CellEvent}
 use Rattle.monitor_model.specs.declared.record.CellEvent.TheVariants as cell
 use Rattle.monitor_model.specs.declared.record.End.{End}
 use Rattle.monitor_model.specs.declared.record.End.TheVariants as end
@@ -22,16 +23,17 @@ use Rattle.monitor_model.specs.declared.verdict.Push.{Push}
 use Rattle.monitor_model.specs.Cell.{incarnation, last_booted}
 use Rattle.monitor_model.specs.Course.{Answers, opening, push_frame, said_count}
 use Rattle.monitor_model.specs.Entered.{Exchange, entered, entered_by, exchanges_at, is_for, tells_entry}
-use Rattle.monitor_model.specs.Lines.{LineFits, PlaceFits}
+use Rattle.okws_plan.specs.Lines.{LineFits, PlaceFits}
 use Rattle.monitor_model.specs.Merged.{cell_past}
-use Rattle.monitor_model.specs.Played.{record_of}
+use Rattle.monitor_model.specs.Played.{record_of, with_open}
 use Rattle.monitor_model.specs.Pubd.{drain_verdict}
 use Rattle.monitor_model.specs.Seen.{Seen}
 use Rattle.monitor_model.specs.Stage.{Stage, Stand, Opened, Asked, empty_stand, first_stage, stand, with_stand, with_seen, with_item}
 use Rattle.monitor_model.specs.Standing.{up_at_okd}
-use Rattle.monitor_model.specs.Script.{IsNext, at_pubd, greatest, begins, closed, installed, revoked, downed, upped, continued, heard_said, said_end, speaker, missed, dialog_opened, given, has_ended, marked, Takes, Advances, GoesOn, Begun, Does, PlaysAll, refusal}
+use Rattle.monitor_model.specs.Script.{IsNext, at_pubd, greatest, begins, closed, installed, revoked, downed, upped, continued, heard_said, said_end, speaker, missed, dialog_opened, given, has_ended, marked, Takes, Advances, GoesOn, Begun, Does, PlaysAll, refusal, settled}
 use Rattle.monitor_model.proofs.Lawful.Plain.{each_reverse, replicate_at}
 use Rattle.monitor_model.proofs.Lawful.Kept.{IsGood}
+use Rattle.monitor_model.proofs.Lawful.Settled.{closed_there, settled_keeps}
 use Rattle.monitor_model.proofs.Lawful.Stages.{open_is_declared}
 use Rattle.monitor_model.proofs.Lawful.Dialogs.{good_advances, good_opened}
 use Rattle.monitor_model.proofs.Lawful.Lines.{MayBegin, dialog_may_begin, good_install, good_marked, good_given, good_has_ended}
@@ -114,8 +116,10 @@ entered_at_once : (C : Config) (n s : ℕ) (S : Stage) → AreEntered C S → s 
     → AreEntered C (closed s (record { request = n; items = [] }) (end.Superseded (greatest S s)) (with_item S (own.Dialog s)))
 entered_at_once C n s S all declared shut =
     let then : Stage = closed s (record { request = n; items = [] }) (end.Superseded (greatest S s)) (with_item S (own.Dialog s)) in
-    entered_cell C S then s (record (stand S s) { past = cell.Dialog (record { worker = 0; items = []; end = end.Superseded (greatest S s) }) ∷ (stand S s).past; open_dialog = None })
-    (keeps_same C S then refl refl refl) refl declared (λ k at. rw shut (nothing_when (incarnation (stand S s).past == k) [] (entered_by at k (stand S s).past) refl)) all
+    let there : Stand = closed_there [] (end.Superseded (greatest S s)) (stand S s) in
+    entered_cell C S then s (settled there) (keeps_same C S then refl refl refl) refl declared
+    (λ k at. settled_keeps (λ (J : List CellEvent) (o : Option Opened). entered_by at k (with_open o J) ≡ entered_by at k (journal (stand S s))) there
+    (rw shut (nothing_when (incarnation (stand S s).past == k) [] (entered_by at k (stand S s).past) refl))) all
 
 front_entered : (at : Place) (request : ServerFrame) (items : List Item) → Each IsHeard items → entered at (Heard request ∷ items) ≡ []
 front_entered at request [] all = refl

@@ -29,7 +29,7 @@ use Rattle.monitor_model.specs.declared.verdict.Verdict.{Verdict}
 use Rattle.monitor_model.specs.declared.verdict.Verdict.TheVariants as verdict
 use Rattle.monitor_model.specs.Course.{Answers, Speaker, called, got_frame, is_declared, noted_frame, verdict_frame}
 use Rattle.monitor_model.specs.Entered.{Exchange, exchanges_at, is_for, log_exchange, proxy_exchange, pubd_exchange, tells_entry}
-use Rattle.monitor_model.specs.Lines.{PlaceFits}
+use Rattle.okws_plan.specs.Lines.{PlaceFits}
 use Rattle.monitor_model.specs.Logd.{log_verdict}
 use Rattle.monitor_model.specs.Played.{record_of}
 use Rattle.monitor_model.specs.Proxy.{call_verdict, open_verdict}

@@ -15,18 +15,20 @@ use Rattle.okws_plan.specs.declared.event.ProxyEvent.TheVariants as proxy
 use Rattle.okws_plan.specs.declared.event.PubdEvent.{PubdEvent}
 use Rattle.okws_plan.specs.declared.event.PubdEvent.TheVariants as pubd
 use Rattle.token_core.specs.Token.{token_of}
+use Rattle.monitor_model.specs.declared.record.CellEvent.{CellEvent}
 use Rattle.monitor_model.specs.declared.record.CellEvent.TheVariants as cell
 use Rattle.monitor_model.specs.declared.record.End.{End}
 use Rattle.monitor_model.specs.declared.record.End.TheVariants as end
 use Rattle.monitor_model.specs.Cell.{incarnation}
 use Rattle.monitor_model.specs.Entered.{entered, entered_by, exchanges, exchanges_at, log_exchange, proxy_exchange, pubd_exchange}
-use Rattle.monitor_model.specs.Lines.{PlaceFits}
-use Rattle.monitor_model.specs.Played.{record_of}
+use Rattle.okws_plan.specs.Lines.{PlaceFits}
+use Rattle.monitor_model.specs.Played.{record_of, with_open}
 use Rattle.monitor_model.specs.Seen.{proxy_past}
 use Rattle.monitor_model.specs.Stage.{Stage, Stand, Opened, stand, with_seen}
 use Rattle.monitor_model.specs.Standing.{up_at_okd}
-use Rattle.monitor_model.specs.Script.{entry, at_log, at_proxy, at_pubd, greatest, begins, closed, superseded, superseded_if, retired, freshly_booted, booted, installed, installed_all, revoked, revoke_place, revoked_all, stands_of, downed, down_okd, upped, launched, launched_rest, taken_down, relaunched}
+use Rattle.monitor_model.specs.Script.{entry, at_log, at_proxy, at_pubd, greatest, begins, closed, superseded, superseded_if, retired, freshly_booted, booted, installed, installed_all, revoked, revoke_place, revoked_all, stands_of, downed, down_okd, upped, launched, launched_rest, taken_down, relaunched, settled}
 use Rattle.monitor_model.proofs.Lawful.Kept.{IsGood}
+use Rattle.monitor_model.proofs.Lawful.Settled.{closed_there, retired_there, settled_keeps}
 use Rattle.monitor_model.proofs.Lawful.Stages.{open_is_declared, IsBootable, IsShut, IsEmpty, superseded_is_shut, retired_is_empty, retired_stage}
 use Rattle.monitor_model.proofs.Lawful.Launches.{begins_is_launchable, installed_is_bootable, revoked_is_launchable, taken_down_is_launchable}
 use Rattle.monitor_model.proofs.Lawful.Records.{journal}
@@ -124,8 +126,9 @@ entered_cell C S now s there keeps same declared here all t k at fits =
 pub entered_closed : (C : Config) (s : ℕ) (was opened : Opened) (how : End) (S : Stage) → AreEntered C S → (stand S s).open_dialog ≡ Some was → ((at : Place) → entered at opened.items ≡ entered at was.items)
     → AreEntered C (closed s opened how S)
 entered_closed C s was opened how S all is same =
-    let there : Stand = record (stand S s) { past = cell.Dialog (record { worker = 0; items = opened.items; end = how }) ∷ (stand S s).past; open_dialog = None } in
-    entered_cell C S (closed s opened how S) s there (keeps_same C S (closed s opened how S) refl refl refl) refl (open_is_declared s S.stands was is) (λ k at. rw (is, same at) refl) all
+    let there : Stand = closed_there opened.items how (stand S s) in
+    entered_cell C S (closed s opened how S) s (settled there) (keeps_same C S (closed s opened how S) refl refl refl) refl (open_is_declared s S.stands was is)
+    (λ k at. settled_keeps (λ (J : List CellEvent) (o : Option Opened). entered_by at k (with_open o J) ≡ entered_by at k (journal (stand S s))) there (rw (is, same at) refl)) all
 
 entered_superseded_if : (C : Config) (s : ℕ) (o : Option Opened) (S : Stage) → AreEntered C S → (stand S s).open_dialog ≡ o → AreEntered C (superseded_if s o S)
 entered_superseded_if C s None S all is = all
@@ -138,7 +141,7 @@ entered_superseded C s S all = entered_superseded_if C s (stand S s).open_dialog
 entered_retired_when : (C : Config) (s : ℕ) (S : Stage) (b : Bool) → AreEntered C S → s < length S.stands → (stand S s).open_dialog ≡ None → AreEntered C (cond b S (retired_stage s S))
 entered_retired_when C s S true all declared shut = all
 entered_retired_when C s S false all declared shut =
-    let there : Stand = record (stand S s) { past = cell.Retired ∷ (stand S s).past } in
+    let there : Stand = retired_there (stand S s) in
     entered_cell C S (retired_stage s S) s there (keeps_same C S (retired_stage s S) refl refl refl) refl declared (λ k at. rw shut refl) all
 
 entered_emptied : (C : Config) (seed : List ℕ) (s : ℕ) (S : Stage) → IsBootable C seed s S → AreEntered C S → AreEntered C (retired s (superseded s S))

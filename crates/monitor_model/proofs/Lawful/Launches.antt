@@ -17,7 +17,7 @@ use Rattle.okws_plan.specs.declared.event.LogEvent.TheVariants as oklogd
 use Rattle.monitor_model.specs.Standing.{proxy_grant, pubd_grant, log_grant, up_at_okd}
 use Rattle.monitor_model.specs.Launcher.{begun}
 use Rattle.monitor_model.specs.Cell.{incarnation, last_booted}
-use Rattle.monitor_model.specs.Lines.{PlaceFits}
+use Rattle.okws_plan.specs.Lines.{PlaceFits}
 use Rattle.monitor_model.specs.Seen.{Seen, proxy_past}
 use Rattle.monitor_model.specs.Stage.{Stage, Opened, stand, with_seen}
 use Rattle.monitor_model.specs.Script.{entry, at_proxy, greatest, begins, installed, install_place, installed_all, revoked, revoke_place, stands_of, revoked_all, downed, down_okd, superseded, superseded_if, retired, booted, last_at, launched, launched_rest, taken_down, relaunched}

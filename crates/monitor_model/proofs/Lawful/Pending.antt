@@ -6,6 +6,7 @@ use Rattle.okws_plan.specs.Configuration.{cols, all_places}
 use Rattle.okws_plan.specs.declared.configuration.Config.{Config}
 use Rattle.okws_plan.specs.declared.script.Place.{Place}
 use Rattle.frame_codec.specs.declared.frame.ServiceFrame.{ServiceFrame}
+use Rattle.monitor_model.specs.declared.record.CellEvent.{CellEvent}
 use Rattle.monitor_model.specs.declared.record.CellEvent.TheVariants as cell
 use Rattle.monitor_model.specs.declared.record.End.{End}
 use Rattle.monitor_model.specs.declared.record.End.TheVariants as end
@@ -17,9 +18,10 @@ use Rattle.monitor_model.specs.Launcher.{begun}
 use Rattle.monitor_model.specs.Replied.{asking, replies, request_of}
 use Rattle.monitor_model.specs.Stage.{Stage, Stand, Opened, Asked, answer_line, empty_stand, heard_line, stand, with_seen}
 use Rattle.monitor_model.specs.Standing.{up_at_okd}
-use Rattle.monitor_model.specs.Script.{begins, booted, booting_text, closed, closing_text, continued, downed, freshly_booted, greatest, heard_said, installed, installed_all, launched, marked_begun, relaunched, request_method, retired, revoked, revoked_all, said_end, superseded, superseded_if, superseded_text, taken_down, upped, Advances, GoesOn, Takes}
+use Rattle.monitor_model.specs.Script.{begins, booted, booting_text, closed, closing_text, continued, downed, freshly_booted, greatest, heard_said, installed, installed_all, launched, marked_begun, relaunched, request_method, retired, revoked, revoked_all, said_end, superseded, superseded_if, superseded_text, taken_down, upped, Advances, GoesOn, Takes, settled}
 use Rattle.monitor_model.specs.Told.{ToldAnswer}
 use Rattle.monitor_model.proofs.Lawful.Kept.{IsGood}
+use Rattle.monitor_model.proofs.Lawful.Settled.{closed_there, retired_there, settled_keeps}
 use Rattle.monitor_model.proofs.Lawful.Stages.{open_is_declared, IsBootable, IsEmpty, superseded_is_shut, retired_is_empty, retired_stage}
 use Rattle.monitor_model.proofs.Lawful.Launches.{begins_is_launchable, installed_is_bootable, revoked_is_launchable, taken_down_is_launchable}
 use Rattle.monitor_model.proofs.Lawful.Hearing.{stand_when}
@@ -47,8 +49,10 @@ replies_columns C S now all requests same = replies_nothing C S now all requests
 -- a dialog ends
 replies_ended : (C : Config) (s : ℕ) (was opened : Opened) (how : End) (text : List ℕ) (S : Stage) → AreAsking S → (stand S s).open_dialog ≡ Some was → Replies C S (answer_line was.request text) (closed s opened how S)
 replies_ended C s was opened how text S all is =
-    let there : Stand = record (stand S s) { past = cell.Dialog (record { worker = 0; items = opened.items; end = how }) ∷ (stand S s).past; open_dialog = None } in
-    replies_closed C S (closed s opened how S) s was.request text all refl (ap request_of is) (ask_here s S.stands there (open_is_declared s S.stands was is)) (λ t apart. ask_other s t S.stands there apart)
+    let ended : Stand = closed_there opened.items how (stand S s) in
+    let there : Stand = settled ended in
+    let none : request_of there.open_dialog ≡ None = settled_keeps (λ (J : List CellEvent) (o : Option Opened). request_of o ≡ None) ended refl in
+    replies_closed C S (closed s opened how S) s was.request text all refl (ap request_of is) (ask_here s S.stands there (open_is_declared s S.stands was is) ∙ none) (λ t apart. ask_other s t S.stands there apart)
 
 replies_superseded_if : (C : Config) (s : ℕ) (o : Option Opened) (S other : Stage) → AreAsking S → (stand S s).open_dialog ≡ o → Replies C S (superseded_text s o other) (superseded_if s o S)
 replies_superseded_if C s None S other all is = replies_columns C S S all refl refl
@@ -62,7 +66,7 @@ replies_superseded C s o S other all is = rw is (replies_superseded_if C s o S o
 replies_retired_when : (C : Config) (s : ℕ) (S : Stage) (b : Bool) → AreAsking S → s < length S.stands → Replies C S [] (cond b S (retired_stage s S))
 replies_retired_when C s S true all declared = replies_columns C S S all refl refl
 replies_retired_when C s S false all declared =
-    replies_nothing C S (retired_stage s S) all refl (ask_same s S.stands (record (stand S s) { past = cell.Retired ∷ (stand S s).past }) declared refl)
+    replies_nothing C S (retired_stage s S) all refl (ask_same s S.stands (retired_there (stand S s)) declared refl)
 
 replies_emptied : (C : Config) (seed : List ℕ) (s : ℕ) (o : Option Opened) (S other : Stage) → IsBootable C seed s S → AreAsking S → (stand S s).open_dialog ≡ o
     → Replies C S (superseded_text s o other) (retired s (superseded s S))

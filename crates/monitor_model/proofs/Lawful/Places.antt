@@ -6,7 +6,7 @@ use Rattle.okws_plan.specs.Configuration.{cols, all_places, numbered_from, grant
 use Rattle.okws_plan.specs.declared.configuration.Config.{Config}
 use Rattle.okws_plan.specs.declared.script.Place.{Place}
 use Rattle.okws_plan.specs.declared.script.Place.TheVariants.{Proxy, Pubd, Oklogd}
-use Rattle.monitor_model.specs.Lines.{PlaceFits}
+use Rattle.okws_plan.specs.Lines.{PlaceFits}
 use Rattle.monitor_model.proofs.Lawful.Plain.{each_more}
 
 -- Two places are not the same.

@@ -11,7 +11,7 @@ use Rattle.monitor_model.specs.declared.record.CellEvent.{CellEvent}
 use Rattle.monitor_model.specs.Columns.{faults}
 use Rattle.monitor_model.specs.Legal.{IsLawful}
 use Rattle.monitor_model.specs.Unharmed.{IsUnharmed, is_wanting}
-use Rattle.monitor_model.specs.Lines.{LineFits}
+use Rattle.okws_plan.specs.Lines.{LineFits}
 use Rattle.monitor_model.specs.Merged.{IsMerged, IsOwn, are_below, is_cell_below, cell_past, list_of}
 use Rattle.monitor_model.specs.Seen.{proxy_past}
 use Rattle.monitor_model.specs.Stage.{Stage, Stand, stand, first_stage, empty_stand}

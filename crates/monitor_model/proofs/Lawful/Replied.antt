@@ -1,5 +1,5 @@
 -- Each request of a run is answered once, or waits.
-use Rattle.std.proofs.Common.{◌≡◌, ◌≢◌, inl, inr, ℕ, zero, suc, ◌+◌, ◌<◌, Bool, true, false, ◌&&◌, not, cond, List, [], ◌∷◌, ◌++◌, Some, None, map, refl, ap, sym, ◌∙◌, arith, length, ◌==◌, is_some, eq-eqb, eqb-true, append-nil, add-zero, reverse, subst}
+use Rattle.std.proofs.Common.{◌≡◌, ◌≢◌, inl, inr, ℕ, zero, suc, ◌+◌, ◌<◌, Bool, true, false, ◌&&◌, not, cond, List, [], ◌∷◌, ◌++◌, Some, None, map, refl, ap, sym, ◌∙◌, arith, length, ◌==◌, is_some, eq-eqb, eqb-true, append-nil, add-zero, reverse, subst, Option}
 use Rattle.std.specs.Prelude.{slice_get}
 use Rattle.std.proofs.lemmas.Bool.{eqb-false}
 use Rattle.okws_base.specs.Runs.{Each}
@@ -11,6 +11,8 @@ use Rattle.frame_codec.specs.declared.frame.ServerFrame.{ServerFrame}
 use Rattle.frame_codec.specs.declared.frame.ServerFrame.TheVariants as frame
 use Rattle.http_text.specs.Response.{own_response}
 use Rattle.http_text.specs.Target.{path}
+use Rattle.monitor_model.proofs.Lawful.Settled.{closed_there, settled_keeps}
+use Rattle.monitor_model.specs.declared.record.CellEvent.{CellEvent}
 use Rattle.monitor_model.specs.declared.record.CellEvent.TheVariants as cell
 use Rattle.monitor_model.specs.declared.record.End.TheVariants as end
 use Rattle.monitor_model.specs.declared.record.Own.TheVariants as own
@@ -20,12 +22,12 @@ use Rattle.monitor_model.specs.declared.verdict.Way.TheVariants as way
 use Rattle.monitor_model.specs.Cell.{incarnation, last_booted}
 use Rattle.monitor_model.specs.Course.{opening, push_frame}
 use Rattle.monitor_model.specs.Launcher.{begun}
-use Rattle.monitor_model.specs.Lines.{LineFits}
+use Rattle.okws_plan.specs.Lines.{LineFits}
 use Rattle.monitor_model.specs.Okd.{accept_verdict}
 use Rattle.monitor_model.specs.Pubd.{drain_verdict}
 use Rattle.monitor_model.specs.Replied.{AnswersOnce, answers_to, asking, replies, replies_of, request_of}
-use Rattle.monitor_model.specs.Stage.{Stage, Stand, Asked, answer_line, empty_stand, first_stage, method_text, request_head, stand, with_item, with_seen}
-use Rattle.monitor_model.specs.Script.{at_pubd, begins, broken, closed, dialog_opened, downed, given, goes_of, greatest, has_ended, installed, is_busy_request, is_pending, marked, marked_begun, missed, opening_text, revoked, upped, way_text, Begun, Does, PlaysAll, refusal}
+use Rattle.monitor_model.specs.Stage.{Stage, Stand, Asked, answer_line, empty_stand, first_stage, method_text, request_head, stand, with_item, with_seen, Opened}
+use Rattle.monitor_model.specs.Script.{at_pubd, begins, broken, closed, dialog_opened, downed, given, goes_of, greatest, has_ended, installed, is_busy_request, is_pending, marked, marked_begun, missed, opening_text, revoked, upped, way_text, Begun, Does, PlaysAll, refusal, settled}
 use Rattle.monitor_model.specs.Told.{Told, ToldAnswer, ToldFrame, told_text}
 use Rattle.monitor_model.proofs.Lawful.Plain.{each_reverse, replicate_at, none_some}
 use Rattle.monitor_model.proofs.Lawful.Kept.{IsGood}
@@ -90,7 +92,8 @@ replies_begun C n s k asked S text now all p declared (inr (inl begun)) =
     rw (begun.2, begun.3)
     (replies_at_once C n s k asked (own_response 503 (method_text asked.method)) S
     (closed s (record { request = n; items = [] }) (end.Superseded (greatest S s)) (with_item (marked n S) (own.Dialog s))) all p refl
-    (ask_same s S.stands (record (stand S s) { past = cell.Dialog (record { worker = 0; items = []; end = end.Superseded (greatest S s) }) ∷ (stand S s).past; open_dialog = None }) declared (sym p.shut)))
+    (ask_same s S.stands (settled (closed_there [] (end.Superseded (greatest S s)) (stand S s))) declared
+    (settled_keeps (λ (J : List CellEvent) (o : Option Opened). request_of o ≡ request_of (stand S s).open_dialog) (closed_there [] (end.Superseded (greatest S s)) (stand S s)) (sym p.shut))))
 replies_begun C n s k asked S text now all p declared (inr (inr begun)) =
     let first : Replies C S (opening_text C s k asked (marked n S)) (dialog_opened C n s k asked (marked n S)) = replies_opened C n s k asked S all p declared in
     rw begun.5

@@ -11,6 +11,7 @@ use Rattle.okws_plan.specs.declared.event.ProxyEvent.{ProxyEvent}
 use Rattle.okws_plan.specs.declared.event.PubdEvent.{PubdEvent}
 use Rattle.okws_plan.specs.declared.event.LogEvent.{LogEvent}
 use Rattle.okws_plan.specs.declared.event.LauncherEvent.TheVariants as launcher
+use Rattle.monitor_model.specs.declared.record.CellEvent.{CellEvent}
 use Rattle.monitor_model.specs.declared.record.CellEvent.TheVariants as cell
 use Rattle.monitor_model.specs.declared.record.End.{End}
 use Rattle.monitor_model.specs.declared.record.End.TheVariants as end
@@ -23,8 +24,9 @@ use Rattle.monitor_model.specs.Cell.{incarnation, last_booted}
 use Rattle.monitor_model.specs.Merged.{is_at_cell}
 use Rattle.monitor_model.specs.Seen.{proxy_past}
 use Rattle.monitor_model.specs.Stage.{Stage, Stand, Opened, empty_stand, stand, with_stand, with_seen, with_item}
-use Rattle.monitor_model.specs.Script.{entry, at_okd, at_proxy, at_pubd, at_log, greatest, begins, closed, superseded_if, superseded, retired, freshly_booted, booted, upped, downed, down_okd}
+use Rattle.monitor_model.specs.Script.{entry, at_okd, at_proxy, at_pubd, at_log, greatest, begins, closed, superseded_if, superseded, retired, freshly_booted, booted, upped, downed, down_okd, settled}
 use Rattle.monitor_model.proofs.Lawful.Plain.{none_some}
+use Rattle.monitor_model.proofs.Lawful.Settled.{closed_there, retired_there, settled_keeps}
 use Rattle.monitor_model.proofs.Lawful.Kept.{EndFits, CellKept, IsGood}
 use Rattle.monitor_model.proofs.Lawful.Columns.{UpFits, GrantFits, IsNote, seen_okd, seen_proxy, seen_pubd, seen_log, seen_begun, seen_noted, begun_grows}
 use Rattle.monitor_model.proofs.Lawful.Cells.{StandKept, cell_above, cell_booted, cell_retired, cell_closed, cell_went_on, stands_with}
@@ -112,10 +114,11 @@ pub good_closed : (C : Config) (seed : List ℕ) (s : ℕ) (was opened : Opened)
     → IsGood C seed (closed s opened how S)
 good_closed C seed s was opened how S g is fits =
     let kept : CellKept s (Some was) (stand S s).past (filter (is_at_cell s) S.seen.own) (greatest S s) = rw is at (g.cells s) in
-    good_stand C seed s (record (stand S s) { past = cell.Dialog (record { worker = 0; items = opened.items; end = how }) ∷ (stand S s).past; open_dialog = None }) S g
+    good_stand C seed s (settled (closed_there opened.items how (stand S s))) S g
     (open_is_declared s S.stands was is)
+    (settled_keeps (λ (J : List CellEvent) (o : Option Opened). CellKept s o J (filter (is_at_cell s) S.seen.own) (greatest S s)) (closed_there opened.items how (stand S s))
     (cell_closed s opened how (stand S s).past (filter (is_at_cell s) S.seen.own) (greatest S s)
-    (cell_went_on s was opened (stand S s).past (filter (is_at_cell s) S.seen.own) (greatest S s) kept) fits)
+    (cell_went_on s was opened (stand S s).past (filter (is_at_cell s) S.seen.own) (greatest S s) kept) fits))
 
 superseded_keeps : (C : Config) (seed : List ℕ) (s : ℕ) (o : Option Opened) (S : Stage) → (stand S s).open_dialog ≡ o → IsGood C seed S → IsGood C seed (superseded_if s o S)
 superseded_keeps C seed s None S is g = g
@@ -158,14 +161,15 @@ pub record IsEmpty (C : Config) (seed : List ℕ) (s : ℕ) (S : Stage) : Type 0
 bootable_superseded : (C : Config) (seed : List ℕ) (s : ℕ) (o : Option Opened) (S : Stage) → (stand S s).open_dialog ≡ o → IsBootable C seed s S → IsShut C seed s (superseded_if s o S)
 bootable_superseded C seed s None S is b = record { bootable = b; shut = is }
 bootable_superseded C seed s (Some opened) S is b =
-    let there : Stand = record (stand S s) { past = cell.Dialog (record { worker = 0; items = opened.items; end = end.Superseded (greatest S s) }) ∷ (stand S s).past; open_dialog = None } in
+    let ended : Stand = closed_there opened.items (end.Superseded (greatest S s)) (stand S s) in
+    let there : Stand = settled ended in
     record {
       bootable = record {
         good = good_closed C seed s opened opened (end.Superseded (greatest S s)) S b.good is (le_refl (greatest S s), refl);
         declared = rw (length-set S.stands s there) b.declared;
-        fresh = rw (get_or-set_same S.stands s there empty_stand b.declared) b.fresh;
+        fresh = rw (get_or-set_same S.stands s there empty_stand b.declared) (settled_keeps (λ (J : List CellEvent) (o : Option Opened). last_booted J < greatest S s) ended b.fresh);
       };
-      shut = rw (get_or-set_same S.stands s there empty_stand b.declared) refl;
+      shut = rw (get_or-set_same S.stands s there empty_stand b.declared) (settled_keeps (λ (J : List CellEvent) (o : Option Opened). o ≡ None) ended refl);
     }
 
 pub superseded_is_shut : (C : Config) (seed : List ℕ) (s : ℕ) (S : Stage) → IsBootable C seed s S → IsShut C seed s (superseded s S)
@@ -173,12 +177,12 @@ superseded_is_shut C seed s S b = bootable_superseded C seed s (stand S s).open_
 
 -- The cell's state once it is retired.
 abbrev pub retired_stage : ℕ → Stage → Stage
-retired_stage s S = with_item (with_stand S s (record (stand S s) { past = cell.Retired ∷ (stand S s).past })) (own.Retired s)
+retired_stage s S = with_item (with_stand S s (retired_there (stand S s))) (own.Retired s)
 
 retired_when : (C : Config) (seed : List ℕ) (s : ℕ) (S : Stage) → IsShut C seed s S → (b : Bool) → (incarnation (stand S s).past == 0) ≡ b → IsEmpty C seed s (cond b S (retired_stage s S))
 retired_when C seed s S b true is = record { bootable = b.bootable; shut = b.shut; empty = eqb-true (incarnation (stand S s).past) 0 is }
 retired_when C seed s S b false is =
-    let there : Stand = record (stand S s) { past = cell.Retired ∷ (stand S s).past } in
+    let there : Stand = retired_there (stand S s) in
     let kept : CellKept s None (stand S s).past (filter (is_at_cell s) S.seen.own) (greatest S s) = rw b.shut at (b.bootable.good.cells s) in
     let now : CellKept s None (cell.Retired ∷ (stand S s).past) (own.Retired s ∷ filter (is_at_cell s) S.seen.own) (greatest S s)
     = cell_retired s (stand S s).past (filter (is_at_cell s) S.seen.own) (greatest S s) kept (eqb-false (incarnation (stand S s).past) 0 is) in

@@ -8,6 +8,7 @@ use Rattle.okws_plan.specs.declared.script.Place.TheVariants.{Proxy, Pubd, Oklog
 use Rattle.frame_codec.specs.Spelling.{server_spelling}
 use Rattle.frame_codec.specs.declared.frame.ServiceFrame.{ServiceFrame}
 use Rattle.frame_codec.specs.declared.frame.ServerFrame.{ServerFrame}
+use Rattle.monitor_model.specs.declared.record.CellEvent.{CellEvent}
 use Rattle.monitor_model.specs.declared.record.CellEvent.TheVariants as cell
 use Rattle.monitor_model.specs.declared.record.Item.TheVariants.{Heard, Said}
 use Rattle.monitor_model.specs.declared.record.End.{End}
@@ -18,9 +19,10 @@ use Rattle.monitor_model.specs.Answering.{end_response}
 use Rattle.monitor_model.specs.Launcher.{begun}
 use Rattle.monitor_model.specs.Seen.{Seen}
 use Rattle.monitor_model.specs.Stage.{Stage, Stand, Opened, empty_stand, stand, heard_line, answer_line}
-use Rattle.monitor_model.specs.Script.{greatest, begins, installed, install_place, installed_all, revoked, revoked_all, stands_of, downed, down_okd, closed, superseded_if, superseded_text, superseded, retired, freshly_booted, booted, booting_text, launched, taken_down, relaunched, continued, heard_said, said_end, closing_text, request_method, Takes, Advances, GoesOn}
+use Rattle.monitor_model.specs.Script.{greatest, begins, installed, install_place, installed_all, revoked, revoked_all, stands_of, downed, down_okd, closed, superseded_if, superseded_text, superseded, retired, freshly_booted, booted, booting_text, launched, taken_down, relaunched, continued, heard_said, said_end, closing_text, request_method, Takes, Advances, GoesOn, settled}
 use Rattle.monitor_model.specs.Played.{with_open}
 use Rattle.monitor_model.proofs.Lawful.Kept.{IsGood}
+use Rattle.monitor_model.proofs.Lawful.Settled.{closed_there, retired_there, settled_keeps}
 use Rattle.monitor_model.proofs.Lawful.Stages.{open_is_declared, IsBootable, IsShut, IsEmpty, superseded_is_shut, retired_is_empty, retired_stage}
 use Rattle.monitor_model.proofs.Lawful.Launches.{begins_is_launchable, installed_is_bootable, revoked_is_launchable, taken_down_is_launchable, greatest_revoke}
 use Rattle.monitor_model.specs.Standing.{up_at_okd}
@@ -35,8 +37,10 @@ heard_closed C seed s was opened how there k is same = rw (is, same) refl
 adds_closed : (C : Config) (seed : List ℕ) (s n : ℕ) (text : List ℕ) (was opened : Opened) (how : End) (S : Stage) → (stand S s).open_dialog ≡ Some was → heard_text opened.items ≡ heard_text was.items
     → Adds C seed S.stands (answer_line n text) (closed s opened how S).stands
 adds_closed C seed s n text was opened how S is same =
-    adds_answer C seed s n text S.stands (record (stand S s) { past = cell.Dialog (record { worker = 0; items = opened.items; end = how }) ∷ (stand S s).past; open_dialog = None })
-    (open_is_declared s S.stands was is) (λ k. heard_closed C seed s was opened how (stand S s) k is same)
+    let there : Stand = closed_there opened.items how (stand S s) in
+    adds_answer C seed s n text S.stands (settled there) (open_is_declared s S.stands was is)
+    (λ k. settled_keeps (λ (J : List CellEvent) (o : Option Opened). heard C seed s k (with_open o J) ≡ heard C seed s k (journal (stand S s))) there
+    (heard_closed C seed s was opened how (stand S s) k is same))
 
 adds_superseded_if : (C : Config) (seed : List ℕ) (s : ℕ) (o : Option Opened) (S other : Stage) → (stand S s).open_dialog ≡ o → Adds C seed S.stands (superseded_text s o other) (superseded_if s o S).stands
 adds_superseded_if C seed s None S other is = adds_nothing C seed S.stands
@@ -52,7 +56,7 @@ heard_retired C seed s there k is = rw is (append-nil (heard C seed s k there.pa
 adds_retired_when : (C : Config) (seed : List ℕ) (s : ℕ) (S : Stage) (b : Bool) → s < length S.stands → (stand S s).open_dialog ≡ None → Adds C seed S.stands [] (cond b S (retired_stage s S)).stands
 adds_retired_when C seed s S true declared shut = adds_nothing C seed S.stands
 adds_retired_when C seed s S false declared shut =
-    adds_quiet C seed s S.stands (record (stand S s) { past = cell.Retired ∷ (stand S s).past }) declared (λ k. heard_retired C seed s (stand S s) k shut)
+    adds_quiet C seed s S.stands (retired_there (stand S s)) declared (λ k. heard_retired C seed s (stand S s) k shut)
 
 adds_retired : (C : Config) (seed : List ℕ) (s : ℕ) (S : Stage) → IsShut C seed s S → Adds C seed S.stands [] (retired s S).stands
 adds_retired C seed s S b = adds_retired_when C seed s S (incarnation (stand S s).past == 0) b.bootable.declared b.shut

@@ -1,5 +1,5 @@
 -- A run tells all that was heard.
-use Rattle.std.proofs.Common.{◌≡◌, inl, inr, ℕ, ◌<◌, Bool, true, false, cond, List, [], ◌∷◌, ◌++◌, Some, None, map, reverse, refl, ap, sym, ◌∙◌, length, ◌==◌, append-nil}
+use Rattle.std.proofs.Common.{◌≡◌, inl, inr, ℕ, ◌<◌, Bool, true, false, cond, List, [], ◌∷◌, ◌++◌, Some, None, map, reverse, refl, ap, sym, ◌∙◌, length, ◌==◌, append-nil, Option}
 use Rattle.std.specs.Prelude.{flat_map}
 use Rattle.std.proofs.lemmas.Grind.{flat_map-append}
 use Rattle.std.proofs.lemmas.List.Folds.{flat_map-map}
@@ -12,6 +12,7 @@ use Rattle.frame_codec.specs.declared.frame.ServerFrame.{ServerFrame}
 use Rattle.frame_codec.specs.declared.frame.ServerFrame.TheVariants as frame
 use Rattle.http_text.specs.Response.{own_response}
 use Rattle.http_text.specs.Target.{path}
+use Rattle.monitor_model.specs.declared.record.CellEvent.{CellEvent}
 use Rattle.monitor_model.specs.declared.record.CellEvent.TheVariants as cell
 use Rattle.monitor_model.specs.declared.record.End.TheVariants as end
 use Rattle.monitor_model.specs.declared.verdict.Push.{Push}
@@ -21,12 +22,13 @@ use Rattle.monitor_model.specs.Cell.{heard, incarnation, last_booted}
 use Rattle.monitor_model.specs.Course.{opening, push_frame}
 use Rattle.monitor_model.specs.Okd.{accept_verdict}
 use Rattle.monitor_model.specs.Pubd.{drain_verdict}
-use Rattle.monitor_model.specs.Stage.{Stage, Stand, Asked, empty_stand, stand, heard_line, answer_line, first_stage, method_text}
-use Rattle.monitor_model.specs.Script.{greatest, way_text, pushes_text, opening_text, missed, dialog_opened, Begun, given, has_ended, marked, Does, PlaysAll, refusal}
-use Rattle.monitor_model.specs.Lines.{LineFits}
+use Rattle.monitor_model.specs.Stage.{Stage, Stand, Asked, empty_stand, stand, heard_line, answer_line, first_stage, method_text, Opened}
+use Rattle.monitor_model.specs.Script.{greatest, way_text, pushes_text, opening_text, missed, dialog_opened, Begun, given, has_ended, marked, Does, PlaysAll, refusal, settled}
+use Rattle.okws_plan.specs.Lines.{LineFits}
 use Rattle.monitor_model.specs.Told.{TellsAll, told_to}
 use Rattle.monitor_model.specs.Played.{with_open, record_of}
 use Rattle.monitor_model.proofs.Lawful.Plain.{replicate_at, each_reverse}
+use Rattle.monitor_model.proofs.Lawful.Settled.{closed_there, settled_keeps}
 use Rattle.monitor_model.proofs.Lawful.Kept.{IsGood}
 use Rattle.monitor_model.proofs.Lawful.Lines.{MayBegin, dialog_may_begin, good_install}
 use Rattle.monitor_model.proofs.Lawful.Records.{journal, cell_is, good_run}
@@ -77,8 +79,9 @@ adds_begun C seed n s k asked S text now may (inl begun) = rw (begun.1, begun.2)
 adds_begun C seed n s k asked S text now may (inr (inl begun)) =
     rw (begun.2, begun.3)
     (adds_answer C seed s n (own_response 503 (method_text asked.method)) S.stands
-    (record (stand S s) { past = cell.Dialog (record { worker = 0; items = []; end = end.Superseded (greatest S s) }) ∷ (stand S s).past; open_dialog = None }) may.declared
-    (λ j. heard_at_once C seed s (greatest S s) (stand S s) j may.shut))
+    (settled (closed_there [] (end.Superseded (greatest S s)) (stand S s))) may.declared
+    (λ j. settled_keeps (λ (J : List CellEvent) (o : Option Opened). heard C seed s j (with_open o J) ≡ heard C seed s j (journal (stand S s)))
+    (closed_there [] (end.Superseded (greatest S s)) (stand S s)) (heard_at_once C seed s (greatest S s) (stand S s) j may.shut)))
 adds_begun C seed n s k asked S text now may (inr (inr begun)) =
     rw begun.5
     (adds_then C seed S.stands (dialog_opened C n s k asked S).stands now.stands (opening_text C s k asked S) begun.3

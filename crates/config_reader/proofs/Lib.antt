@@ -1,0 +1,12 @@
+mod Fits
+mod FirstWord
+mod FirstLine
+mod Plans
+mod ByteSets
+mod Kept
+mod Lists
+mod Unbroken
+mod Sound
+mod SoundPlans
+mod Ruled
+mod SoundMeaning

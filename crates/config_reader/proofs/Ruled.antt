@@ -1,0 +1,107 @@
+-- A lawful file gives queries that keep the rules of the query language for the tables of their proxy.
+use Rattle.std.proofs.Common.{◌≡◌, ℕ, suc, zero, Bool, true, false, List, [], ◌∷◌, ◌++◌, length, ◌<◌, nat_lt, Option, Some, None, Result, Ok, Err, refl, sym, ap, ◌∙◌, arith}
+use Rattle.std.specs.Prelude.{slice_get, option_and_then}
+use Rattle.std.specs.List.{list_all}
+use Rattle.std.specs.Result.{result_ok}
+use Rattle.std.proofs.lemmas.Bool.{and_parts, and_from, ltb-true}
+use Rattle.okws_base.specs.declared.value.Value.{Value}
+use Rattle.okws_plan.specs.Configuration.{tables_of, queries_of}
+use Rattle.okws_plan.specs.Meaning.{columns_in, columns_of}
+use Rattle.okws_plan.specs.Rules.{keeps_rules}
+use Rattle.okws_plan.specs.declared.configuration.Column.{Column}
+use Rattle.okws_plan.specs.declared.configuration.Config.{Config}
+use Rattle.okws_plan.specs.declared.configuration.ProxyPlan.{ProxyPlan}
+use Rattle.okws_plan.specs.declared.configuration.Query.{Query}
+use Rattle.okws_plan.specs.declared.configuration.Table.{Table}
+use Rattle.okws_plan.specs.declared.statement.Statement.{Statement}
+use Rattle.okws_plan.proofs.Rules.{all_keep_rules}
+use Rattle.statement_core.proofs.KeepsForms.{compiled_keeps}
+use Rattle.statement_core.specs.Compiled.{compiled}
+use Rattle.statement_core.specs.declared.error.Refusal.{Refusal}
+use Rattle.statement_core.specs.Tokens.{decimal}
+use Rattle.config_reader.specs.Above.{Above, proxy_number, plan_of, tables_at, table_number}
+use Rattle.config_reader.specs.After.{after, with_plan, with_table, with_row, with_row_in, with_query, table_of, changed_at}
+use Rattle.config_reader.specs.Broken.{row_values, statement_at}
+use Rattle.config_reader.specs.Declarations.{ColumnWords, Proxy, Table as TableLine, Row, Query as QueryLine}
+use Rattle.config_reader.specs.Ruled.{AreRuled}
+use Rattle.config_reader.proofs.Lists.{list_all_push, list_all_weaker, all_changed, length_changed, seen_changed, lt_push}
+
+-- each query of a proxy keeps the rules for the proxy's tables
+abbrev pub is_ruled : ProxyPlan → Bool
+is_ruled plan = list_all (λ (x : Query). keeps_rules plan.tables x.statement) plan.queries
+
+-- each query of each proxy does
+abbrev pub are_ruled : Config → Bool
+are_ruled C = list_all is_ruled C.proxies
+
+ruled_at : (plans : List ProxyPlan) (p : ℕ) → list_all is_ruled plans ≡ true → list_all (λ (x : Query). keeps_rules (tables_of (slice_get plans p)) x.statement) (queries_of (slice_get plans p)) ≡ true
+ruled_at [] p h = refl
+ruled_at (plan ∷ more) zero h = (and_parts (is_ruled plan) (list_all is_ruled more) h).0
+ruled_at (plan ∷ more) (suc p) h = ruled_at more p (and_parts (is_ruled plan) (list_all is_ruled more) h).1
+
+pub ruled_from : (C : Config) → are_ruled C ≡ true → AreRuled C
+ruled_from C h p = all_keep_rules C p (ruled_at C.proxies p h)
+
+-- tables that are as many and have the same columns
+
+keeps_like : (ts us : List Table) (st : Statement) → length us ≡ length ts → columns_of us st.table ≡ columns_of ts st.table → keeps_rules ts st ≡ true → keeps_rules us st ≡ true
+keeps_like ts us st len columns h = rw (len, columns) h
+
+-- one table more
+
+below_push : (ts : List Table) (t : Table) (n : ℕ) → n < length ts → slice_get (ts ++ t ∷ []) n ≡ slice_get ts n
+below_push [] t n h = absurd (omega arith)
+below_push (x ∷ ts) t zero h = refl
+below_push (x ∷ ts) t (suc n) h = below_push ts t n (omega arith)
+
+keeps_more : (ts : List Table) (t : Table) (st : Statement) → keeps_rules ts st ≡ true → keeps_rules (ts ++ t ∷ []) st ≡ true
+keeps_more ts t st h =
+    let parts = and_parts (nat_lt st.table (length ts)) _ h in
+    let columns : columns_of (ts ++ t ∷ []) st.table ≡ columns_of ts st.table = ap columns_in (below_push ts t st.table (ltb-true st.table (length ts) parts.0)) in
+    and_from _ _ (lt_push ts t st.table parts.0) (rw columns parts.1)
+
+-- the declarations
+
+ruled_change : (above : Above) (p : List ℕ) (change : ProxyPlan → ProxyPlan) → are_ruled above.config ≡ true
+    → ((plan : ProxyPlan) → plan_of above.config p ≡ Some plan → is_ruled plan ≡ true → is_ruled (change plan) ≡ true) → are_ruled (with_plan above p change).config ≡ true
+unfolding with_plan
+ruled_change above p change h kept =
+    let C : Config = above.config in
+    all_changed is_ruled change (proxy_number C p) C.proxies h (λ i plan o e r. kept plan (ap (λ (k : Option ℕ). option_and_then (slice_get C.proxies) k) o ∙ e) r)
+
+pub ruled_proxy : (above : Above) (n : List ℕ) → are_ruled above.config ≡ true → are_ruled (after above (Proxy n)).config ≡ true
+ruled_proxy above n h = list_all_push is_ruled above.config.proxies (record { name = n; tables = []; queries = [] }) h refl
+
+pub ruled_table : (above : Above) (p t : List ℕ) (columns : List ColumnWords) → are_ruled above.config ≡ true → are_ruled (after above (TableLine p t columns)).config ≡ true
+ruled_table above p t columns h =
+    let new : Table = table_of t columns in
+    ruled_change above p (with_table new) h (λ plan is r.
+    list_all_weaker (λ (x : Query). keeps_rules plan.tables x.statement) (λ (x : Query). keeps_rules (plan.tables ++ new ∷ []) x.statement) plan.queries (λ x k. keeps_more plan.tables new x.statement k) r)
+
+pub ruled_row : (above : Above) (p t text : List ℕ) → are_ruled above.config ≡ true → are_ruled (after above (Row p t text)).config ≡ true
+ruled_row above p t text h =
+    let values : List Value = row_values text in
+    ruled_change above p (with_row_in t values) h (λ plan is r.
+    let place : Option ℕ = table_number plan.tables t in
+    let now : List Table = changed_at place (with_row values) plan.tables in
+    list_all_weaker (λ (x : Query). keeps_rules plan.tables x.statement) (λ (x : Query). keeps_rules now x.statement) plan.queries (λ x k.
+    keeps_like plan.tables now x.statement (length_changed (with_row values) place plan.tables)
+    (seen_changed columns_in (with_row values) place plan.tables x.statement.table (λ table. refl)) k) r)
+
+compiled_as : (r : Result Statement Refusal) (st : Statement) → result_ok r ≡ Some st → r ≡ Ok st
+compiled_as (Ok x) st h = cc
+compiled_as (Err e) st h = absurd (cc)
+
+query_ruled : (number : ℕ) (o : Option Statement) (plan : ProxyPlan) → ((st : Statement) → o ≡ Some st → keeps_rules plan.tables st ≡ true) → is_ruled plan ≡ true → is_ruled (with_query number o plan) ≡ true
+query_ruled number None plan kept h = h
+query_ruled number (Some st) plan kept h =
+    list_all_push (λ (x : Query). keeps_rules plan.tables x.statement) plan.queries (record { number = number; statement = st }) h (kept st refl)
+
+pub ruled_query : (above : Above) (p number text : List ℕ) → are_ruled above.config ≡ true → are_ruled (after above (QueryLine p number text)).config ≡ true
+unfolding statement_at
+ruled_query above p number text h =
+    let C : Config = above.config in
+    ruled_change above p (with_query (decimal number) (statement_at C p text)) h (λ plan is r.
+    query_ruled (decimal number) (statement_at C p text) plan (λ st e.
+    let same : tables_at C p ≡ plan.tables = ap tables_of is in
+    rw same at (compiled_keeps (tables_at C p) text st (compiled_as (compiled (tables_at C p) text) st e))) r)

@@ -1,0 +1,12 @@
+pub mod RuleNumber
+pub mod Answers
+pub mod Lines
+pub mod Words
+pub mod Declarations
+pub mod Literals
+pub mod Above
+pub mod Broken
+pub mod After
+pub mod Meaning
+pub mod Ruled
+pub mod Kept

@@ -1,0 +1,673 @@
+//! What the lines of a configuration declare, while it is read.
+
+ghost use Rattle.std.specs.Prelude.{◌≡◌, ◌<◌, ◌≤◌, ◌∷◌, ◌++◌, [], length, IfOk, OnOk, IfSome, IsTrue, is_some, is_none, position, option_map, Some, None, Ok, Err, true, if◌then◌else◌, ◌==◌, ◌&&◌, ◌||◌, not, false};
+ghost use Rattle.std.specs.List.{list_all, list_any};
+ghost use Rattle.okws_base.specs.Names.{is_name, is_path, is_identifier};
+ghost use Rattle.okws_base.specs.Value.{same_bytes};
+ghost use Rattle.config_reader.specs.Answers.{GivesLine};
+ghost use Rattle.config_reader.specs.Above.{proxy_number, service_number, template_number, table_number, tables_at, nothing_above};
+ghost use Rattle.config_reader.specs.Declarations.{Proxy, Table as TableLine, Row, Query, Service, Retry, Uri, Grant, Template, Read, Log};
+ghost use Rattle.config_reader.specs.Broken.{is_reserved, regrants, has_grant, has_bad_table_name, has_bad_row_name, takes_table, takes_query, can_hold, statement_at, has_too_many_tables, has_too_many_queries};
+ghost use Rattle.config_reader.specs.After.{declared, granted_of, with_plan, with_table, table_of, with_row_in, with_query};
+ghost use Rattle.config_reader.specs.declared.error.ConfigRule.TheVariants as rule;
+ghost use Rattle.statement_core.specs.Compiled.{compiled};
+ghost use Rattle.std.specs.Result.{result_ok};
+
+use crate::column::{
+    ColumnWords, TableWords, count_keys, have_identifiers, have_kinds, have_repeats,
+};
+use crate::error::{ConfigRule, LineError};
+use crate::literal::literals_of;
+use crate::plan::ProxyDraft;
+use crate::words::{is_same, number_to, query_numbers};
+use okws_base::items::Items;
+use okws_base::limit::{
+    DEFAULT_RETRY, GREATEST_QUERY, GREATEST_RETRY, MOST_COLUMNS, MOST_PROXIES, MOST_QUERIES,
+    MOST_SERVICES, MOST_TABLES, MOST_TEMPLATES,
+};
+use okws_base::name::{Name, Path, is_a_name, is_a_path, is_an_identifier};
+use okws_base::value::Value;
+use okws_plan::configuration::{Config, Granted, Owned, ProxyPlan, Readable, ServicePlan, Table};
+use okws_plan::statement::Statement;
+use statement_core::{CompileError, compile};
+use std::alloc::{AllocError, Global};
+use std::marker::Model;
+
+/// What the lines above a line declare, while a configuration is read.
+#[derive(Drop)]
+pub struct Draft {
+    proxies: Vec<ProxyDraft>,
+    services: Vec<ServicePlan>,
+    templates: Vec<Name>,
+    retry: Option<u16>,
+    paths: Vec<Owned>,
+    grants: Vec<Granted>,
+    readables: Vec<Readable>,
+    loggers: Vec<u16>,
+}
+
+impl Model for Draft {
+    ghost use Rattle.std.specs.Prelude.{is_some, unwrap_or};
+    ghost use Rattle.config_reader.specs.Above.{Above, IsNumbered};
+    ghost use Rattle.okws_base.specs.declared.limit.TheConstants.{DEFAULT_RETRY};
+
+    ghost Value = { Above };
+
+    ghost view = { λ a. record {
+      config = record {
+        proxies = a.proxies.items;
+        services = a.services.items;
+        templates = a.templates.items;
+        retry = unwrap_or a.retry DEFAULT_RETRY;
+        paths = a.paths.items;
+        grants = a.grants.items;
+        readables = a.readables.items;
+        loggers = a.loggers.items;
+      };
+      has_retry = is_some a.retry;
+    } };
+
+    ghost invariant = { λ a. IsNumbered a.proxies.items a.services.items a.templates.items };
+}
+
+fn broken<T>(rule: ConfigRule) -> Result<T, LineError>
+    ensures { result ≡ Err (LineError.Broken rule) }
+{
+    Err(LineError::Broken(rule))
+}
+
+/// The name of a word.
+fn name_of(alloc: Global, word: &[u8]) -> Result<Name, AllocError>
+    requires { IsTrue (is_name word.now) }
+    ensures { IfOk result (λ n. n ≡ word.now) }
+{
+    let bytes = Items::of(Vec::from_slice(alloc, word)?);
+    Ok(Name::new(bytes).unwrap())
+}
+
+/// The path of a word.
+fn path_of(alloc: Global, word: &[u8]) -> Result<Path, AllocError>
+    requires { IsTrue (is_path word.now) }
+    ensures { IfOk result (λ p. p ≡ word.now) }
+{
+    let bytes = Items::of(Vec::from_slice(alloc, word)?);
+    Ok(Path::new(bytes).unwrap())
+}
+
+fn proxy_place(proxies: &[ProxyDraft], name: &[u8]) -> Option<usize>
+    ensures is { result ≡ position (λ p. same_bytes p.name name.now) proxies.now }
+    ensures within { IfSome result (λ n. n < length proxies.now) }
+{
+    proxies.iter().position(|proxy| proxy.is_named(name))
+}
+
+fn service_place(services: &[ServicePlan], name: &[u8]) -> Option<usize>
+    ensures is { result ≡ position (λ s. same_bytes s.name name.now) services.now }
+    ensures within { IfSome result (λ n. n < length services.now) }
+{
+    services
+        .iter()
+        .position(|service| is_same(service.name.as_slice(), name))
+}
+
+fn template_place(templates: &[Name], name: &[u8]) -> Option<usize>
+    ensures is { result ≡ position (λ t. same_bytes t name.now) templates.now }
+    ensures within { IfSome result (λ n. n < length templates.now) }
+{
+    templates
+        .iter()
+        .position(|template| is_same(template.as_slice(), name))
+}
+
+#[tactic(auto, unfolding(crate::specs::Broken::has_bad_table_name))]
+fn has_bad_table_name(proxy: &[u8], name: &[u8], columns: &[ColumnWords]) -> bool
+    ensures is { result ≡ has_bad_table_name proxy.now name.now columns.now }
+    ensures name { result ≡ false → IsTrue (is_identifier name.now) }
+    ensures columns { result ≡ false → IsTrue (list_all (λ c. is_identifier c.name) columns.now) }
+{
+    !is_a_name(proxy) || !is_an_identifier(name) || !have_identifiers(columns)
+}
+
+#[tactic(auto, unfolding(crate::specs::Broken::has_bad_row_name))]
+fn has_bad_row_name(proxy: &[u8], table: &[u8]) -> bool
+    ensures { result ≡ has_bad_row_name proxy.now table.now }
+{
+    !is_a_name(proxy) || !is_an_identifier(table)
+}
+
+fn is_reserved_name(name: &[u8]) -> bool
+    ensures { result ≡ is_reserved name.now }
+{
+    is_same(name, b"okd") || is_same(name, b"pubd") || is_same(name, b"oklogd")
+}
+
+fn has_path(paths: &[Owned], path: &[u8]) -> bool
+    ensures { result ≡ list_any (λ o. same_bytes o.path path.now) paths.now }
+{
+    paths
+        .iter()
+        .any(|owned| is_same(owned.path.as_slice(), path))
+}
+
+fn is_granted(grants: &[Granted], service: u16, proxy: u16, query: u16) -> bool
+    ensures { result ≡ has_grant grants.now service proxy query }
+{
+    grants.iter().any(|g| g.service == service && g.proxy == proxy && g.query == query)
+}
+
+/// Adds a grant of each query, and tells whether none of them was there.
+fn add_grants(
+    grants: &mut Vec<Granted>,
+    service: u16,
+    proxy: u16,
+    queries: &[u16],
+) -> Result<bool, AllocError>
+    ensures free { IfOk result (λ free. free ≡ not (regrants grants.old.items service proxy queries.now)) }
+    ensures added { IfOk result (λ free. IsTrue free → grants.new.items ≡ grants.old.items ++ granted_of service proxy queries.now) }
+{
+    for query in queries {
+        if is_granted(grants, service, proxy, *query) {
+            return Ok(false);
+        }
+        grants.push(Granted {
+            service,
+            proxy,
+            query: *query,
+        })?;
+    }
+    Ok(true)
+}
+
+fn is_readable(readables: &[Readable], service: u16, template: u16) -> bool
+    ensures { result ≡ list_any (λ r. (r.service == service) && (r.template == template)) readables.now }
+{
+    readables
+        .iter()
+        .any(|r| r.service == service && r.template == template)
+}
+
+fn is_logger(loggers: &[u16], service: u16) -> bool
+    ensures { result ≡ list_any (λ t. t == service) loggers.now }
+{
+    loggers.iter().any(|logger| *logger == service)
+}
+
+/// The statement that a text compiles to.
+fn statement_of(
+    alloc: Global,
+    tables: &[Table],
+    text: &[u8],
+) -> Result<Option<Statement>, AllocError>
+    ensures { IfOk result (λ found. found ≡ result_ok (compiled tables.now text.now)) }
+{
+    match compile(alloc, tables, text) {
+        Ok(statement) => Ok(Some(statement)),
+        Err(CompileError::TextRefused(_)) => Ok(None),
+        Err(CompileError::NoMemory) => Err(AllocError),
+    }
+}
+
+fn plans_of(alloc: Global, drafts: Vec<ProxyDraft>) -> Result<Vec<ProxyPlan>, AllocError>
+    ensures { IfOk result (λ v. v.items ≡ drafts.items) }
+{
+    let mut out = Vec::new(alloc);
+    for draft in drafts {
+        out.push(draft.into_plan())?;
+    }
+    Ok(out)
+}
+
+impl Draft {
+    /// Nothing declared yet.
+    pub fn new(alloc: Global) -> Draft
+        ensures { result ≡ nothing_above }
+    {
+        Draft {
+            proxies: Vec::new(alloc),
+            services: Vec::new(alloc),
+            templates: Vec::new(alloc),
+            retry: None,
+            paths: Vec::new(alloc),
+            grants: Vec::new(alloc),
+            readables: Vec::new(alloc),
+            loggers: Vec::new(alloc),
+        }
+    }
+
+    fn service_number(&self, name: &[u8]) -> Option<u16>
+        ensures { result ≡ service_number self.now.config name.now }
+    {
+        match service_place(&self.services, name) {
+            None => None,
+            Some(place) => Some(place as u16),
+        }
+    }
+
+    fn template_number(&self, name: &[u8]) -> Option<u16>
+        ensures { result ≡ template_number self.now.config name.now }
+    {
+        match template_place(&self.templates, name) {
+            None => None,
+            Some(place) => Some(place as u16),
+        }
+    }
+
+    fn proxy_number(&self, name: &[u8]) -> Option<u16>
+        ensures is { result ≡ proxy_number self.now.config name.now }
+        ensures within { IfSome result (λ n. n < length self.now.config.proxies) }
+    {
+        match proxy_place(&self.proxies, name) {
+            None => None,
+            Some(place) => Some(place as u16),
+        }
+    }
+
+    #[tactic(auto, unfolding(crate::specs::Broken::takes_table))]
+    fn takes_table(&self, proxy: &[u8], name: &[u8], columns: &[ColumnWords]) -> bool
+        ensures { result ≡ takes_table self.now.config proxy.now name.now columns.now }
+    {
+        match proxy_place(&self.proxies, proxy) {
+            None => have_repeats(columns),
+            Some(place) => self.proxies[place].has_table(name) || have_repeats(columns),
+        }
+    }
+
+    #[tactic(auto, unfolding(crate::specs::Broken::has_too_many_tables))]
+    fn has_too_many_tables(&self, proxy: &[u8], columns: &[ColumnWords]) -> bool
+        ensures { result ≡ has_too_many_tables self.now.config proxy.now columns.now }
+    {
+        match proxy_place(&self.proxies, proxy) {
+            None => columns.len() > MOST_COLUMNS,
+            Some(place) => {
+                self.proxies[place].table_count() >= MOST_TABLES || columns.len() > MOST_COLUMNS
+            }
+        }
+    }
+
+    #[tactic(auto, unfolding(crate::specs::After::with_plan))]
+    fn add_table(
+        &mut self,
+        alloc: Global,
+        proxy: &[u8],
+        name: &[u8],
+        columns: &[ColumnWords],
+    ) -> Result<(), AllocError>
+        requires name { IsTrue (is_identifier name.now) }
+        requires columns { IsTrue (list_all (λ c. is_identifier c.name) columns.now) }
+        ensures { OnOk result (self.new ≡ with_plan self.old proxy.now (with_table (table_of name.now columns.now))) }
+    {
+        match proxy_place(&self.proxies, proxy) {
+            None => Ok(()),
+            Some(place) => self.proxies[place].add_table(alloc, name, columns),
+        }
+    }
+
+    fn has_table(&self, proxy: &[u8], table: &[u8]) -> bool
+        ensures { result ≡ not (is_none (proxy_number self.now.config proxy.now) || is_none (table_number (tables_at self.now.config proxy.now) table.now)) }
+    {
+        match proxy_place(&self.proxies, proxy) {
+            None => false,
+            Some(place) => self.proxies[place].has_table(table),
+        }
+    }
+
+    #[tactic(auto, unfolding(crate::specs::Broken::can_hold))]
+    fn can_hold(&self, proxy: &[u8], table: &[u8], values: &[Value]) -> bool
+        ensures { result ≡ can_hold self.now.config proxy.now table.now values.now }
+    {
+        match proxy_place(&self.proxies, proxy) {
+            None => false,
+            Some(place) => self.proxies[place].can_hold(table, values),
+        }
+    }
+
+    #[tactic(auto, unfolding(crate::specs::After::with_plan))]
+    fn add_row(
+        &mut self,
+        alloc: Global,
+        proxy: &[u8],
+        table: &[u8],
+        values: Vec<Value>,
+    ) -> Result<(), AllocError>
+        ensures { OnOk result (self.new ≡ with_plan self.old proxy.now (with_row_in table.now values.items)) }
+    {
+        match proxy_place(&self.proxies, proxy) {
+            None => Ok(()),
+            Some(place) => self.proxies[place].add_row(alloc, table, values),
+        }
+    }
+
+    #[tactic(auto, unfolding(crate::specs::Broken::takes_query))]
+    fn takes_query(&self, proxy: &[u8], number: u16) -> bool
+        ensures { result ≡ takes_query self.now.config proxy.now number }
+    {
+        match proxy_place(&self.proxies, proxy) {
+            None => false,
+            Some(place) => self.proxies[place].has_query(number),
+        }
+    }
+
+    #[tactic(auto, unfolding(crate::specs::Broken::has_too_many_queries))]
+    fn has_too_many_queries(&self, proxy: &[u8]) -> bool
+        ensures { result ≡ has_too_many_queries self.now.config proxy.now }
+    {
+        match proxy_place(&self.proxies, proxy) {
+            None => false,
+            Some(place) => self.proxies[place].query_count() >= MOST_QUERIES,
+        }
+    }
+
+    #[tactic(auto, unfolding(crate::specs::Broken::statement_at))]
+    fn statement_at(
+        &self,
+        alloc: Global,
+        proxy: &[u8],
+        text: &[u8],
+    ) -> Result<Option<Statement>, AllocError>
+        ensures { IfOk result (λ found. found ≡ statement_at self.now.config proxy.now text.now) }
+    {
+        match proxy_place(&self.proxies, proxy) {
+            None => statement_of(alloc, &[], text),
+            Some(place) => statement_of(alloc, self.proxies[place].tables(), text),
+        }
+    }
+
+    #[tactic(auto, unfolding(crate::specs::After::with_plan))]
+    fn add_query(
+        &mut self,
+        proxy: &[u8],
+        number: u16,
+        statement: Statement,
+    ) -> Result<(), AllocError>
+        ensures { OnOk result (self.new ≡ with_plan self.old proxy.now (with_query number (Some statement))) }
+    {
+        match proxy_place(&self.proxies, proxy) {
+            None => Ok(()),
+            Some(place) => self.proxies[place].add_query(number, statement),
+        }
+    }
+
+    #[tactic(auto, unfolding(crate::specs::After::declared))]
+    pub fn declare_proxy(&mut self, alloc: Global, name: &[u8]) -> Result<(), LineError>
+        ensures { GivesLine (λ _. self.new) result (declared self.old (Proxy name.now)) }
+    {
+        if !is_a_name(name) {
+            return broken(ConfigRule::BadName);
+        }
+        if is_reserved_name(name) || self.proxy_number(name).is_some() {
+            return broken(ConfigRule::Taken);
+        }
+        if self.proxies.len() >= MOST_PROXIES {
+            return broken(ConfigRule::TooMany);
+        }
+        let plan = ProxyDraft::new(alloc, name_of(alloc, name)?);
+        self.proxies.push(plan)?;
+        Ok(())
+    }
+
+    #[tactic(auto, unfolding(crate::specs::After::declared))]
+    fn declare_table(
+        &mut self,
+        alloc: Global,
+        proxy: &[u8],
+        name: &[u8],
+        columns: &[ColumnWords],
+    ) -> Result<(), LineError>
+        ensures { GivesLine (λ _. self.new) result (declared self.old (TableLine proxy.now name.now columns.now)) }
+    {
+        if has_bad_table_name(proxy, name, columns) {
+            return broken(ConfigRule::BadName);
+        }
+        if !have_kinds(columns) {
+            return broken(ConfigRule::BadKind);
+        }
+        if self.proxy_number(proxy).is_none() {
+            return broken(ConfigRule::Undeclared);
+        }
+        if self.takes_table(proxy, name, columns) {
+            return broken(ConfigRule::Taken);
+        }
+        if count_keys(columns) > 1 {
+            return broken(ConfigRule::TwoKeys);
+        }
+        if self.has_too_many_tables(proxy, columns) {
+            return broken(ConfigRule::TooMany);
+        }
+        self.add_table(alloc, proxy, name, columns)?;
+        Ok(())
+    }
+
+    pub fn declare_table_words(
+        &mut self,
+        alloc: Global,
+        words: &TableWords,
+    ) -> Result<(), LineError>
+        ensures { GivesLine (λ _. self.new) result (declared self.old (TableLine words.now.proxy words.now.name words.now.columns)) }
+    {
+        self.declare_table(alloc, words.proxy, words.name, &words.columns)
+    }
+
+    #[tactic(auto, unfolding(crate::specs::After::declared))]
+    pub fn declare_row(
+        &mut self,
+        alloc: Global,
+        proxy: &[u8],
+        table: &[u8],
+        text: &[u8],
+    ) -> Result<(), LineError>
+        ensures { GivesLine (λ _. self.new) result (declared self.old (Row proxy.now table.now text.now)) }
+    {
+        if has_bad_row_name(proxy, table) {
+            return broken(ConfigRule::BadName);
+        }
+        let Some(values) = literals_of(alloc, text)? else {
+            return broken(ConfigRule::BadLiteral);
+        };
+        if !self.has_table(proxy, table) {
+            return broken(ConfigRule::Undeclared);
+        }
+        if !self.can_hold(proxy, table, &values) {
+            return broken(ConfigRule::RowMismatch);
+        }
+        self.add_row(alloc, proxy, table, values)?;
+        Ok(())
+    }
+
+    #[tactic(auto, unfolding(crate::specs::After::declared))]
+    pub fn declare_query(
+        &mut self,
+        alloc: Global,
+        proxy: &[u8],
+        number: &[u8],
+        text: &[u8],
+    ) -> Result<(), LineError>
+        ensures { GivesLine (λ _. self.new) result (declared self.old (Query proxy.now number.now text.now)) }
+    {
+        if !is_a_name(proxy) {
+            return broken(ConfigRule::BadName);
+        }
+        let Some(number) = number_to(GREATEST_QUERY, number) else {
+            return broken(ConfigRule::BadNumber);
+        };
+        let number = number as u16;
+        if self.proxy_number(proxy).is_none() {
+            return broken(ConfigRule::Undeclared);
+        }
+        if self.takes_query(proxy, number) {
+            return broken(ConfigRule::Taken);
+        }
+        let Some(statement) = self.statement_at(alloc, proxy, text)? else {
+            return broken(ConfigRule::QueryRefused);
+        };
+        if self.has_too_many_queries(proxy) {
+            return broken(ConfigRule::TooMany);
+        }
+        self.add_query(proxy, number, statement)?;
+        Ok(())
+    }
+
+    #[tactic(auto, unfolding(crate::specs::After::declared))]
+    pub fn declare_service(
+        &mut self,
+        alloc: Global,
+        name: &[u8],
+        words: Vec<Items<u8>>,
+    ) -> Result<(), LineError>
+        ensures { GivesLine (λ _. self.new) result (declared self.old (Service name.now words.items)) }
+    {
+        if !is_a_name(name) {
+            return broken(ConfigRule::BadName);
+        }
+        if self.service_number(name).is_some() {
+            return broken(ConfigRule::Taken);
+        }
+        if self.services.len() >= MOST_SERVICES {
+            return broken(ConfigRule::TooMany);
+        }
+        let name = name_of(alloc, name)?;
+        let words = Items::of(words);
+        self.services.push(ServicePlan { name, words })?;
+        Ok(())
+    }
+
+    #[tactic(auto, unfolding(crate::specs::After::declared))]
+    pub fn declare_retry(&mut self, number: &[u8]) -> Result<(), LineError>
+        ensures { GivesLine (λ _. self.new) result (declared self.old (Retry number.now)) }
+    {
+        let Some(number) = number_to(u32::from(GREATEST_RETRY), number) else {
+            return broken(ConfigRule::BadNumber);
+        };
+        if self.retry.is_some() {
+            return broken(ConfigRule::Taken);
+        }
+        self.retry = Some(number as u16);
+        Ok(())
+    }
+
+    #[tactic(auto, unfolding(crate::specs::After::declared))]
+    pub fn declare_uri(
+        &mut self,
+        alloc: Global,
+        path: &[u8],
+        service: &[u8],
+    ) -> Result<(), LineError>
+        ensures { GivesLine (λ _. self.new) result (declared self.old (Uri path.now service.now)) }
+    {
+        if !is_a_name(service) {
+            return broken(ConfigRule::BadName);
+        }
+        if !is_a_path(path) {
+            return broken(ConfigRule::BadPath);
+        }
+        let Some(service) = self.service_number(service) else {
+            return broken(ConfigRule::Undeclared);
+        };
+        if has_path(&self.paths, path) {
+            return broken(ConfigRule::Taken);
+        }
+        let path = path_of(alloc, path)?;
+        self.paths.push(Owned { path, service })?;
+        Ok(())
+    }
+
+    #[tactic(auto, unfolding(crate::specs::After::declared))]
+    pub fn declare_grant(
+        &mut self,
+        alloc: Global,
+        service: &[u8],
+        proxy: &[u8],
+        numbers: &[Items<u8>],
+    ) -> Result<(), LineError>
+        ensures { GivesLine (λ _. self.new) result (declared self.old (Grant service.now proxy.now numbers.now)) }
+    {
+        if !is_a_name(service) || !is_a_name(proxy) {
+            return broken(ConfigRule::BadName);
+        }
+        let Some(numbers) = query_numbers(alloc, numbers)? else {
+            return broken(ConfigRule::BadNumber);
+        };
+        let Some(service) = self.service_number(service) else {
+            return broken(ConfigRule::Undeclared);
+        };
+        let Some(place) = self.proxy_number(proxy) else {
+            return broken(ConfigRule::Undeclared);
+        };
+        if !self.proxies[place as usize].has_queries(&numbers) {
+            return broken(ConfigRule::Undeclared);
+        }
+        if !add_grants(&mut self.grants, service, place, &numbers)? {
+            return broken(ConfigRule::Taken);
+        }
+        Ok(())
+    }
+
+    #[tactic(auto, unfolding(crate::specs::After::declared))]
+    pub fn declare_template(&mut self, alloc: Global, name: &[u8]) -> Result<(), LineError>
+        ensures { GivesLine (λ _. self.new) result (declared self.old (Template name.now)) }
+    {
+        if !is_a_name(name) {
+            return broken(ConfigRule::BadName);
+        }
+        if self.template_number(name).is_some() {
+            return broken(ConfigRule::Taken);
+        }
+        if self.templates.len() >= MOST_TEMPLATES {
+            return broken(ConfigRule::TooMany);
+        }
+        self.templates.push(name_of(alloc, name)?)?;
+        Ok(())
+    }
+
+    #[tactic(auto, unfolding(crate::specs::After::declared))]
+    pub fn declare_read(&mut self, service: &[u8], template: &[u8]) -> Result<(), LineError>
+        ensures { GivesLine (λ _. self.new) result (declared self.old (Read service.now template.now)) }
+    {
+        if !is_a_name(service) || !is_a_name(template) {
+            return broken(ConfigRule::BadName);
+        }
+        let Some(service) = self.service_number(service) else {
+            return broken(ConfigRule::Undeclared);
+        };
+        let Some(template) = self.template_number(template) else {
+            return broken(ConfigRule::Undeclared);
+        };
+        if is_readable(&self.readables, service, template) {
+            return broken(ConfigRule::Taken);
+        }
+        self.readables.push(Readable { service, template })?;
+        Ok(())
+    }
+
+    #[tactic(auto, unfolding(crate::specs::After::declared))]
+    pub fn declare_log(&mut self, service: &[u8]) -> Result<(), LineError>
+        ensures { GivesLine (λ _. self.new) result (declared self.old (Log service.now)) }
+    {
+        if !is_a_name(service) {
+            return broken(ConfigRule::BadName);
+        }
+        let Some(service) = self.service_number(service) else {
+            return broken(ConfigRule::Undeclared);
+        };
+        if is_logger(&self.loggers, service) {
+            return broken(ConfigRule::Taken);
+        }
+        self.loggers.push(service)?;
+        Ok(())
+    }
+
+    /// The configuration that was declared.
+    pub fn into_config(self, alloc: Global) -> Result<Config, AllocError>
+        ensures { IfOk result (λ config. config ≡ self.config) }
+    {
+        Ok(Config {
+            proxies: Items::of(plans_of(alloc, self.proxies)?),
+            services: Items::of(self.services),
+            templates: Items::of(self.templates),
+            retry: self.retry.unwrap_or(DEFAULT_RETRY),
+            paths: Items::of(self.paths),
+            grants: Items::of(self.grants),
+            readables: Items::of(self.readables),
+            loggers: Items::of(self.loggers),
+        })
+    }
+}

@@ -1,0 +1,23 @@
+//! The configuration of a site: which file is one, what it says, and which line of another breaks
+//! which rule first.
+#![tactic(auto)]
+
+mod byte_set;
+mod column;
+mod declaring;
+mod directive;
+mod draft;
+mod error;
+mod keys;
+mod lines;
+mod literal;
+mod plan;
+mod reader;
+mod tables;
+mod words;
+
+pub use error::{ConfigError, ConfigRule, Refusal};
+pub use reader::read;
+
+#[cfg(test)]
+mod tests;

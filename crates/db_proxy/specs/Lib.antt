@@ -1,0 +1,4 @@
+pub mod Seen
+pub mod Permit
+pub mod Tied
+pub mod Example

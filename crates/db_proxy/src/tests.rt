@@ -1,0 +1,156 @@
+//! The rules that a proxy denies by, but the one on long answers, and a keeper that fails.
+
+ghost use Rattle.std.specs.Prelude.{◌≡◌, ◌<◌, IfOk, OnOk, length};
+ghost use Rattle.okws_base.specs.Past.{last_by};
+ghost use Rattle.okws_plan.specs.declared.event.ProxyEvent.TheVariants as event;
+ghost use Rattle.monitor_model.specs.Standing.{proxy_grant};
+ghost use Rattle.db_proxy.specs.Seen.{entered};
+
+mod site;
+
+use crate::Proxy;
+use monitor_model::verdict::Verdict;
+use okws_base::denial::Rule;
+use okws_base::items::Items;
+use okws_base::limit::MOST_SESSIONS;
+use okws_base::value::{Token, Value};
+use okws_plan::event::Call;
+use row_keeper::ListKeeper;
+use site::{GUEST, OTHER, bytes, column, none};
+use std::alloc::{AllocError, Global};
+use std::test::Fail;
+
+const FIRST: Token = Token { bytes: [1; 20] };
+
+const SECOND: Token = Token { bytes: [2; 20] };
+
+const FOREIGN: Token = Token { bytes: [3; 20] };
+
+// A call of guest's first incarnation.
+fn call(session: u32, query: u16, args: Items<Value>) -> Call
+    ensures { result.service ≡ GUEST }
+{
+    Call {
+        service: GUEST,
+        incarnation: 1,
+        session,
+        query,
+        args,
+    }
+}
+
+fn row(alloc: Global, value: &[u8]) -> Result<Items<Value>, AllocError> {
+    let mut row = Vec::new(alloc);
+    row.push(Value::Bytes(bytes(alloc, value)?))?;
+    Ok(Items::of(row))
+}
+
+fn install(proxy: &mut Proxy<ListKeeper>, service: u16, token: Token) -> Result<(), AllocError>
+    requires service { service < length proxy.old.config.services }
+    requires none { last_by proxy_grant proxy.old.past service ≡ 0 }
+    ensures { OnOk result (proxy.new ≡ entered proxy.old (event.Install service 1 token)) }
+{
+    proxy.install(service, 1, token)
+}
+
+// The column with guest's first incarnation, which has opened a session, and with other's.
+fn opened(alloc: Global, failing: &[u64]) -> Result<Proxy<ListKeeper>, Fail>
+    ensures { IfOk result (λ p. length p.config.services ≡ 2) }
+{
+    let mut proxy = column(alloc, failing)?;
+    install(&mut proxy, GUEST, FIRST)?;
+    install(&mut proxy, OTHER, FOREIGN)?;
+    proxy.open_session(GUEST, 1, FIRST)?;
+    Ok(proxy)
+}
+
+fn revoke(proxy: &mut Proxy<ListKeeper>)
+    requires { 0 < length proxy.old.config.services }
+    ensures { proxy.new.config ≡ proxy.old.config }
+{
+    proxy.revoke(GUEST, 1);
+}
+
+fn called(proxy: &mut Proxy<ListKeeper>, call: Call) -> Result<Verdict, AllocError>
+    requires service { call.service ≡ GUEST }
+    requires config { 0 < length proxy.old.config.services }
+    ensures { OnOk result (proxy.new.config ≡ proxy.old.config) }
+{
+    proxy.call(call)
+}
+
+fn inserted(
+    alloc: Global,
+    proxy: &mut Proxy<ListKeeper>,
+    value: &[u8],
+) -> Result<Verdict, AllocError>
+    requires { 0 < length proxy.old.config.services }
+    ensures { OnOk result (proxy.new.config ≡ proxy.old.config) }
+{
+    let row = row(alloc, value)?;
+    called(proxy, call(0, 1, row))
+}
+
+#[test]
+fn opens_are_denied(rt: HostRuntime) -> Result<(), Fail> {
+    let alloc = rt.alloc();
+    let mut proxy = opened(alloc, &[])?;
+    assert!(rt; proxy.open_session(GUEST, 1, FIRST)? == Verdict::Opened(1));
+    assert!(rt; proxy.open_session(GUEST, 1, SECOND)? == Verdict::Denied(Rule::UnknownToken));
+    assert!(rt; proxy.open_session(GUEST, 1, FOREIGN)? == Verdict::Denied(Rule::UnknownToken));
+    assert!(rt; proxy.open_session(GUEST, 2, FIRST)? == Verdict::Denied(Rule::StaleToken));
+    assert_eq!(rt; proxy.standing(GUEST), Some(1));
+    assert_eq!(rt; proxy.last(GUEST), 1);
+    revoke(&mut proxy);
+    assert!(rt; proxy.open_session(GUEST, 1, FIRST)? == Verdict::Denied(Rule::StaleToken));
+    Ok(())
+}
+
+fn open_many(proxy: &mut Proxy<ListKeeper>, count: u32) -> Result<(), AllocError>
+    requires { 0 < length proxy.old.config.services }
+    ensures { OnOk result (proxy.new.config ≡ proxy.old.config) }
+{
+    for _ in 0..count {
+        proxy.open_session(GUEST, 1, FIRST)?;
+    }
+    Ok(())
+}
+
+#[test]
+fn sessions_are_limited(rt: HostRuntime) -> Result<(), Fail> {
+    let alloc = rt.alloc();
+    let mut proxy = opened(alloc, &[])?;
+    open_many(&mut proxy, MOST_SESSIONS - 1)?;
+    assert!(rt; proxy.open_session(GUEST, 1, FIRST)? == Verdict::Denied(Rule::TooManySessions));
+    Ok(())
+}
+
+#[test]
+fn calls_are_denied(rt: HostRuntime) -> Result<(), Fail> {
+    let alloc = rt.alloc();
+    let mut proxy = opened(alloc, &[])?;
+    assert!(rt; called(&mut proxy, call(1, 2, none(alloc)))? == Verdict::Denied(Rule::NoSession));
+    assert!(rt;
+        called(&mut proxy, call(0, 3, none(alloc)))? == Verdict::Denied(Rule::QueryNotGranted)
+    );
+    assert!(rt;
+        called(&mut proxy, call(0, 1, none(alloc)))? == Verdict::Denied(Rule::BadArguments)
+    );
+    revoke(&mut proxy);
+    assert!(rt; called(&mut proxy, call(0, 2, none(alloc)))? == Verdict::Denied(Rule::StaleToken));
+    assert!(rt; called(&mut proxy, call(1, 2, none(alloc)))? == Verdict::Denied(Rule::NoSession));
+    Ok(())
+}
+
+#[test]
+fn a_call_that_failed_may_be_made_again(rt: HostRuntime) -> Result<(), Fail> {
+    let alloc = rt.alloc();
+    let mut proxy = opened(alloc, &[1])?;
+    assert!(rt; inserted(alloc, &mut proxy, b"a")? == Verdict::Changed(1));
+    assert!(rt; inserted(alloc, &mut proxy, b"b")? == Verdict::Failed);
+    assert!(rt; inserted(alloc, &mut proxy, b"b")? == Verdict::Changed(1));
+    let (past, keeper) = proxy.close();
+    assert_eq!(rt; past.as_slice().len(), 6);
+    assert_eq!(rt; keeper.faults(), 1);
+    Ok(())
+}

@@ -1,0 +1,3 @@
+pub mod News
+pub mod Begins
+pub mod Drains

@@ -1,0 +1,10 @@
+//! The template column: which incarnation of each service may have templates, the editions that were
+//! published, and what is due to each incarnation. Every call decides and makes its one entry at once.
+#![tactic(auto)]
+
+mod kept;
+mod pubd;
+#[cfg(test)]
+mod tests;
+
+pub use pubd::Pubd;

@@ -1,0 +1,28 @@
+-- A step of a cell, from the exchange that it made.
+use Rattle.std.proofs.Common.{◌≡◌, ℕ, List, Option, Some, None, refl, sym, ap, subst, ◌∙◌}
+use Rattle.okws_base.specs.declared.crash.Cause.{Cause}
+use Rattle.frame_link.specs.Wire.{Wire}
+use Rattle.monitor_model.specs.declared.record.Item.{Item}
+use Rattle.monitor_model.specs.Course.{Speaker}
+use Rattle.monitor_model.specs.Seen.{Seen}
+use Rattle.std.specs.Prelude.{IsTrue}
+use Rattle.service_cell.specs.Asking.{Asker, IsNextBy}
+use Rattle.service_cell.specs.Standing.{Open, Standing, speaker, finished}
+use Rattle.service_cell.specs.Steps.{crash_end, Crashes, Steps, StepsOpen}
+use Rattle.service_cell.specs.declared.exchange.Exchanged.{Exchanged}
+use Rattle.service_cell.specs.declared.exchange.Exchanged.TheVariants as exchanged
+
+steps_open : (who : Asker) (c d : Standing) (o : Open) (dialog : Option Open) (seen now : Seen) (answer : Exchanged) → dialog ≡ Some o → Steps who c o seen answer d now → StepsOpen who c dialog seen answer d now
+steps_open who c d o dialog seen now answer is steps = subst (λ (x : Option Open). StepsOpen who c x seen answer d now) (sym is) steps
+
+pub crashed : (who : Asker) (c d : Standing) (worker : ℕ) (before items : List Item) (seen now : Seen) (why : Cause) (old new : Wire) (w : Speaker)
+    → c.open_dialog ≡ Some (record { worker = worker; items = before }) → c.link ≡ Some old → w ≡ speaker c worker → d ≡ finished c worker items (crash_end why) (Some new)
+    → Crashes who.config w (Some old) (Some new) before seen why items now → StepsOpen who c c.open_dialog seen (exchanged.Crashed why) d now
+crashed who c d worker before items seen now why old new w there link speaks is crashes =
+    let o : Open = record { worker = worker; items = before } in
+    let last : d.link ≡ Some new = ap (λ (x : Standing). x.link) is in
+    steps_open who c d o c.open_dialog seen now (exchanged.Crashed why) there (items, rw (link, last, sym speaks) crashes, subst (λ (l : Option Wire). d ≡ finished c worker items (crash_end why) l) (sym last) is)
+
+-- what was entered since the board was read
+pub next_since : (who asked : Asker) (seen before now : Seen) → asked ≡ who → before ≡ seen → (IsTrue asked.alone → IsNextBy asked.worker before now) → IsTrue who.alone → IsNextBy who.worker seen now
+next_since who asked seen before now same stays next = rw (← same, ← stays) next

@@ -1,0 +1,117 @@
+-- What comes and goes over a link, step after step.
+use Rattle.std.proofs.Common.{◌≡◌, ◌≤◌, ℕ, ◌+◌, ◌-◌, ◌^◌, min, Bool, true, false, List, [], ◌∷◌, ◌++◌, length, take, drop, refl, sym, ap, subst, ◌∙◌, append_assoc, arith, take-append-drop}
+use Rattle.std.specs.Prelude.{IsFalse, IsTrue, MatchResult}
+use Rattle.std.specs.declared.option.Option.{Option}
+use Rattle.std.specs.declared.result.Result.{Result}
+use Rattle.std.specs.declared.result.Result.TheVariants.{Ok, Err}
+use Rattle.std.specs.Io.KnownBytes.{Appends, Consumes}
+use Rattle.std.proofs.KnownBytes.{Appends-trans, Appends-nil, Consumes-trans, Consumes-nil}
+use Rattle.std.proofs.lemmas.List.{append-nil, length-append}
+use Rattle.okws_outer.specs.Streams.{Rose, Counts, AppendsPrefix}
+use Rattle.frame_codec.specs.Spelling.{four, size, server_parts, server_spelling, HasSpelling}
+use Rattle.frame_codec.specs.declared.frame.ServerFrame.{ServerFrame}
+use Rattle.frame_codec.proofs.Sizes.{length-four}
+use Rattle.frame_codec.proofs.Formats.{bytes_of, length-bytes_of, joined-is}
+use Rattle.frame_codec.proofs.Whole.{lawful_bounds}
+use Rattle.frame_link.specs.Wire.{Wire}
+use Rattle.frame_link.specs.declared.sending.LinkFault.{LinkFault}
+use Rattle.service_cell.specs.Standing.{Moves, Breaks}
+use Rattle.service_cell.specs.Exchange.{PutsFrame}
+
+-- ---- how long a spelling is
+
+pub length-spelling : (frame : ServerFrame) → length (server_spelling frame) ≡ size (server_parts frame) + 4
+length-spelling frame =
+    let n : ℕ = size (server_parts frame) in
+    ap length (joined-is (four n) (server_parts frame)) ∙ length-append (four n) (bytes_of (server_parts frame)) ∙ omega (arith, length-four n, length-bytes_of (server_parts frame))
+
+pub spelling_is_short : (frame : ServerFrame) → HasSpelling frame → length (server_spelling frame) ≤ 1048580
+spelling_is_short frame has = omega (arith, length-spelling frame, (lawful_bounds (size (server_parts frame)) has.1).1)
+
+-- ---- steps
+
+-- nothing but the room changed
+pub record Same (old new : Wire) : Type 0 where
+  pub left : new.left ≡ old.left
+  pub given : new.given ≡ old.given
+  pub faults : new.faults ≡ old.faults
+  pub steady : new.steady ≡ old.steady
+  pub ended : new.ended ≡ old.ended
+
+consumes_none : (a b : Option (List ℕ)) → b ≡ a → Consumes a b []
+consumes_none a b e = subst (λ (o : Option (List ℕ)). Consumes a o []) (sym e) (Consumes-nil a)
+
+appends_none : (a b : Option (List ℕ)) → b ≡ a → Appends a b []
+appends_none a b e = subst (λ (o : Option (List ℕ)). Appends a o []) (sym e) (Appends-nil a)
+
+pub stood : (old new : Wire) → Same old new → Moves old new [] []
+stood old new s = record { takes = consumes_none old.left new.left s.left; puts = appends_none old.given new.given s.given; faults = omega (arith, s.faults); steady = s.steady; ended = s.ended }
+
+pub moves_then : (a b c : Wire) (t u p q : List ℕ) → Moves a b t p → Moves b c u q → Moves a c (t ++ u) (p ++ q)
+moves_then a b c t u p q x y = record {
+  takes = Consumes-trans a.left b.left c.left t u x.takes y.takes;
+  puts = Appends-trans a.given b.given c.given p q x.puts y.puts;
+  faults = omega (arith, x.faults, y.faults);
+  steady = y.steady ∙ x.steady;
+  ended = y.ended ∙ x.ended;
+}
+
+rose_later : (a b c : ℕ) → a ≤ b → Rose b c → Rose a c
+rose_later a b c le rose = omega (arith, rose)
+
+pub breaks_after : (a b c : Wire) (t u p q due : List ℕ) → Moves a b t p → Breaks b c u q due → Breaks a c (t ++ u) (p ++ q) due
+breaks_after a b c t u p q due x y = record {
+  takes = Consumes-trans a.left b.left c.left t u x.takes y.takes;
+  front = y.front;
+  rest = y.rest;
+  cut = y.cut;
+  puts = subst (λ (bytes : List ℕ). Appends a.given c.given bytes) (sym (append_assoc p q y.front)) (Appends-trans a.given b.given c.given p (q ++ y.front) x.puts y.puts);
+  faults = rose_later a.faults b.faults c.faults x.faults y.faults;
+  steady = y.steady ∙ x.steady;
+  unsteady = sym x.steady ∙ y.unsteady;
+  ended = y.ended ∙ x.ended;
+}
+
+-- one of the two put or took nothing
+pub took_then_put : (a b c : Wire) (t q : List ℕ) → Moves a b t [] → Moves b c [] q → Moves a c t q
+took_then_put a b c t q x y = subst (λ (bytes : List ℕ). Moves a c bytes q) (append-nil t) (moves_then a b c t [] [] q x y)
+
+pub took_then_broke : (a b c : Wire) (t due : List ℕ) → Moves a b t [] → Breaks b c [] [] due → Breaks a c t [] due
+took_then_broke a b c t due x y = subst (λ (bytes : List ℕ). Breaks a c bytes [] due) (append-nil t) (breaks_after a b c t [] [] [] due x y)
+
+-- ---- a frame that was put
+
+unsteady_by : (b : Bool) → (b ≡ true → ⊥) → IsFalse b
+unsteady_by true never = absurd (never refl)
+unsteady_by false never = refl
+
+pub puts_frame : (old new : Wire) (text : List ℕ) (result : Result (Unit {0}) LinkFault)
+    → MatchResult result (λ _. Appends old.given new.given text) (λ _. AppendsPrefix old.given new.given text)
+    → Counts old.faults new.faults (result ≡ Ok tt → ⊥)
+    → (old.steady ≡ true → length text ≤ old.room → result ≡ Ok tt)
+    → new.left ≡ old.left → new.steady ≡ old.steady → new.ended ≡ old.ended
+    → (old.steady ≡ true → length text ≤ old.room)
+    → PutsFrame old text result new
+puts_frame old new text (Ok done) bytes counts sure left steady ended room =
+    record { takes = consumes_none old.left new.left left; puts = bytes; faults = counts.later; steady = steady; ended = ended }
+puts_frame old new text (Err fault) bytes counts sure left steady ended room =
+    record {
+      takes = consumes_none old.left new.left left;
+      front = take bytes.taken text;
+      rest = drop bytes.taken text;
+      cut = take-append-drop bytes.taken text;
+      puts = bytes.given;
+      faults = counts.cause (λ e. cc);
+      steady = steady;
+      unsteady = unsteady_by old.steady (λ is. let done = sure is (room is) in cc);
+      ended = ended;
+    }
+
+-- a fault before a frame was there
+pub broke_taking : (old new : Wire) (taken : List ℕ) → Consumes old.left new.left taken → new.given ≡ old.given → Rose old.faults new.faults → new.steady ≡ old.steady → (old.steady ≡ true → ⊥) → new.ended ≡ old.ended → Breaks old new taken [] []
+broke_taking old new taken takes given rose steady unsteady ended =
+    record { takes = takes; front = []; rest = []; cut = refl; puts = appends_none old.given new.given given; faults = rose; steady = steady; unsteady = unsteady_by old.steady unsteady; ended = ended }
+
+-- bytes were taken, and nothing was put
+pub took : (old new : Wire) (taken : List ℕ) → Consumes old.left new.left taken → new.given ≡ old.given → old.faults ≤ new.faults → new.steady ≡ old.steady → new.ended ≡ old.ended → Moves old new taken []
+took old new taken takes given faults steady ended = record { takes = takes; puts = appends_none old.given new.given given; faults = faults; steady = steady; ended = ended }

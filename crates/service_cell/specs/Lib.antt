@@ -1,0 +1,5 @@
+pub mod Asking
+pub mod Standing
+pub mod Steps
+pub mod Tied
+pub mod Exchange

@@ -1,0 +1,92 @@
+-- A cell as contracts see it, and what comes and goes over its link.
+use Rattle.std.specs.Prelude.{◌≡◌, ◌≤◌, ℕ, Bool, true, List, [], ◌∷◌, ◌++◌, Option, Some, None, ◌==◌, if◌then◌else◌, option_map, IsFalse, ◌⊎◌}
+use Rattle.std.specs.Io.KnownBytes.{Appends, Consumes}
+use Rattle.okws_outer.specs.Streams.{Rose, AppendsPrefix}
+use Rattle.frame_codec.specs.Stream.{Begins, IsBad}
+use Rattle.frame_codec.specs.declared.frame.ServiceFrame.{ServiceFrame}
+use Rattle.frame_link.specs.Wire.{Wire}
+use Rattle.monitor_model.specs.declared.record.Item.{Item}
+use Rattle.monitor_model.specs.declared.record.End.{End}
+use Rattle.monitor_model.specs.declared.record.CellEvent.{CellEvent}
+use Rattle.monitor_model.specs.declared.record.CellEvent.TheVariants as cell
+use Rattle.monitor_model.specs.Cell.{incarnation}
+use Rattle.monitor_model.specs.Course.{Speaker}
+
+-- A dialog that is open: its worker, and its items, the newest first.
+pub record Open : Type 0 where
+  pub worker : ℕ
+  pub items : List Item
+
+-- A cell: its service, its finished events, the newest first, its open dialog, if there is one, and its link, if it has one.
+pub record Standing : Type 0 where
+  pub service : ℕ
+  pub past : List CellEvent
+  pub open_dialog : Option Open
+  pub link : Option Wire
+
+-- Who speaks at the cell with a worker.
+abbrev pub speaker : Standing → ℕ → Speaker
+speaker c w = record { worker = w; service = c.service; incarnation = incarnation c.past }
+
+-- The open dialog has these items, and the link is as it is now.
+abbrev pub going : Standing → ℕ → List Item → Option Wire → Standing
+going c w items link = record c { open_dialog = Some (record { worker = w; items = items }); link = link }
+
+-- The dialog of a worker stands finished on top, with these items and this end, and the link is as it is now.
+abbrev pub finished : Standing → ℕ → List Item → End → Option Wire → Standing
+finished c w items how link = record c { past = cell.Dialog (record { worker = w; items = items; end = how }) ∷ c.past; open_dialog = None; link = link }
+
+-- The events, with the open dialog, if any, as the last.
+abbrev pub with_open : Option Open → List CellEvent → List CellEvent
+with_open None J = J
+with_open (Some o) J = cell.Speaking o.worker o.items ∷ J
+
+-- The same link, from which some bytes were taken and on which some were put; no fault is forgotten.
+pub record Moves (old new : Wire) (taken put : List ℕ) : Type 0 where
+  pub takes : Consumes old.left new.left taken
+  pub puts : Appends old.given new.given put
+  pub faults : old.faults ≤ new.faults
+  pub steady : new.steady ≡ old.steady
+  pub ended : new.ended ≡ old.ended
+
+-- The same link, of which a call failed: it isn't steady, and its count of faults rose. Of what was due after the bytes that were put, a prefix was put.
+pub record Breaks (old new : Wire) (taken put due : List ℕ) : Type 0 where
+  pub takes : Consumes old.left new.left taken
+  pub front : List ℕ
+  pub rest : List ℕ
+  pub cut : front ++ rest ≡ due
+  pub puts : Appends old.given new.given (put ++ front)
+  pub faults : Rose old.faults new.faults
+  pub steady : new.steady ≡ old.steady
+  pub unsteady : IsFalse old.steady
+  pub ended : new.ended ≡ old.ended
+
+-- A cell's link moved so.
+abbrev pub Passes : Option Wire → Option Wire → List ℕ → List ℕ → Type 0
+Passes None new taken put = ⊥
+Passes (Some old) None taken put = ⊥
+Passes (Some old) (Some new) taken put = Moves old new taken put
+
+-- A cell's link failed so.
+abbrev pub Fails : Option Wire → Option Wire → List ℕ → List ℕ → List ℕ → Type 0
+Fails None new taken put due = ⊥
+Fails (Some old) None taken put due = ⊥
+Fails (Some old) (Some new) taken put due = Breaks old new taken put due
+
+-- What is left to come in on a cell's link, where it tells.
+abbrev pub left_of : Option Wire → Option (List ℕ)
+left_of None = None
+left_of (Some wire) = wire.left
+
+-- More bytes are to come in.
+abbrev pub fed : List ℕ → Wire → Wire
+fed bytes wire = record wire { left = option_map (λ (left : List ℕ). left ++ bytes) wire.left }
+
+-- Nothing is to come behind what is left.
+abbrev pub shut : Wire → Wire
+shut wire = record wire { ended = true }
+
+-- What is left begins with a whole frame, or is bad, or nothing comes behind it.
+abbrev pub IsReadyLink : Option Wire → List ℕ → Type 0
+IsReadyLink None left = ⊥
+IsReadyLink (Some wire) left = ((said : ServiceFrame) × (rest : List ℕ) × Begins left said rest) ⊎ (IsBad left ⊎ (wire.ended ≡ true))

@@ -1,0 +1,416 @@
+//! A service's cell.
+
+ghost use Rattle.std.specs.Prelude.{◌≡◌, ◌≢◌, ◌≤◌, ◌<◌, ℕ, ◌+◌, [], ◌∷◌, reverse, length, option_map, IsTrue, IsSome, IfSome, OnOk, OnErr, ◌↔◌};
+ghost use Rattle.okws_base.specs.declared.limit.TheConstants.{LONGEST_FRAME};
+ghost use Rattle.frame_link.specs.Wire.{wire_of};
+ghost use Rattle.monitor_model.specs.declared.record.CellEvent.TheVariants as cell;
+ghost use Rattle.monitor_model.specs.declared.record.End.TheVariants as end;
+ghost use Rattle.monitor_model.specs.declared.record.Own.TheVariants as own;
+ghost use Rattle.monitor_model.specs.Seen.{noted};
+ghost use Rattle.monitor_model.specs.Cell.{CellLaw, incarnation, last_booted};
+ghost use Rattle.service_cell.specs.Asking.{IsNextBy};
+ghost use Rattle.service_cell.specs.Exchange.{AreSpelled, IsHeardOpen};
+ghost use Rattle.service_cell.specs.Standing.{with_open, finished};
+ghost use Rattle.service_cell.specs.Steps.{crash_end, StepsOpen, OpensCell, Boots, Begins, AdvancesOpen, IsSpeaking, retired, superseded};
+
+use crate::answer::{Advanced, Begun, Booting};
+use crate::columns::Columns;
+use crate::exchange::{Exchanged, Who, exchange, hear_opening, put_frame};
+use frame_codec::frame::{Issued, ServerFrame};
+use frame_codec::making;
+use monitor_model::record::{CellEvent, Dialog, End, Item, Own};
+use okws_base::crash::Cause;
+use okws_base::items::Items;
+use okws_base::journal::{Journal, Past};
+use okws_base::limit::LONGEST_FRAME;
+use okws_outer::stream::Link;
+use std::alloc::{AllocError, Global};
+use std::marker::Model;
+
+/// A dialog that is open.
+#[derive(Drop)]
+pub(crate) struct Speaking {
+    pub(crate) worker: u16,
+    // How many frames the service said in it.
+    pub(crate) frames: usize,
+    pub(crate) items: Journal<Item>,
+}
+
+/// The end of a dialog that crashed by this cause.
+fn end_of(cause: Cause) -> End
+    ensures { result ≡ crash_end cause }
+{
+    match cause {
+        Cause::BadFrame => End::BadFrame,
+        Cause::Ended => End::Ended,
+        Cause::LinkFault => End::LinkFault,
+        Cause::FrameLimit => End::FrameLimit,
+        Cause::Starved => End::Starved,
+    }
+}
+
+/// Enters a dialog that ended so, in a place that was kept.
+fn finish(events: &mut Journal<CellEvent>, speaking: Speaking, end: End)
+    requires { 0 < events.old.room }
+    ensures past { events.new.past ≡ cell.Dialog (record { worker = speaking.worker; items = speaking.items.past; end = end }) ∷ events.old.past }
+    ensures room { events.new.room + 1 ≡ events.old.room }
+{
+    events.enter(CellEvent::Dialog(Dialog {
+        worker: speaking.worker,
+        items: speaking.items.into_past(),
+        end,
+    }));
+}
+
+/// What stands of one service: the link to its program, its incarnation, and what happened.
+#[derive(Drop)]
+pub struct Cell<L: Link> {
+    alloc: Global,
+    service: u16,
+    incarnation: u32,
+    events: Journal<CellEvent>,
+    speaking: Option<Speaking>,
+    pub(crate) wire: Option<L>,
+}
+
+impl<L: Link> Model for Cell<L> {
+    ghost use Rattle.std.specs.Prelude.{option_map, is_some};
+    ghost use Rattle.service_cell.specs.Standing.{Standing, Open};
+    ghost use Rattle.service_cell.specs.Tied.{Tied};
+    ghost use Rattle.frame_link.specs.Wire.{wire_of};
+
+    ghost Value = { Standing };
+
+    ghost view = { λ a. record {
+      service = a.service;
+      past = a.events.past;
+      open_dialog = option_map (λ o. record { worker = o.worker; items = o.items.past }) a.speaking;
+      link = option_map (wire_of L.left L.given L.faults L.steady L.ended L.room) a.wire;
+    } };
+
+    ghost invariant = { λ a. Tied a.incarnation a.events a.speaking (is_some a.wire) };
+}
+
+impl<L: Link> Cell<L> {
+    /// The cell of a service, at which nothing happened; takes no memory.
+    pub fn new(alloc: Global, service: u16) -> Self
+        ensures { result ≡ record { service = service; past = []; open_dialog = None; link = None } }
+    {
+        Cell {
+            alloc,
+            service,
+            incarnation: 0,
+            events: Journal::new(alloc),
+            speaking: None,
+            wire: None,
+        }
+    }
+
+    /// The incarnation that is there, 0 for none.
+    pub fn incarnation(&self) -> u32
+        ensures { result ≡ incarnation self.now.past }
+    {
+        self.incarnation
+    }
+
+    /// Whether a dialog is open.
+    pub fn busy(&self) -> bool
+        ensures { IsTrue result ↔ IsSome self.now.open_dialog }
+    {
+        self.speaking.is_some()
+    }
+
+    /// The finished events, the oldest first. A dialog that just ended is the last.
+    pub fn events(&self) -> &[CellEvent]
+        ensures { reverse result.now ≡ self.now.past }
+    {
+        self.events.as_slice()
+    }
+
+    /// The items of the open dialog, the oldest first.
+    pub fn items(&self) -> &[Item]
+        requires { IsSome self.now.open_dialog }
+        ensures { IfSome self.now.open_dialog (λ o. reverse result.now ≡ o.items) }
+    {
+        match &self.speaking {
+            Some(speaking) => speaking.items.as_slice(),
+            None => unreachable!(),
+        }
+    }
+
+    /// Gives the cell a link and an incarnation, whose Boot frame with these tokens is put first.
+    /// One that isn't Booted hands the link back and leaves the cell as it was.
+    #[tactic(auto, using(crate::proofs::Wires::spelling_is_short))]
+    pub fn boot(&mut self, link: L, number: u32, tokens: Items<Issued>) -> Booting<L>
+        requires closed { self.old.open_dialog ≡ None }
+        requires empty { incarnation self.old.past ≡ 0 }
+        requires unlinked { self.old.link ≡ None }
+        requires later { last_booted self.old.past < number }
+        requires few { length tokens < 256 }
+        ensures { Boots (wire_of L.left L.given L.faults L.steady L.ended L.room) link (ServerFrame.Boot self.old.service number tokens) number self.old result self.new }
+    {
+        let mut link = link;
+        if self.events.make_room(2).is_err() || link.make_room(LONGEST_FRAME + 4).is_err() {
+            return Booting::NoMemory(link);
+        }
+        let frame = making::boot(self.service, number, tokens);
+        match put_frame(&mut link, &frame) {
+            Ok(()) => {
+                self.events.enter(CellEvent::Boot(number));
+                self.incarnation = number;
+                match self.wire.replace(link) {
+                    None => Booting::Booted,
+                    Some(_) => unreachable!(),
+                }
+            }
+            Err(_) => Booting::LinkFault(link),
+        }
+    }
+
+    /// Takes the link out, and enters Retired where the cell has an incarnation. Takes no memory.
+    pub fn retire(&mut self) -> Option<L>
+        requires { self.old.open_dialog ≡ None }
+        ensures cell { self.new ≡ retired self.old }
+        ensures link { option_map (wire_of L.left L.given L.faults L.steady L.ended L.room) result ≡ self.old.link }
+    {
+        if self.incarnation != 0 {
+            self.events.enter(CellEvent::Retired);
+            self.incarnation = 0;
+        }
+        self.wire.take()
+    }
+
+    /// Ends the open dialog as superseded by a greater incarnation. Takes no memory.
+    pub fn supersede(&mut self, shown: u32)
+        requires { IsSome self.old.open_dialog }
+        ensures { self.new ≡ superseded self.old self.old.open_dialog shown }
+    {
+        match self.speaking.take() {
+            Some(speaking) => finish(&mut self.events, speaking, End::Superseded(shown)),
+            None => unreachable!(),
+        }
+    }
+
+    /// Begins a dialog: tests that the wanted incarnation is there and that none above it was begun,
+    /// enters the Drain, and puts its pushes and the Request.
+    pub fn begin<C: Columns>(
+        &mut self,
+        head: Items<u8>,
+        content: Items<u8>,
+        wanted: u32,
+        columns: &mut C,
+    ) -> Begun
+        requires closed { self.old.open_dialog ≡ None }
+        requires wanted { 0 < wanted }
+        requires declared { self.old.service < length (C.asker columns.old).config.services }
+        requires short { length head + length content + 9 ≤ LONGEST_FRAME }
+        ensures begins { Begins (C.asker columns.old) (C.shows columns.new self.old.service) (ServerFrame.Request head content) wanted self.old (C.seen columns.old) result self.new (C.seen columns.new) }
+        ensures spelled { result ≡ Begun.Started → AreSpelled self.new.open_dialog }
+        ensures still { (s k : ℕ) → C.shows columns.old s k → C.shows columns.new s k }
+        ensures asker { C.asker columns.new ≡ C.asker columns.old }
+    {
+        let is = self.incarnation;
+        if is != wanted {
+            return match self.miss(wanted, columns) {
+                Ok(()) => Begun::Missed { wanted, is },
+                Err(_) => Begun::NoMemory,
+            };
+        }
+        let shown = columns.current(self.service);
+        if shown > wanted {
+            return match self.supersede_at_once(shown, columns) {
+                Ok(()) => Begun::Superseded {
+                    incarnation: wanted,
+                    shown,
+                },
+                Err(_) => Begun::NoMemory,
+            };
+        }
+        self.open(head, content, columns)
+    }
+
+    /// Enters a Missed, and notes it.
+    fn miss<C: Columns>(&mut self, wanted: u32, columns: &mut C) -> Result<(), AllocError>
+        requires closed { self.old.open_dialog ≡ None }
+        requires another { wanted ≢ incarnation self.old.past }
+        ensures ok { OnOk result ((self.new ≡ record self.old { past = cell.Missed (C.asker columns.old).worker wanted (incarnation self.old.past) ∷ self.old.past }) × (C.seen columns.new ≡ noted (C.seen columns.old) (own.Missed self.old.service wanted (incarnation self.old.past)))) }
+        ensures err { OnErr result ((self.new ≡ self.old) × (C.seen columns.new ≡ C.seen columns.old)) }
+        ensures still { (s k : ℕ) → C.shows columns.old s k → C.shows columns.new s k }
+        ensures asker { C.asker columns.new ≡ C.asker columns.old }
+    {
+        let is = self.incarnation;
+        let missed = Own::Missed {
+            service: self.service,
+            wanted,
+            is,
+        };
+        self.events.make_room(2)?;
+        columns.note(missed)?;
+        self.events.enter(CellEvent::Missed {
+            worker: columns.worker(),
+            wanted,
+            is,
+        });
+        Ok(())
+    }
+
+    /// Enters a dialog that was superseded before its Drain, and notes it.
+    fn supersede_at_once<C: Columns>(
+        &mut self,
+        shown: u32,
+        columns: &mut C,
+    ) -> Result<(), AllocError>
+        requires closed { self.old.open_dialog ≡ None }
+        requires there { 0 < incarnation self.old.past }
+        ensures ok { OnOk result ((self.new ≡ finished self.old (C.asker columns.old).worker [] (end.Superseded shown) self.old.link) × (C.seen columns.new ≡ noted (C.seen columns.old) (own.Dialog self.old.service))) }
+        ensures err { OnErr result ((self.new ≡ self.old) × (C.seen columns.new ≡ C.seen columns.old)) }
+        ensures still { (s k : ℕ) → C.shows columns.old s k → C.shows columns.new s k }
+        ensures asker { C.asker columns.new ≡ C.asker columns.old }
+    {
+        self.events.make_room(2)?;
+        columns.note(Own::Dialog(self.service))?;
+        let speaking = Speaking {
+            worker: columns.worker(),
+            frames: 0,
+            items: Journal::new(self.alloc),
+        };
+        finish(&mut self.events, speaking, End::Superseded(shown));
+        Ok(())
+    }
+
+    /// Enters the Drain, and puts its pushes and the Request.
+    fn open<C: Columns>(&mut self, head: Items<u8>, content: Items<u8>, columns: &mut C) -> Begun
+        requires closed { self.old.open_dialog ≡ None }
+        requires there { 0 < incarnation self.old.past }
+        requires declared { self.old.service < length (C.asker columns.old).config.services }
+        requires short { length head + length content + 9 ≤ LONGEST_FRAME }
+        ensures opens { OpensCell (C.asker columns.old) (ServerFrame.Request head content) self.old (C.seen columns.old) result self.new (C.seen columns.new) }
+        ensures spelled { result ≡ Begun.Started → AreSpelled self.new.open_dialog }
+        ensures still { (s k : ℕ) → C.shows columns.old s k → C.shows columns.new s k }
+        ensures asker { C.asker columns.new ≡ C.asker columns.old }
+    {
+        if self.events.make_room(2).is_err() {
+            return Begun::NoMemory;
+        }
+        let Ok(pushes) = columns.drain(self.service, self.incarnation) else {
+            return Begun::NoMemory;
+        };
+        let Some(link) = &mut self.wire else {
+            unreachable!()
+        };
+        let mut items = Journal::new(self.alloc);
+        let heard = hear_opening(link, &mut items, pushes, head, content);
+        let speaking = Speaking {
+            worker: columns.worker(),
+            frames: 0,
+            items,
+        };
+        match heard {
+            Ok(()) => {
+                self.speaking = Some(speaking);
+                Begun::Started
+            }
+            Err(cause) => {
+                finish(&mut self.events, speaking, end_of(cause));
+                self.incarnation = 0;
+                Begun::Crashed(cause)
+            }
+        }
+    }
+
+    /// Takes the next frame of the open dialog and answers it, or ends the dialog. Reads the board
+    /// before that, and takes memory before the frame.
+    pub fn advance<C: Columns>(&mut self, columns: &mut C) -> Advanced
+        requires speaking { IsSpeaking (C.asker columns.old).worker self.old.open_dialog }
+        requires declared { self.old.service < length (C.asker columns.old).config.services }
+        ensures advances { AdvancesOpen (C.asker columns.old) (C.shows columns.new self.old.service) self.old self.old.open_dialog (C.seen columns.old) result self.new (C.seen columns.new) }
+        ensures spelled { result ≡ Advanced.Goes → IsHeardOpen self.new.open_dialog }
+        ensures next { IsTrue (C.asker columns.old).alone → IsNextBy (C.asker columns.old).worker (C.seen columns.old) (C.seen columns.new) }
+        ensures still { (s k : ℕ) → C.shows columns.old s k → C.shows columns.new s k }
+        ensures asker { C.asker columns.new ≡ C.asker columns.old }
+    {
+        let shown = columns.current(self.service);
+        if shown > self.incarnation {
+            let incarnation = self.incarnation;
+            self.supersede(shown);
+            return Advanced::Superseded { incarnation, shown };
+        }
+        match self.exchange(columns) {
+            Exchanged::Goes => Advanced::Goes,
+            Exchanged::Reply => Advanced::Reply,
+            Exchanged::Crashed(cause) => Advanced::Crashed(cause),
+        }
+    }
+
+    /// Takes the next frame of the open dialog and answers it, or ends the dialog.
+    fn exchange<C: Columns>(&mut self, columns: &mut C) -> Exchanged
+        requires speaking { IsSpeaking (C.asker columns.old).worker self.old.open_dialog }
+        requires declared { self.old.service < length (C.asker columns.old).config.services }
+        ensures steps { StepsOpen (C.asker columns.old) self.old self.old.open_dialog (C.seen columns.old) result self.new (C.seen columns.new) }
+        ensures spelled { result ≡ Exchanged.Goes → IsHeardOpen self.new.open_dialog }
+        ensures next { IsTrue (C.asker columns.old).alone → IsNextBy (C.asker columns.old).worker (C.seen columns.old) (C.seen columns.new) }
+        ensures still { (s k : ℕ) → C.shows columns.old s k → C.shows columns.new s k }
+        ensures asker { C.asker columns.new ≡ C.asker columns.old }
+    {
+        let who = Who {
+            service: self.service,
+            incarnation: self.incarnation,
+        };
+        let Some(mut speaking) = self.speaking.take() else {
+            unreachable!()
+        };
+        let Some(link) = &mut self.wire else {
+            unreachable!()
+        };
+        let exchanged = exchange(
+            self.alloc,
+            link,
+            speaking.frames,
+            &mut speaking.items,
+            columns,
+            who,
+        );
+        match exchanged {
+            Exchanged::Goes => {
+                speaking.frames += 1;
+                self.speaking = Some(speaking);
+            }
+            Exchanged::Reply => finish(&mut self.events, speaking, End::Reply),
+            Exchanged::Crashed(cause) => {
+                finish(&mut self.events, speaking, end_of(cause));
+                self.incarnation = 0;
+            }
+        }
+        exchanged
+    }
+
+    /// What happened, with an open dialog as the last event, and the link.
+    pub fn into_parts(self) -> (Past<CellEvent>, Option<L>)
+        ensures past { result.0 ≡ with_open self.open_dialog self.past }
+        ensures law { CellLaw result.0 }
+        ensures link { option_map (wire_of L.left L.given L.faults L.steady L.ended L.room) result.1 ≡ self.link }
+    {
+        let Cell {
+            alloc: _,
+            service: _,
+            incarnation: _,
+            mut events,
+            speaking,
+            wire,
+        } = self;
+        if let Some(
+            Speaking {
+                worker,
+                frames: _,
+                items,
+            },
+        ) = speaking
+        {
+            events.enter(CellEvent::Speaking {
+                worker,
+                items: items.into_past(),
+            });
+        }
+        (events.into_past(), wire)
+    }
+}

@@ -1,0 +1,340 @@
+//! One exchange of a dialog, between a link and the columns.
+
+ghost use Rattle.std.specs.Prelude.{◌≡◌, ◌≤◌, ◌<◌, ℕ, ◌+◌, [], true, length, MatchOption, IsTrue, OnOk};
+ghost use Rattle.okws_base.specs.Runs.{Each};
+ghost use Rattle.frame_codec.specs.Spelling.{server_spelling, HasSpelling};
+ghost use Rattle.frame_link.specs.Wire.{wire_of};
+ghost use Rattle.monitor_model.specs.Course.{Answers, opening, said_count, verdict_frame as frame_of_verdict, got_frame as frame_of_got, noted_frame as frame_of_noted, push_frame as frame_of_push};
+ghost use Rattle.service_cell.specs.Asking.{Asker, IsNextBy, IsShortPush, IsShortGot};
+ghost use Rattle.service_cell.specs.Exchange.{FitsFrame, IsReply, IsSpelled, IsHeardLast, PutsFrame, Hears, Opens, Exchanges, AnswersFrame};
+
+use crate::columns::Columns;
+use frame_codec::frame::{ServerFrame, ServiceFrame};
+use frame_codec::making;
+use frame_link::receiving::{NextFrame, next};
+use frame_link::sending::{LinkFault, send};
+use monitor_model::record::Item;
+use monitor_model::verdict::{Got, Noted, Push, Verdict};
+use okws_base::crash::Cause;
+use okws_base::denial::Rule;
+use okws_base::items::{Exact, Items};
+use okws_base::journal::Journal;
+use okws_base::limit::{LONGEST_FRAME, MOST_FRAMES};
+use okws_base::value::{Token, Value};
+use okws_outer::stream::Link;
+use okws_plan::event::Call;
+use std::alloc::{AllocError, Global};
+
+/// The service and the incarnation that speak.
+#[derive(Clone, Copy, PartialEq, Eq)]
+pub(crate) struct Who {
+    pub(crate) service: u16,
+    pub(crate) incarnation: u32,
+}
+
+/// How an exchange went.
+#[derive(Clone, Copy, PartialEq, Eq)]
+pub(crate) enum Exchanged {
+    Goes,
+    Reply,
+    Crashed(Cause),
+}
+
+/// The frame that tells a verdict.
+fn told_verdict(verdict: Verdict) -> ServerFrame
+    requires { FitsFrame verdict }
+    ensures frame { result ≡ frame_of_verdict verdict }
+    ensures spelling { HasSpelling result }
+{
+    match verdict {
+        Verdict::Opened(session) => making::opened(session),
+        Verdict::Rows { columns, rows } => making::rows(columns as u8, rows),
+        Verdict::Changed(rows) => making::changed(rows),
+        Verdict::Duplicate => making::duplicate(),
+        Verdict::Denied(rule) => making::denied(rule.number()),
+        Verdict::Failed => making::failed(),
+    }
+}
+
+/// The frame that tells what a Get is answered.
+fn told_got(got: Got) -> ServerFrame
+    requires { IsShortGot got }
+    ensures frame { result ≡ frame_of_got got }
+    ensures spelling { HasSpelling result }
+{
+    match got {
+        Got::Template { edition, content } => making::template(edition, content),
+        Got::Denied(rule) => making::denied(rule.number()),
+    }
+}
+
+/// The frame that tells what a Log is answered.
+fn told_noted(noted: Noted) -> ServerFrame
+    ensures frame { result ≡ frame_of_noted noted }
+    ensures spelling { HasSpelling result }
+{
+    match noted {
+        Noted::Logged => making::logged(),
+        Noted::Denied(rule) => making::denied(rule.number()),
+    }
+}
+
+/// The frame of a push.
+fn told_push(push: Push) -> ServerFrame
+    requires { IsShortPush push }
+    ensures frame { result ≡ frame_of_push push }
+    ensures spelling { HasSpelling result }
+{
+    making::push(push.template, push.edition, push.content)
+}
+
+fn answer_open<C: Columns>(columns: &mut C, who: Who, proxy: u16, shown: Token) -> ServerFrame
+    requires { who.service < length (C.asker columns.old).config.services }
+    ensures answer { Answers (C.asker columns.old).config (record { worker = (C.asker columns.old).worker; service = who.service; incarnation = who.incarnation }) (ServiceFrame.Open proxy shown) (C.seen columns.old) result (C.seen columns.new) }
+    ensures spelling { HasSpelling result }
+    ensures next { IsTrue (C.asker columns.old).alone → IsNextBy (C.asker columns.old).worker (C.seen columns.old) (C.seen columns.new) }
+    ensures still { (s k : ℕ) → C.shows columns.old s k → C.shows columns.new s k }
+    ensures asker { C.asker columns.new ≡ C.asker columns.old }
+{
+    if proxy as usize >= columns.proxies() {
+        return making::denied(Rule::NoSuchProxy.number());
+    }
+    match columns.open_session(proxy, who.service, who.incarnation, shown) {
+        Ok(verdict) => told_verdict(verdict),
+        Err(_) => making::no_memory(),
+    }
+}
+
+fn answer_call<C: Columns>(columns: &mut C, proxy: u16, call: Call) -> ServerFrame
+    requires { call.service < length (C.asker columns.old).config.services }
+    ensures answer { Answers (C.asker columns.old).config (record { worker = (C.asker columns.old).worker; service = call.service; incarnation = call.incarnation }) (ServiceFrame.Call proxy call.session call.query call.args) (C.seen columns.old) result (C.seen columns.new) }
+    ensures spelling { HasSpelling result }
+    ensures next { IsTrue (C.asker columns.old).alone → IsNextBy (C.asker columns.old).worker (C.seen columns.old) (C.seen columns.new) }
+    ensures still { (s k : ℕ) → C.shows columns.old s k → C.shows columns.new s k }
+    ensures asker { C.asker columns.new ≡ C.asker columns.old }
+{
+    if proxy as usize >= columns.proxies() {
+        return making::denied(Rule::NoSuchProxy.number());
+    }
+    match columns.call(proxy, call) {
+        Ok(verdict) => told_verdict(verdict),
+        Err(_) => making::no_memory(),
+    }
+}
+
+fn answer_get<C: Columns>(columns: &mut C, who: Who, name: Items<u8>) -> ServerFrame
+    requires { who.service < length (C.asker columns.old).config.services }
+    ensures answer { Answers (C.asker columns.old).config (record { worker = (C.asker columns.old).worker; service = who.service; incarnation = who.incarnation }) (ServiceFrame.Get name) (C.seen columns.old) result (C.seen columns.new) }
+    ensures spelling { HasSpelling result }
+    ensures next { IsTrue (C.asker columns.old).alone → IsNextBy (C.asker columns.old).worker (C.seen columns.old) (C.seen columns.new) }
+    ensures still { (s k : ℕ) → C.shows columns.old s k → C.shows columns.new s k }
+    ensures asker { C.asker columns.new ≡ C.asker columns.old }
+{
+    match columns.get(who.service, who.incarnation, name) {
+        Ok(got) => told_got(got),
+        Err(_) => making::no_memory(),
+    }
+}
+
+fn answer_log<C: Columns>(columns: &mut C, who: Who, text: Items<u8>) -> ServerFrame
+    requires { who.service < length (C.asker columns.old).config.services }
+    ensures answer { Answers (C.asker columns.old).config (record { worker = (C.asker columns.old).worker; service = who.service; incarnation = who.incarnation }) (ServiceFrame.Log text) (C.seen columns.old) result (C.seen columns.new) }
+    ensures spelling { HasSpelling result }
+    ensures next { IsTrue (C.asker columns.old).alone → IsNextBy (C.asker columns.old).worker (C.seen columns.old) (C.seen columns.new) }
+    ensures still { (s k : ℕ) → C.shows columns.old s k → C.shows columns.new s k }
+    ensures asker { C.asker columns.new ≡ C.asker columns.old }
+{
+    match columns.log(who.service, who.incarnation, text) {
+        Ok(noted) => told_noted(noted),
+        Err(_) => making::no_memory(),
+    }
+}
+
+/// Answers a Call, of which the item keeps the arguments.
+fn answer_copied_call<C: Columns>(
+    alloc: Global,
+    columns: &mut C,
+    who: Who,
+    proxy: u16,
+    session: u32,
+    query: u16,
+    args: &Items<Value>,
+) -> ServerFrame
+    requires { who.service < length (C.asker columns.old).config.services }
+    ensures answer { Answers (C.asker columns.old).config (record { worker = (C.asker columns.old).worker; service = who.service; incarnation = who.incarnation }) (ServiceFrame.Call proxy session query args.now) (C.seen columns.old) result (C.seen columns.new) }
+    ensures spelling { HasSpelling result }
+    ensures next { IsTrue (C.asker columns.old).alone → IsNextBy (C.asker columns.old).worker (C.seen columns.old) (C.seen columns.new) }
+    ensures still { (s k : ℕ) → C.shows columns.old s k → C.shows columns.new s k }
+    ensures asker { C.asker columns.new ≡ C.asker columns.old }
+{
+    if proxy as usize >= columns.proxies() {
+        return making::denied(Rule::NoSuchProxy.number());
+    }
+    let Ok(args) = args.copy(alloc) else {
+        return making::no_memory();
+    };
+    answer_call(
+        columns,
+        proxy,
+        Call {
+            service: who.service,
+            incarnation: who.incarnation,
+            session,
+            query,
+            args,
+        },
+    )
+}
+
+/// Answers what was said by one frame; a Reply has none.
+fn answer<C: Columns>(
+    alloc: Global,
+    columns: &mut C,
+    who: Who,
+    said: &ServiceFrame,
+) -> Option<ServerFrame>
+    requires { who.service < length (C.asker columns.old).config.services }
+    ensures answer { MatchOption result (IsReply said.now × (C.seen columns.new ≡ C.seen columns.old)) (λ heard. HasSpelling heard × Answers (C.asker columns.old).config (record { worker = (C.asker columns.old).worker; service = who.service; incarnation = who.incarnation }) said.now (C.seen columns.old) heard (C.seen columns.new)) }
+    ensures next { IsTrue (C.asker columns.old).alone → IsNextBy (C.asker columns.old).worker (C.seen columns.old) (C.seen columns.new) }
+    ensures still { (s k : ℕ) → C.shows columns.old s k → C.shows columns.new s k }
+    ensures asker { C.asker columns.new ≡ C.asker columns.old }
+{
+    match said {
+        ServiceFrame::Open { proxy, shown } => Some(answer_open(columns, who, *proxy, *shown)),
+        ServiceFrame::Call {
+            proxy,
+            session,
+            query,
+            args,
+        } => Some(answer_copied_call(alloc, columns, who, *proxy, *session, *query, args)),
+        ServiceFrame::Get(name) => match name.copy(alloc) {
+            Ok(name) => Some(answer_get(columns, who, name)),
+            Err(_) => Some(making::no_memory()),
+        },
+        ServiceFrame::Log(text) => match text.copy(alloc) {
+            Ok(text) => Some(answer_log(columns, who, text)),
+            Err(_) => Some(making::no_memory()),
+        },
+        ServiceFrame::Reply { .. } => None,
+    }
+}
+
+/// Puts a frame for which there is room where the link is steady.
+pub(crate) fn put_frame<L: Link>(link: &mut L, frame: &ServerFrame) -> Result<(), LinkFault>
+    requires spelling { HasSpelling frame.now }
+    requires room { L.steady link.old ≡ true → length (server_spelling frame.now) ≤ L.room link.old }
+    ensures { PutsFrame (wire_of L.left L.given L.faults L.steady L.ended L.room link.old) (server_spelling frame.now) result (wire_of L.left L.given L.faults L.steady L.ended L.room link.new) }
+{
+    send(link, frame)
+}
+
+/// Puts a frame, and enters it as heard. Makes room for both first.
+#[tactic(auto, using(crate::proofs::Wires::spelling_is_short))]
+fn hear<L: Link>(link: &mut L, items: &mut Journal<Item>, frame: ServerFrame) -> Result<(), Cause>
+    requires { HasSpelling frame }
+    ensures { Hears (wire_of L.left L.given L.faults L.steady L.ended L.room link.old) items.old.past frame result (wire_of L.left L.given L.faults L.steady L.ended L.room link.new) items.new.past }
+{
+    if items.make_room(1).is_err() || link.make_room(LONGEST_FRAME + 4).is_err() {
+        return Err(Cause::Starved);
+    }
+    match put_frame(link, &frame) {
+        Ok(()) => {
+            items.enter(Item::Heard(frame));
+            Ok(())
+        }
+        Err(_) => Err(Cause::LinkFault),
+    }
+}
+
+/// Puts the pushes and the Request of a dialog, each of which is heard.
+pub(crate) fn hear_opening<L: Link>(
+    link: &mut L,
+    items: &mut Journal<Item>,
+    pushes: Vec<Push>,
+    head: Items<u8>,
+    content: Items<u8>,
+) -> Result<(), Cause>
+    requires fresh { items.old.past ≡ [] }
+    requires short { Each IsShortPush pushes.items }
+    requires request { length head + length content + 9 ≤ LONGEST_FRAME }
+    ensures opens { Opens (wire_of L.left L.given L.faults L.steady L.ended L.room link.old) (opening pushes.items (ServerFrame.Request head content)) result (wire_of L.left L.given L.faults L.steady L.ended L.room link.new) items.new.past }
+    ensures said { said_count items.new.past ≡ 0 }
+    ensures spelled { OnOk result (Each IsSpelled items.new.past) }
+{
+    for push in pushes {
+        if let Err(cause) = hear(link, items, told_push(push)) {
+            return Err(cause);
+        }
+    }
+    hear(link, items, making::request(head, content))
+}
+
+/// Takes a frame that came over the link, and answers it.
+fn exchange_frame<L: Link, C: Columns>(
+    alloc: Global,
+    link: &mut L,
+    frames: usize,
+    items: &mut Journal<Item>,
+    columns: &mut C,
+    who: Who,
+    said: ServiceFrame,
+) -> Exchanged
+    requires declared { who.service < length (C.asker columns.old).config.services }
+    requires counted { frames ≡ said_count items.old.past }
+    requires most { frames ≤ MOST_FRAMES }
+    requires places { 2 ≤ items.old.room }
+    requires room { L.steady link.old ≡ true → LONGEST_FRAME + 4 ≤ L.room link.old }
+    ensures exchanged { AnswersFrame (C.asker columns.old).config (record { worker = (C.asker columns.old).worker; service = who.service; incarnation = who.incarnation }) (wire_of L.left L.given L.faults L.steady L.ended L.room link.old) items.old.past said (C.seen columns.old) result (wire_of L.left L.given L.faults L.steady L.ended L.room link.new) items.new.past (C.seen columns.new) }
+    ensures spelled { result ≡ Exchanged.Goes → IsHeardLast items.new.past }
+    ensures next { IsTrue (C.asker columns.old).alone → IsNextBy (C.asker columns.old).worker (C.seen columns.old) (C.seen columns.new) }
+    ensures still { (s k : ℕ) → C.shows columns.old s k → C.shows columns.new s k }
+    ensures asker { C.asker columns.new ≡ C.asker columns.old }
+{
+    if frames >= MOST_FRAMES {
+        items.enter(Item::Said(said));
+        return Exchanged::Crashed(Cause::FrameLimit);
+    }
+    let reply = answer(alloc, columns, who, &said);
+    items.enter(Item::Said(said));
+    let Some(heard) = reply else {
+        return Exchanged::Reply;
+    };
+    match put_frame(link, &heard) {
+        Ok(()) => {
+            items.enter(Item::Heard(heard));
+            Exchanged::Goes
+        }
+        Err(_) => Exchanged::Crashed(Cause::LinkFault),
+    }
+}
+
+/// Takes the next frame and answers it. Takes memory for both before that, but what the answer asks
+/// of the columns.
+pub(crate) fn exchange<L: Link, C: Columns>(
+    alloc: Global,
+    link: &mut L,
+    frames: usize,
+    items: &mut Journal<Item>,
+    columns: &mut C,
+    who: Who,
+) -> Exchanged
+    requires declared { who.service < length (C.asker columns.old).config.services }
+    requires counted { frames ≡ said_count items.old.past }
+    requires most { frames ≤ MOST_FRAMES }
+    ensures exchanged { Exchanges (C.asker columns.old).config (record { worker = (C.asker columns.old).worker; service = who.service; incarnation = who.incarnation }) (wire_of L.left L.given L.faults L.steady L.ended L.room link.old) items.old.past (C.seen columns.old) result (wire_of L.left L.given L.faults L.steady L.ended L.room link.new) items.new.past (C.seen columns.new) }
+    ensures spelled { result ≡ Exchanged.Goes → IsHeardLast items.new.past }
+    ensures next { IsTrue (C.asker columns.old).alone → IsNextBy (C.asker columns.old).worker (C.seen columns.old) (C.seen columns.new) }
+    ensures still { (s k : ℕ) → C.shows columns.old s k → C.shows columns.new s k }
+    ensures asker { C.asker columns.new ≡ C.asker columns.old }
+{
+    if items.make_room(2).is_err() || link.make_room(LONGEST_FRAME + 4).is_err() {
+        return Exchanged::Crashed(Cause::Starved);
+    }
+    match next(alloc, link) {
+        NextFrame::Frame(said) => exchange_frame(alloc, link, frames, items, columns, who, said),
+        NextFrame::Ended => Exchanged::Crashed(Cause::Ended),
+        NextFrame::BadFrame => Exchanged::Crashed(Cause::BadFrame),
+        NextFrame::LinkFault => Exchanged::Crashed(Cause::LinkFault),
+        NextFrame::NoMemory => Exchanged::Crashed(Cause::Starved),
+    }
+}

@@ -1,0 +1,12 @@
+//! The cell of a service: its link, its incarnation, and its transcript. A dialog is begun with a
+//! request and goes on frame by frame, each answered by the columns; every way in which it can end is
+//! an event of the cell.
+#![tactic(auto)]
+
+pub mod answer;
+pub mod cell;
+pub mod columns;
+mod exchange;
+pub mod memory;
+#[cfg(test)]
+mod tests;

@@ -1,0 +1,150 @@
+//! Dialogs over a link in memory, one for each way in which they end.
+
+ghost use Rattle.std.specs.Prelude.{◌≡◌, ◌≢◌, None, IfSome};
+ghost use Rattle.monitor_model.specs.Cell.{incarnation};
+ghost use Rattle.service_cell.specs.Steps.{IsSpeaking};
+
+mod bare;
+
+use crate::answer::{Advanced, Begun, Booting};
+use crate::cell::Cell;
+use bare::Bare;
+use okws_base::crash::Cause;
+use okws_base::items::Items;
+use okws_outer::memory::link::MemoryLink;
+use std::alloc::{AllocError, Global};
+use std::test::Fail;
+
+const LOG: &[u8] = b"\x00\x00\x00\x07\x44\x00\x00\x00\x02hi";
+
+const REPLY: &[u8] = b"\x00\x00\x00\x15\x45\x00\xc8\x0atext/plain\x00\x00\x00\x00\x02ok";
+
+/// One letter for each answer.
+fn letter_of(answer: Advanced) -> char {
+    match answer {
+        Advanced::Goes => 'g',
+        Advanced::Reply => 'r',
+        Advanced::Superseded { .. } => 's',
+        Advanced::Crashed(Cause::BadFrame) => 'b',
+        Advanced::Crashed(Cause::Ended) => 'e',
+        Advanced::Crashed(Cause::LinkFault) => 'f',
+        Advanced::Crashed(Cause::FrameLimit) => 'l',
+        Advanced::Crashed(Cause::Starved) => 'n',
+    }
+}
+
+/// The cell, once its dialog is open.
+fn begun<'a>(
+    alloc: Global,
+    mut cell: Cell<MemoryLink<'a>>,
+    columns: &mut Bare,
+) -> Option<Cell<MemoryLink<'a>>>
+    requires service { cell.service ≡ 0 }
+    requires closed { cell.open_dialog ≡ None }
+    ensures { IfSome result (λ c. IsSpeaking 0 c.open_dialog × (c.service ≡ 0) × (incarnation c.past ≢ 0)) }
+{
+    let head = Items::of(Vec::new(alloc));
+    let content = Items::of(Vec::new(alloc));
+    match cell.begin(head, content, 1, columns) {
+        Begun::Started => Some(cell),
+        _ => {
+            let _parts = cell.into_parts();
+            None
+        }
+    }
+}
+
+/// A cell whose dialog is open, with this link.
+fn started<'a>(
+    alloc: Global,
+    link: MemoryLink<'a>,
+    columns: &mut Bare,
+) -> Option<Cell<MemoryLink<'a>>>
+    ensures { IfSome result (λ c. IsSpeaking 0 c.open_dialog × (c.service ≡ 0) × (incarnation c.past ≢ 0)) }
+{
+    let mut cell = Cell::new(alloc, 0);
+    match cell.boot(link, 1, Items::of(Vec::new(alloc))) {
+        Booting::Booted => begun(alloc, cell, columns),
+        Booting::LinkFault(_) | Booting::NoMemory(_) => {
+            let _parts = cell.into_parts();
+            None
+        }
+    }
+}
+
+/// The letter of the last of at most two answers.
+fn last_answer(cell: &mut Cell<MemoryLink>, columns: &mut Bare) -> char
+    requires { IsSpeaking 0 cell.old.open_dialog × (cell.old.service ≡ 0) × (incarnation cell.old.past ≢ 0) }
+{
+    match cell.advance(columns) {
+        Advanced::Goes => letter_of(cell.advance(columns)),
+        other => letter_of(other),
+    }
+}
+
+/// The last letter where these bytes come, and what was put on the link; nothing where no dialog opens.
+fn spoken(
+    alloc: Global,
+    coming: &[u8],
+    has_ended: bool,
+    shown: u32,
+    failing: &[u64],
+) -> Result<(char, Vec<u8>), AllocError> {
+    let mut columns = Bare::new(alloc);
+    let link = MemoryLink::new(alloc, 3, failing);
+    let Some(mut cell) = started(alloc, link, &mut columns) else {
+        return Ok(('-', Vec::new(alloc)));
+    };
+    columns.shown = shown;
+    let fed = cell.feed(coming);
+    if has_ended {
+        cell.feed_end();
+    }
+    let letter = last_answer(&mut cell, &mut columns);
+    let (_past, link) = cell.into_parts();
+    fed?;
+    match link {
+        Some(link) => Ok((letter, Vec::from_slice(alloc, link.given())?)),
+        None => Ok((letter, Vec::new(alloc))),
+    }
+}
+
+#[test]
+fn each_end_comes_once(rt: HostRuntime) -> Result<(), Fail> {
+    for (coming, has_ended, shown, want) in [
+        // A Log, and nothing behind it, or its end.
+        (LOG, false, 1, 'e'),
+        (LOG, true, 1, 'e'),
+        // A Reply, and one that comes after a greater incarnation was begun.
+        (REPLY, false, 1, 'r'),
+        (REPLY, false, 2, 's'),
+        // No frame, and the end inside of one.
+        (b"\x00\x00\x00\x01\xff", false, 1, 'b'),
+        (b"\x00\x00\x00\x07\x44", true, 1, 'b'),
+    ] {
+        let (letter, _given) = spoken(rt.alloc(), coming, has_ended, shown, &[])?;
+        assert_eq!(rt; letter, want);
+    }
+    Ok(())
+}
+
+#[test]
+fn a_link_fails(rt: HostRuntime) -> Result<(), Fail> {
+    // The call that takes a Log, and one within its answer: what was put before stays.
+    for (call, length) in [(11, 25), (17, 29)] {
+        let (letter, given) = spoken(rt.alloc(), LOG, true, 1, &[call])?;
+        assert_eq!(rt; letter, 'f');
+        assert_eq!(rt; given.len(), length);
+    }
+    Ok(())
+}
+
+#[test]
+fn frames_are_put(rt: HostRuntime) -> Result<(), Fail> {
+    // A Boot without tokens, an empty Request, and NoMemory, which the columns say of any Log.
+    let (_letter, given) = spoken(rt.alloc(), LOG, true, 1, &[])?;
+    let want =
+        b"\x00\x00\x00\x08\x01\x00\x00\x00\x00\x00\x01\x00\x00\x00\x00\x09\x02\x00\x00\x00\x00\x00\x00\x00\x00\x00\x00\x00\x01\x0b";
+    assert!(rt; given.as_slice() == want.as_slice());
+    Ok(())
+}

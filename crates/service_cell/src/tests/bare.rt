@@ -1,0 +1,117 @@
+//! Columns of a site with one service, one proxy and no grants, where one Drain may be entered.
+
+ghost use Rattle.std.specs.Prelude.{◌≡◌, [], ◌∷◌, false};
+
+use crate::columns::Columns;
+use monitor_model::record::Own;
+use monitor_model::verdict::{Got, Noted, Push, Verdict};
+use okws_base::items::Items;
+use okws_base::journal::{Entry, Journal};
+use okws_base::value::Token;
+use okws_plan::event::{Call, PubdEvent};
+use std::alloc::{AllocError, Global};
+
+/// The entries and the items of number 0, and what the board shows.
+#[derive(Drop)]
+pub(super) struct Bare {
+    alloc: Global,
+    pub(super) shown: u32,
+    drained: Journal<Entry<PubdEvent>>,
+    own: Journal<Own>,
+}
+
+impl Bare {
+    pub(super) fn new(alloc: Global) -> Self {
+        Bare {
+            alloc,
+            shown: 1,
+            drained: Journal::new(alloc),
+            own: Journal::new(alloc),
+        }
+    }
+}
+
+impl Columns for Bare {
+    ghost use Rattle.std.specs.Prelude.{[], ◌∷◌, false, ◌≡◌};
+
+    ghost asker = { λ b. record {
+      config = record { proxies = record { name = []; tables = []; queries = [] } ∷ []; services = record { name = []; words = [] } ∷ []; templates = []; retry = 0; paths = []; grants = []; readables = []; loggers = [] };
+      worker = 0;
+      alone = false;
+    } };
+
+    ghost seen = { λ b. record { okd = []; proxies = []; pubd = b.drained.past; oklogd = []; launcher = []; own = b.own.past } };
+
+    ghost shows = { λ b s k. b.shown ≡ k };
+
+    fn worker(&self) -> u16 {
+        0
+    }
+
+    fn proxies(&self) -> usize {
+        1
+    }
+
+    fn current(&mut self, _service: u16) -> u32 {
+        self.shown
+    }
+
+    fn note(&mut self, item: Own) -> Result<(), AllocError> {
+        self.own.make_room(1)?;
+        self.own.enter(item);
+        Ok(())
+    }
+
+    fn drain(&mut self, service: u16, incarnation: u32) -> Result<Vec<Push>, AllocError> {
+        if !self.drained.as_slice().is_empty() {
+            return Err(AllocError);
+        }
+        self.drained.make_room(1)?;
+        self.own.make_room(2)?;
+        self.own.enter(Own::Dialog(service));
+        self.own.enter(Own::Pubd(PubdEvent::Drain {
+            service,
+            incarnation,
+        }));
+        self.drained.enter(Entry {
+            worker: 0,
+            event: PubdEvent::Drain {
+                service,
+                incarnation,
+            },
+        });
+        Ok(Vec::new(self.alloc))
+    }
+
+    fn open_session(
+        &mut self,
+        _proxy: u16,
+        _service: u16,
+        _incarnation: u32,
+        _shown: Token,
+    ) -> Result<Verdict, AllocError> {
+        Err(AllocError)
+    }
+
+    fn call(&mut self, _proxy: u16, _call: Call) -> Result<Verdict, AllocError> {
+        Err(AllocError)
+    }
+
+    fn get(
+        &mut self,
+        _service: u16,
+        _incarnation: u32,
+        _name: Items<u8>,
+    ) -> Result<Got, AllocError> {
+        Err(AllocError)
+    }
+
+    fn log(
+        &mut self,
+        _service: u16,
+        _incarnation: u32,
+        _text: Items<u8>,
+    ) -> Result<Noted, AllocError> {
+        Err(AllocError)
+    }
+}

@@ -1,0 +1,18 @@
+-- What a run prints where it ends early.
+use Rattle.std.specs.Prelude.{ℕ, List, [], ◌∷◌, ◌++◌, ◌⊎◌, codes}
+use Rattle.std.specs.Io.KnownBytes.{Appends}
+use Rattle.std.specs.declared.option.Option.{Option}
+use Rattle.okws_outer.specs.Streams.{AppendsPrefix}
+
+-- `read fault` and LF.
+abbrev pub read_fault_line : List ℕ
+read_fault_line = codes "read fault" ++ 10 ∷ []
+
+-- `no memory` and LF.
+abbrev pub no_memory_line : List ℕ
+no_memory_line = codes "no memory" ++ 10 ∷ []
+
+-- All that is due was given, or a prefix of it where the count of out rose.
+pub record Told (old new : Option (List ℕ)) (due : List ℕ) (out_rose : Type 0) : Type 0 where
+  pub part : AppendsPrefix old new due
+  pub whole : Appends old new due ⊎ out_rose

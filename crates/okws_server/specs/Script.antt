@@ -1,0 +1,78 @@
+-- The script of a run, line by line, and where it is refused.
+use Rattle.std.specs.Prelude.{◌≡◌, ⊤, ℕ, ◌+◌, List, [], ◌∷◌, ◌++◌, length, reverse, option_map, Option, Some, None, Result, Ok, Err}
+use Rattle.std.specs.declared.alloc.AllocError.{AllocError}
+use Rattle.okws_base.specs.Runs.{Each}
+use Rattle.okws_plan.specs.Lines.{LineFits}
+use Rattle.okws_plan.specs.declared.configuration.Config.{Config}
+use Rattle.okws_plan.specs.declared.script.Line.{Line}
+use Rattle.monitor_model.specs.Stage.{Stage}
+use Rattle.monitor_model.specs.Script.{Plays, PlaysAll, refusal}
+use Rattle.play_script.specs.Reading.{script_reads}
+use Rattle.play_script.specs.Rule.{script_rule_number}
+use Rattle.play_script.specs.declared.rule.ScriptRule.{ScriptRule}
+use Rattle.play_script.specs.declared.reading.LineRead.{LineRead}
+use Rattle.play_script.specs.declared.reading.LineRead.TheVariants as read
+use Rattle.okws_server.specs.Run.{Run, at_stage, IsShortLine}
+use Rattle.okws_server.specs.declared.script.Broken.{Broken}
+
+-- A line before others: a skipped one says nothing, and one that is broken has no run.
+abbrev pub before_lines : LineRead → Option (List Line) → Option (List Line)
+before_lines read.Skipped more = more
+before_lines (read.Broken rule) more = None
+before_lines (read.Says line) more = option_map (λ (lines : List Line). line ∷ lines) more
+
+-- What lines that were read say, in order, where each is skipped or says something.
+abbrev pub said_by : List LineRead → Option (List Line)
+said_by [] = Some []
+said_by (read ∷ more) = before_lines read (said_by more)
+
+-- A line that was read has a short target.
+abbrev pub IsShortRead : LineRead → Type 0
+IsShortRead read.Skipped = Unit {0}
+IsShortRead (read.Broken rule) = Unit {0}
+IsShortRead (read.Says line) = IsShortLine line
+
+-- What a line that was read makes of a state, and what it prints: a skipped one nothing, and one that is broken has no step.
+abbrev pub PlaysRead : Config → List ℕ → LineRead → Stage → List ℕ → Stage → Type 0
+PlaysRead C seed read.Skipped S text now = (text ≡ []) × (now ≡ S)
+PlaysRead C seed (read.Broken rule) S text now = ⊥
+PlaysRead C seed (read.Says line) S text now = Plays C seed line S text now
+
+-- The rule that a line that was read breaks at a state: one of the grammar, or one that its line breaks there.
+abbrev pub Breaks : LineRead → Stage → ℕ → Type 0
+Breaks read.Skipped S number = ⊥
+Breaks (read.Broken rule) S number = number ≡ script_rule_number rule
+Breaks (read.Says line) S number = refusal line S ≡ Some number
+
+-- The lines that were read say these, which lead from nothing to a state, and print this.
+pub record HasPlayed (C : Config) (seed : List ℕ) (reads : List LineRead) (printed : List ℕ) (S : Stage) : Type 0 where
+  pub lines : List Line
+  pub says : said_by reads ≡ Some lines
+  pub fit : Each (LineFits C) lines
+  pub plays : PlaysAll C seed (reverse lines) printed S
+
+-- A script is broken at a line, counted from 1: the lines before it lead to a state, where this line breaks the rule.
+pub record IsBrokenAt (C : Config) (seed text printed : List ℕ) (S : Stage) (line rule : ℕ) : Type 0 where
+  pub front : List LineRead
+  pub broken : LineRead
+  pub rest : List LineRead
+  pub parts : script_reads C text ≡ front ++ broken ∷ rest
+  pub number : line ≡ length front + 1
+  pub played : HasPlayed C seed front printed S
+  pub breaks : Breaks broken S rule
+
+-- What a line that was read makes of a run, and what it prints; where it breaks a rule, all is as before and nothing is printed.
+abbrev pub PlayedRead : Run → LineRead → (List ℕ → Type 0) → Result (Option ScriptRule) AllocError → Run → Type 0
+PlayedRead run line prints (Ok None) after =
+    (text : List ℕ) × PlaysRead run.config run.seed line run.stage text after.stage × (after ≡ at_stage run after.stage) × prints text
+PlayedRead run line prints (Ok (Some rule)) after = Breaks line run.stage (script_rule_number rule) × (after ≡ run) × prints []
+PlayedRead run line prints (Err e) after = ⊤
+
+-- What the lines of a script make of a run, up to the first that is broken, and what they print.
+abbrev pub PlayedLines : Run → List ℕ → (List ℕ → Type 0) → Result (Option Broken) AllocError → Run → Type 0
+PlayedLines run text prints (Ok None) after =
+    (printed : List ℕ) × HasPlayed run.config run.seed (script_reads run.config text) printed after.stage × (after ≡ at_stage run after.stage) × prints printed
+PlayedLines run text prints (Ok (Some found)) after =
+    (printed : List ℕ) × IsBrokenAt run.config run.seed text printed after.stage found.line (script_rule_number found.rule) × (after ≡ at_stage run after.stage)
+    × prints printed
+PlayedLines run text prints (Err e) after = ⊤

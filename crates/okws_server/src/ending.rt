@@ -1,0 +1,83 @@
+//! The last lines of runs that end early.
+
+ghost use Rattle.std.specs.Prelude.{◌≡◌, ◌⊎◌, OnOk};
+ghost use Rattle.okws_outer.specs.Printing.{Prints, CountsOn};
+ghost use Rattle.play_script.specs.Refusal.{config_refused, script_refused};
+ghost use Rattle.play_script.specs.Rule.{script_rule_number};
+ghost use Rattle.config_reader.specs.RuleNumber.{rule_number};
+ghost use Rattle.okws_server.specs.Ending.{Told, read_fault_line, no_memory_line};
+ghost use Rattle.okws_outer.specs.Streams.{Rose};
+ghost use Rattle.okws_server.specs.Ran.{out_status};
+
+use crate::script::Broken;
+use crate::status::Status;
+use config_reader::Refusal;
+use okws_outer::printing::print;
+use okws_outer::stream::Sink;
+use play_script::refusal::{config_refused, script_refused};
+use std::alloc::{AllocError, Global};
+
+/// How a run ends that printed all that was due, unless out has stopped.
+pub fn out_status(stopped: bool) -> Status
+    ensures { result ≡ out_status stopped }
+{
+    if stopped {
+        Status::OutFault
+    } else {
+        Status::Ok
+    }
+}
+
+/// Prints the last line of a run of which nothing was printed.
+fn print_last<O: Sink>(out: &mut O, line: &[u8])
+    ensures { Told (O.given out.old) (O.given out.new) line.now (Rose (O.faults out.old) (O.faults out.new)) }
+{
+    let mut stopped = false;
+    print(out, &mut stopped, line);
+}
+
+/// Prints that a file could not be read.
+pub fn print_read_fault<O: Sink>(out: &mut O)
+    ensures { Told (O.given out.old) (O.given out.new) read_fault_line (Rose (O.faults out.old) (O.faults out.new)) }
+{
+    print_last(out, b"read fault\n");
+}
+
+/// Prints that memory was refused.
+pub fn print_no_memory<O: Sink>(out: &mut O)
+    ensures { Told (O.given out.old) (O.given out.new) no_memory_line (Rose (O.faults out.old) (O.faults out.new)) }
+{
+    print_last(out, b"no memory\n");
+}
+
+/// Prints where a configuration is refused, and answers how the run ends.
+pub fn print_config_refusal<O: Sink>(alloc: Global, out: &mut O, refusal: Refusal) -> Status
+    ensures status { result ≡ Status.ConfigRefused ⊎ result ≡ Status.NoMemory }
+    ensures told { result ≡ Status.ConfigRefused → Told (O.given out.old) (O.given out.new) (config_refused refusal.line (rule_number refusal.rule)) (Rose (O.faults out.old) (O.faults out.new)) }
+{
+    match config_refused(alloc, refusal.line as usize, refusal.rule.number()) {
+        Ok(line) => {
+            print_last(out, &line);
+            Status::ConfigRefused
+        }
+        Err(_) => {
+            print_no_memory(out);
+            Status::NoMemory
+        }
+    }
+}
+
+/// Prints where a script is refused, behind what was printed before.
+pub fn print_script_refusal<O: Sink>(
+    alloc: Global,
+    out: &mut O,
+    stopped: &mut bool,
+    found: Broken,
+) -> Result<(), AllocError>
+    ensures printed { OnOk result (Prints (O.given out.old) stopped.old (O.given out.new) stopped.new (script_refused found.line (script_rule_number found.rule))) }
+    ensures counted { CountsOn (O.faults out.old) stopped.old (O.faults out.new) stopped.new }
+{
+    let line = script_refused(alloc, found.line, found.rule.number())?;
+    print(out, stopped, &line);
+    Ok(())
+}

@@ -1,0 +1,15 @@
+//! The server: a run of the program, from its words and the outside to its status and its record.
+#![tactic(auto)]
+
+mod checking;
+mod command;
+mod ending;
+mod listing;
+pub mod play;
+mod preparing;
+mod script;
+mod script_run;
+pub mod status;
+mod top;
+
+pub use top::okws;

@@ -1,0 +1,116 @@
+//! A run of the program.
+
+ghost use Rattle.std.specs.Prelude.{◌≡◌, ◌⊎◌, Some, IsSome, List, ℕ};
+ghost use Rattle.okws_outer.specs.Streams.{Rose};
+ghost use Rattle.okws_outer.specs.declared.world.Outside.{Outside};
+ghost use Rattle.okws_server.specs.Command.{IsCheck, IsPlay};
+ghost use Rattle.okws_server.specs.Headline.{IsEmptyRecord};
+ghost use Rattle.okws_server.specs.Ran.{Checked, Played};
+
+use crate::checking::check;
+use crate::command::{check_of, play_of};
+use crate::ending::{print_config_refusal, print_no_memory, print_read_fault};
+use crate::preparing::{Stop, prepare};
+use crate::script_run::{empty_record, play_prepared};
+use crate::status::Status;
+use monitor_model::record::Record;
+use okws_outer::files::Files;
+use okws_outer::printing::print;
+use okws_outer::stream::Sink;
+use okws_outer::world::{Outside, World};
+use std::alloc::Global;
+
+/// Reads a configuration and a script, and plays the script.
+fn play<F: Files, O: Sink>(
+    alloc: Global,
+    files: &mut F,
+    out: &mut O,
+    config: &str,
+    script: &str,
+) -> (Status, Record)
+    ensures { Played (F.held files.old config.now) (F.held files.old script.now) (O.given out.old) (O.given out.new) (Rose (F.faults files.old) (F.faults files.new)) (Rose (O.faults out.old) (O.faults out.new)) result.1 result.0 }
+{
+    match prepare(alloc, files, config, script) {
+        Ok(prepared) => play_prepared(alloc, prepared, out),
+        Err(Stop::ReadFault) => {
+            print_read_fault(out);
+            (Status::ReadFault, empty_record(alloc))
+        }
+        Err(Stop::Refused(refusal)) => {
+            let status = print_config_refusal(alloc, out, refusal);
+            (status, empty_record(alloc))
+        }
+        Err(Stop::NoMemory) => {
+            print_no_memory(out);
+            (Status::NoMemory, empty_record(alloc))
+        }
+    }
+}
+
+/// How the program is called.
+const USAGE: &[u8] =
+    b"usage: okws check CONFIG\n       okws play CONFIG SCRIPT\n\ncheck  reads a configuration, and lists its queries\nplay   plays a script of a site by its configuration\n";
+
+/// Prints how the program is called.
+fn print_usage<O: Sink>(out: &mut O) {
+    let mut stopped = false;
+    print(out, &mut stopped, USAGE);
+}
+
+/// What the words say is done with the objects of a run.
+fn run<F: Files, O: Sink>(
+    alloc: Global,
+    words: &[String],
+    files: &mut F,
+    out: &mut O,
+) -> (Status, Record)
+    ensures usage { result.0 ≡ Status.Usage → ((config script : List ℕ) → IsPlay words.now config script → ⊥) × ((config : List ℕ) → IsCheck words.now config → ⊥) }
+    ensures command { (result.0 ≡ Status.Usage) ⊎ ((config : List ℕ) × (script : List ℕ) × IsPlay words.now config script) ⊎ ((config : List ℕ) × IsCheck words.now config) }
+    ensures play { (config script : List ℕ) → IsPlay words.now config script →
+        Played (F.held files.old config) (F.held files.old script) (O.given out.old) (O.given out.new) (Rose (F.faults files.old) (F.faults files.new)) (Rose (O.faults out.old) (O.faults out.new)) result.1 result.0 }
+    ensures check { (config : List ℕ) → IsCheck words.now config → IsEmptyRecord result.1 ×
+        Checked (F.held files.old config) (O.given out.old) (O.given out.new) (Rose (F.faults files.old) (F.faults files.new)) (Rose (O.faults out.old) (O.faults out.new)) result.0 }
+{
+    if let Some((config, script)) = play_of(words) {
+        return play(alloc, files, out, config, script);
+    }
+    if let Some(config) = check_of(words) {
+        let status = check(alloc, files, out, config);
+        return (status, empty_record(alloc));
+    }
+    print_usage(out);
+    (Status::Usage, empty_record(alloc))
+}
+
+/// A run of the program by its words, over the objects of its world: how it ended, and what it left.
+///
+/// `check CONFIG` prints a line `PROXY NUMBER TEXT` for each query of a configuration, the text
+/// canonical. `play CONFIG SCRIPT` plays the script's lines one after another, prints
+/// `heard SERVICE K HEX` for each frame that a service hears and `answer N TEXT` for each response,
+/// and leaves its record. Other words are answered with how the program is called.
+pub fn okws<R, W: World>(
+    _rt: &R,
+    alloc: Global,
+    words: &[String],
+    world: &mut W,
+) -> (Status, Record)
+    requires { IsSome (W.objects world.old) }
+    ensures whole { IsSome (W.objects world.new) }
+    ensures usage { result.0 ≡ Status.Usage → ((config script : List ℕ) → IsPlay words.now config script → ⊥) × ((config : List ℕ) → IsCheck words.now config → ⊥) }
+    ensures command { (result.0 ≡ Status.Usage) ⊎ ((config : List ℕ) × (script : List ℕ) × IsPlay words.now config script) ⊎ ((config : List ℕ) × IsCheck words.now config) }
+    ensures play { (config script : List ℕ) (before after : Outside W.Files W.Out) → IsPlay words.now config script →
+        W.objects world.old ≡ Some before → W.objects world.new ≡ Some after →
+        Played (W.Files.held before.files config) (W.Files.held before.files script) (W.Out.given before.out) (W.Out.given after.out) (Rose (W.Files.faults before.files) (W.Files.faults after.files)) (Rose (W.Out.faults before.out) (W.Out.faults after.out)) result.1 result.0 }
+    ensures check { (config : List ℕ) (before after : Outside W.Files W.Out) → IsCheck words.now config →
+        W.objects world.old ≡ Some before → W.objects world.new ≡ Some after → IsEmptyRecord result.1 ×
+        Checked (W.Files.held before.files config) (W.Out.given before.out) (W.Out.given after.out) (Rose (W.Files.faults before.files) (W.Files.faults after.files)) (Rose (W.Out.faults before.out) (W.Out.faults after.out)) result.0 }
+{
+    let Outside {
+        mut files,
+        mut out,
+        seed,
+    } = world.open();
+    let ended = run(alloc, words, &mut files, &mut out);
+    world.close(Outside { files, out, seed });
+    ended
+}

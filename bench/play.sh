@@ -1,0 +1,60 @@
+#!/usr/bin/env bash
+# Times `okws play` on scripts of growing length: the path of the program is the argument.
+#   bench/play.sh bin/okws
+# Prints, a line each, what is played, its size in bytes, seconds of processor time, and the greatest
+# size of the program in memory in kB.
+set -euo pipefail
+okws=$(realpath "$1")
+cd "$(dirname "$0")/.."
+folder=$(mktemp -d)
+trap 'rm -rf "$folder"' EXIT
+
+measure() {
+    local name=$1 script=$2
+    python3 - "$okws" "$name" "$script" <<'PY'
+import os, resource, subprocess, sys
+okws, name, script = sys.argv[1:]
+done = subprocess.run([okws, "play", "examples/site.okws", script], stdout=subprocess.DEVNULL)
+used = resource.getrusage(resource.RUSAGE_CHILDREN)
+size = os.path.getsize(script)
+print(f"{name}: {size} bytes, {used.ru_utime + used.ru_stime:.3f} s, {used.ru_maxrss} kB, status {done.returncode}")
+PY
+}
+
+open=000000174100000000000000000001ade0b876903df1a0e56a5d40
+call=0000000a42000000000000000100
+reply=000000154500c80a746578742f706c61696e00000000026f6b
+
+measure "one dialog" examples/one_dialog.script
+
+# Calls of a granted SELECT, all in dialogs of at most 4,000 frames.
+for calls in 1000 4000 16000; do
+    awk -v calls="$calls" -v open="$open" -v call="$call" -v reply="$reply" 'BEGIN {
+        print "launch guest"
+        for (i = 0; i < calls; i++) {
+            if (i % 2000 == 0) {
+                print "accept GET /guest"
+                print "dialog " i / 2000
+                if (i == 0) print "bytes guest " open
+            }
+            print "bytes guest " call
+            if (i % 2000 == 1999 || i == calls - 1) print "bytes guest " reply
+        }
+    }' >"$folder/calls"
+    measure "$calls calls" "$folder/calls"
+done
+
+# Scripts of so many mebibytes: requests that are answered at once, and bytes that wait on a link.
+for size in 1 4 16; do
+    awk -v most=$((size * 1048576)) 'BEGIN {
+        line = "accept GET /guest/a/path/that/is/owned/by/a/service/which/is/not/up"
+        for (n = 0; n + length(line) + 1 <= most; n += length(line) + 1) print line
+    }' >"$folder/accepts"
+    measure "$size MiB of requests" "$folder/accepts"
+    awk -v most=$((size * 1048576)) 'BEGIN {
+        print "launch guest"
+        line = "bytes guest 0000000a420000000000000001000000000a42000000000000000100"
+        for (n = 13; n + length(line) + 1 <= most; n += length(line) + 1) print line
+    }' >"$folder/bytes"
+    measure "$size MiB of bytes" "$folder/bytes"
+done

@@ -12,12 +12,14 @@ trap 'rm -rf "$folder"' EXIT
 measure() {
     local name=$1 script=$2
     python3 - "$okws" "$name" "$script" <<'PY'
-import os, resource, subprocess, sys
+import os, sys
 okws, name, script = sys.argv[1:]
-done = subprocess.run([okws, "play", "examples/site.okws", script], stdout=subprocess.DEVNULL)
-used = resource.getrusage(resource.RUSAGE_CHILDREN)
+nowhere = (os.POSIX_SPAWN_OPEN, 1, "/dev/null", os.O_WRONLY, 0)
+pid = os.posix_spawn(okws, [okws, "play", "examples/site.okws", script], {}, file_actions=[nowhere])
+_, status, used = os.wait4(pid, 0)
 size = os.path.getsize(script)
-print(f"{name}: {size} bytes, {used.ru_utime + used.ru_stime:.3f} s, {used.ru_maxrss} kB, status {done.returncode}")
+seconds = used.ru_utime + used.ru_stime
+print(f"{name}: {size} bytes, {seconds:.3f} s, {used.ru_maxrss} kB, status {os.waitstatus_to_exitcode(status)}")
 PY
 }
 

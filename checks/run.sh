@@ -1,0 +1,154 @@
+#!/usr/bin/env bash
+# Runs the built program on worked scripts and compares what it prints and its status, byte by byte.
+#   checks/run.sh [PROGRAM]
+# A row's files are named ROW-SITE-STATUS. The last line is 'N passed, M failed'.
+set -uo pipefail
+okws=$(realpath "${1:-crates/okws_program/out/okws_program}")
+cd "$(dirname "$0")"
+folder=$(mktemp -d)
+trap 'rm -rf "$folder"' EXIT
+passed=0
+failed=0
+
+# told NAME STATUS WANTED: compares the last run's status and its last line, or all of it.
+told() {
+    if [ "$2" = "$status" ] && cmp -s "$folder/printed" "$3"; then
+        passed=$((passed + 1))
+    else
+        failed=$((failed + 1))
+        echo "$1: status $status, printed:"
+        head -c 400 "$folder/printed"
+    fi
+}
+
+run() {
+    "$okws" "$@" >"$folder/printed"
+    status=$?
+}
+
+last() {
+    tail -n 1 "$folder/printed" >"$folder/last" && mv "$folder/last" "$folder/printed"
+    printf '%s\n' "$1" >"$folder/wanted"
+}
+
+for script in rows/*.script; do
+    row=$(basename "$script" .script)
+    site=${row#*-}
+    run play "${site%-*}.okws" "$script"
+    told "$row" "${row##*-}" "rows/$row.stdout"
+done
+
+# Each rule of a script at a line of its own.
+while IFS='|' read -r line rule script; do
+    printf "$script" >"$folder/script"
+    run play whole.okws "$folder/script"
+    last "refused: script line $line rule $rule"
+    told "rule $rule at line $line" 9 "$folder/wanted"
+done <<'ROWS'
+1|1|launch\n
+2|1|launch guest\nlaunch guest guest\n
+3|1|# a comment\n\nbytes guest 0\n
+1|2|launch nobody\n
+2|2|begin guest\ninstall guest nowhere\n
+1|2|publish nothing 00\n
+1|3|install guest main\n
+1|3|boot guest\n
+2|4|launch guest\ninstall guest main\n
+2|4|launch guest\nboot guest\n
+2|4|launch guest\nup guest\n
+1|5|dialog 0\n
+2|5|accept GET /guest\ndialog 0\n
+4|5|launch guest\naccept GET /guest\ndialog 0\ndialog 0\n
+5|6|launch guest\naccept GET /guest\naccept GET /guest\ndialog 0\ndialog 1\n
+1|7|up guest\n
+1|7|bytes guest 00\n
+1|7|end guest\n
+3|7|launch guest\nend guest\nbytes guest 00\n
+3|7|launch guest\nend guest\nend guest\n
+5|7|launch guest\naccept GET /guest\ndialog 0\nend guest\nup guest\n
+ROWS
+awk 'BEGIN { for (i = 0; i <= 1000000; i++) print "begin guest" }' >"$folder/script"
+run play whole.okws "$folder/script"
+last "refused: script line 1000001 rule 8"
+told "all incarnations spent" 9 "$folder/wanted"
+awk 'BEGIN { printf "publish page "; for (i = 0; i < 262145; i++) printf "61"; print "" }' >"$folder/script"
+run play whole.okws "$folder/script"
+last "refused: script line 1 rule 9"
+told "an edition that is too long" 9 "$folder/wanted"
+head -c 16777217 /dev/zero | tr '\0' '#' >"$folder/script"
+run play whole.okws "$folder/script"
+last "refused: script line 0 rule 9"
+told "a script that is too long" 9 "$folder/wanted"
+head -c 16777216 "$folder/script" >"$folder/longest"
+run play whole.okws "$folder/longest"
+told "the longest script" 0 /dev/null
+
+# Two rows of bytes that just fit a frame, and a byte more.
+for second in 524280 524281; do
+    awk -v second=$second 'function line(n,   i) {
+        printf "bytes guest %08x4200000000000000010103%08x", n + 15, n
+        for (i = 0; i < n; i++) printf "7a"
+        print ""
+    } BEGIN {
+        print "launch guest\naccept GET /guest\ndialog 0"
+        print "bytes guest 000000174100000000000000000001ade0b876903df1a0e56a5d40"
+        line(524280)
+        line(second)
+        print "bytes guest 0000000a42000000000000000200"
+    }' >"$folder/script"
+    run play blobs.okws "$folder/script"
+    tail -n 1 "$folder/printed" | cut -c 1-24 >"$folder/front"
+    size=$(tail -n 1 "$folder/printed" | wc -c)
+    echo "$(cat "$folder/front") $size" >"$folder/printed"
+    if [ $second = 524280 ]; then echo "heard guest 1 0010000005 $((14 + 2 * 1048580 + 1))"; else echo "heard guest 1 0000000209 27"; fi >"$folder/wanted"
+    told "rows of 524280 and $second bytes" 0 "$folder/wanted"
+done
+
+# 4,095 and 4,096 frames before a Reply.
+for count in 4095 4096; do
+    awk -v count=$count 'BEGIN {
+        print "launch guest\naccept GET /guest\ndialog 0"
+        for (i = 0; i < count; i++) print "bytes guest 0000000744000000026869"
+        print "bytes guest 000000154500c80a746578742f706c61696e00000000026f6b"
+    }' >"$folder/script"
+    run play whole.okws "$folder/script"
+    echo "$(grep -c '^heard guest 1 0000000108$' "$folder/printed") $(tail -n 1 "$folder/printed" | cut -c 1-21)" >"$folder/two"
+    mv "$folder/two" "$folder/printed"
+    if [ $count = 4095 ]; then echo "4095 answer 0 HTTP/1.1 200"; else echo "4096 answer 0 HTTP/1.1 502"; fi >"$folder/wanted"
+    told "$count frames before a Reply" 0 "$folder/wanted"
+done
+
+# Listings, refusals, words, files and an out that fails.
+run check whole.okws
+told "listing" 0 listing.stdout
+: >"$folder/empty"
+run check "$folder/empty"
+last "refused: config line 1 rule 1"
+told "an empty configuration" 4 "$folder/wanted"
+printf 'okws 1\nproxy main\ngrant guest main 1\n' >"$folder/site"
+run check "$folder/site"
+last "refused: config line 3 rule 11"
+told "a service that isn't declared" 4 "$folder/wanted"
+echo "read fault" >"$folder/wanted"
+run play whole.okws "$folder/nowhere"
+told "a script that isn't there" 3 "$folder/wanted"
+run check "$folder/nowhere"
+told "a configuration that isn't there" 3 "$folder/wanted"
+for words in "" "play whole.okws" "check" "serve whole.okws" "--help" "Check whole.okws"; do
+    # Words are parted on purpose.
+    # shellcheck disable=SC2086
+    run $words
+    head -n 1 "$folder/printed" >"$folder/first" && mv "$folder/first" "$folder/printed"
+    echo "usage: okws check CONFIG" >"$folder/wanted"
+    told "the words '$words'" 2 "$folder/wanted"
+done
+: >"$folder/printed"
+"$okws" check whole.okws >/dev/full
+status=$?
+told "a full device" 8 /dev/null
+"$okws" play plain.okws rows/a_page_is_served-plain-0.script >/dev/full
+status=$?
+told "a full device in a script" 8 /dev/null
+
+echo "$passed passed, $failed failed"
+[ "$failed" -eq 0 ]

@@ -118,6 +118,30 @@ for count in 4095 4096; do
     told "$count frames before a Reply" 0 "$folder/wanted"
 done
 
+# A service that is revoked at the publisher or the log, and one that has opened all its sessions.
+denied() {
+    last "heard guest 1 00000002$2"
+    told "$1" 0 "$folder/wanted"
+}
+printf 'launch guest\naccept GET /guest\ndialog 0\n' >"$folder/opening"
+{ cat "$folder/opening"; printf 'revoke guest pubd\nbytes guest 00000006430470616765\n'; } >"$folder/script"
+run play whole.okws "$folder/script"
+denied "a Get after a revocation" 0914
+{ cat "$folder/opening"; printf 'revoke guest oklogd\nbytes guest 0000000744000000026869\n'; } >"$folder/script"
+run play whole.okws "$folder/script"
+denied "a Log after a revocation" 091e
+awk 'BEGIN {
+    print "launch guest"
+    open = "bytes guest 000000174100000000000000000001ade0b876903df1a0e56a5d40"
+    for (n = 0; n <= 65536; n++) {
+        if (n % 4095 == 0) print "accept GET /guest\ndialog " n / 4095
+        print open
+        if (n % 4095 == 4094) print "bytes guest 000000154500c80a746578742f706c61696e00000000026f6b"
+    }
+}' >"$folder/script"
+run play whole.okws "$folder/script"
+denied "a session above the greatest number" 0911
+
 # Listings, refusals, words, files and an out that fails.
 run check whole.okws
 told "listing" 0 listing.stdout

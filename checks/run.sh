@@ -1,5 +1,6 @@
 #!/usr/bin/env bash
-# Runs the built program on worked scripts and compares what it prints and its status, byte by byte.
+# Runs the built program on worked scripts and compares its status and what it prints: the rows byte by byte, of others
+# a line or a count.
 #   checks/run.sh [PROGRAM]
 # A row's files are named ROW-SITE-STATUS. The last line is 'N passed, M failed'.
 set -uo pipefail

@@ -13,7 +13,7 @@ use Rattle.monitor_model.specs.Script.{PlaysAll}
 use Rattle.play_script.specs.Reading.{script_reads}
 use Rattle.play_script.specs.Rule.{script_rule_number}
 use Rattle.okws_server.specs.Headline.{IsMonitored, IsWholeRun, IsRunTo, Leaves}
-use Rattle.okws_server.specs.Run.{Run}
+use Rattle.okws_play.specs.Run.{Run}
 use Rattle.okws_server.specs.Script.{HasPlayed, IsBrokenAt, PlayedLines}
 use Rattle.okws_server.specs.declared.script.Broken.{Broken}
 

@@ -16,8 +16,8 @@ use Rattle.play_script.specs.declared.reading.LineRead.TheVariants as read
 use Rattle.play_script.specs.declared.rule.ScriptRule.{ScriptRule}
 use Rattle.okws_outer.specs.Printing.{Prints}
 use Rattle.okws_outer.proofs.Printed.{prints_nothing, prints_then}
-use Rattle.okws_server.specs.Run.{Run, at_stage}
-use Rattle.okws_server.specs.Played.{PlayedLine}
+use Rattle.okws_play.specs.Run.{Run, at_stage}
+use Rattle.okws_play.specs.Played.{PlayedLine}
 use Rattle.okws_server.specs.Script.{before_lines, said_by, PlaysRead, Breaks, HasPlayed, IsBrokenAt, PlayedRead}
 
 -- what holds of all and of one more

@@ -1,16 +1,7 @@
-pub mod Cells
 pub mod Command
-pub mod Dialogs
 pub mod Ending
 pub mod Headline
-pub mod Launches
 pub mod Listing
-pub mod Places
-pub mod Played
-pub mod Printed
-pub mod Proxies
 pub mod Ran
-pub mod Run
 pub mod Script
-pub mod Site
 pub mod Status

@@ -12,7 +12,7 @@ use Rattle.play_script.specs.Rule.{script_rule_number}
 use Rattle.play_script.specs.declared.rule.ScriptRule.{ScriptRule}
 use Rattle.play_script.specs.declared.reading.LineRead.{LineRead}
 use Rattle.play_script.specs.declared.reading.LineRead.TheVariants as read
-use Rattle.okws_server.specs.Run.{Run, at_stage, IsShortLine}
+use Rattle.okws_play.specs.Run.{Run, at_stage, IsShortLine}
 use Rattle.okws_server.specs.declared.script.Broken.{Broken}
 
 -- A line before others: a skipped one says nothing, and one that is broken has no run.

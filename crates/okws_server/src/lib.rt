@@ -5,11 +5,12 @@ mod checking;
 mod command;
 mod ending;
 mod listing;
-pub mod play;
 mod preparing;
 mod script;
 mod script_run;
 pub mod status;
+#[cfg(test)]
+mod tests;
 mod top;
 
 pub use top::okws;

@@ -7,9 +7,9 @@ ghost use Rattle.monitor_model.specs.Stage.{first_stage};
 ghost use Rattle.play_script.specs.Reading.{ReadFits, ReadKeeps};
 ghost use Rattle.okws_server.specs.Script.{IsShortRead, PlayedRead, PlayedLines};
 
-use crate::play::run::Play;
 use okws_outer::stream::Sink;
 use okws_plan::configuration::Config;
+use okws_play::Play;
 use play_script::reading::{LineRead, read_first};
 use play_script::rule::ScriptRule;
 use std::alloc::{AllocError, Global};

@@ -10,7 +10,6 @@ ghost use Rattle.okws_server.specs.Headline.{IsEmptyRecord};
 ghost use Rattle.okws_server.specs.Ran.{Plays, PlaysText, Ends};
 
 use crate::ending::{out_status, print_no_memory, print_script_refusal};
-use crate::play::run::Play;
 use crate::preparing::Prepared;
 use crate::script::{Broken, play_lines};
 use crate::status::Status;
@@ -24,6 +23,7 @@ use okws_base::journal::Past;
 use okws_base::limit::LONGEST_SCRIPT;
 use okws_outer::stream::Sink;
 use okws_plan::configuration::Config;
+use okws_play::Play;
 use play_script::rule::ScriptRule;
 use std::alloc::{AllocError, Global};
 use std::sync::Arc;

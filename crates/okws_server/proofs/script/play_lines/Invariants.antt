@@ -2,7 +2,7 @@ use Rattle.std.proofs.Common.{◌≡◌, ◌≤◌, ℕ, ◌+◌, List, ◌++◌
 use Rattle.okws_outer.specs.Printing.{Prints, CountsOn}
 use Rattle.play_script.specs.Reading.{script_reads}
 use Rattle.play_script.specs.declared.reading.LineRead.{LineRead}
-use Rattle.okws_server.specs.Run.{at_stage}
+use Rattle.okws_play.specs.Run.{at_stage}
 use Rattle.okws_server.specs.Script.{HasPlayed}
 use Rattle.okws_server.proofs.script.play_lines.Given as goal
 

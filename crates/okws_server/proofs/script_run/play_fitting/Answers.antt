@@ -1,6 +1,6 @@
 use Rattle.std.proofs.Common.{ap, ◌∙◌}
 use Rattle.okws_server.specs.Ran.{zero_seed}
-use Rattle.okws_server.specs.Run.{Run}
+use Rattle.okws_play.specs.Run.{Run}
 use Rattle.okws_server.proofs.Monitored.{played_to}
 use Rattle.okws_server.proofs.script_run.play_fitting.Goals as goal
 

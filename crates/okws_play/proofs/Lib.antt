@@ -1,0 +1,12 @@
+pub mod Accepting
+pub mod Cells
+pub mod Columns
+pub mod Dialogs
+pub mod Going
+pub mod Launching
+pub mod Narrow
+pub mod Opening
+pub mod Places
+pub mod Playing
+pub mod Short
+pub mod Stages

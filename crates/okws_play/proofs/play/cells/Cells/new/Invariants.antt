@@ -1,0 +1,5 @@
+use Rattle.okws_play.proofs.Cells.{AreFresh}
+use Rattle.okws_play.proofs.play.cells.Cells.new.Given as goal
+
+abbrev pub invariant-loop-i : goal.invariant-loop-i
+invariant-loop-i l = AreFresh l.i l.cells.items

@@ -1,0 +1,9 @@
+pub mod Cells
+pub mod Dialogs
+pub mod Launches
+pub mod Places
+pub mod Played
+pub mod Printed
+pub mod Proxies
+pub mod Run
+pub mod Site

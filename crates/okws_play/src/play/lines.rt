@@ -1,0 +1,154 @@
+//! The lines that a run prints.
+
+ghost use Rattle.std.specs.Prelude.{◌≡◌, ◌++◌, ◌<◌, ◌∷◌, [], IfOk, OnOk};
+ghost use Rattle.frame_codec.specs.Spelling.{HasSpelling};
+ghost use Rattle.monitor_model.specs.Logd.{hex_digit, hex_byte, hex, escaped_byte, escaped};
+ghost use Rattle.monitor_model.specs.Stage.{heard_line, answer_line};
+ghost use Rattle.monitor_model.specs.Script.{way_text};
+ghost use Rattle.okws_outer.specs.Printing.{Prints, CountsOn};
+
+use frame_codec::frame::ServerFrame;
+use frame_codec::server::write_server_frame;
+use http_text::response::own_response;
+use monitor_model::plain::log::name_of;
+use monitor_model::verdict::Way;
+use okws_outer::printing::print;
+use okws_outer::stream::Sink;
+use okws_plan::configuration::Config;
+use std::alloc::{AllocError, Global};
+
+fn digit(n: u8) -> u8
+    requires { n < 16 }
+    ensures { result ≡ hex_digit n }
+{
+    if n < 10 { b'0' + n } else { b'a' - 10 + n }
+}
+
+fn push_hex_byte(line: &mut Vec<u8>, byte: u8) -> Result<(), AllocError>
+    ensures { OnOk result (line.new.items ≡ line.old.items ++ hex_byte byte) }
+{
+    line.extend_from_slice(&[digit(byte / 16), digit(byte % 16)])
+}
+
+fn push_hex(line: &mut Vec<u8>, bytes: &[u8]) -> Result<(), AllocError>
+    ensures { OnOk result (line.new.items ≡ line.old.items ++ hex bytes.now) }
+{
+    for byte in bytes {
+        push_hex_byte(line, *byte)?;
+    }
+    Ok(())
+}
+
+fn push_escaped_byte(line: &mut Vec<u8>, byte: u8) -> Result<(), AllocError>
+    ensures { OnOk result (line.new.items ≡ line.old.items ++ escaped_byte byte) }
+{
+    if byte < 32 || byte > 126 || byte == b'\\' {
+        line.extend_from_slice(&[b'\\', b'x', digit(byte / 16), digit(byte % 16)])
+    } else {
+        line.push(byte)?;
+        Ok(())
+    }
+}
+
+fn push_escaped(line: &mut Vec<u8>, bytes: &[u8]) -> Result<(), AllocError>
+    ensures { OnOk result (line.new.items ≡ line.old.items ++ escaped bytes.now) }
+{
+    for byte in bytes {
+        push_escaped_byte(line, *byte)?;
+    }
+    Ok(())
+}
+
+fn line_of_heard(
+    alloc: Global,
+    config: &Config,
+    service: u16,
+    incarnation: u32,
+    frame: &ServerFrame,
+) -> Result<Vec<u8>, AllocError>
+    requires { HasSpelling frame.now }
+    ensures { IfOk result (λ v. v.items ≡ heard_line config.now service incarnation frame.now) }
+{
+    let mut line = Vec::new(alloc);
+    line.extend_from_slice(b"heard ")?;
+    line.extend_from_slice(name_of(config, service))?;
+    line.push(b' ')?;
+    line.extend_from_slice(incarnation.to_string(alloc)?.as_bytes())?;
+    line.push(b' ')?;
+    push_hex(&mut line, &write_server_frame(alloc, frame)?)?;
+    line.push(b'\n')?;
+    Ok(line)
+}
+
+fn line_of_answer(alloc: Global, request: usize, text: &[u8]) -> Result<Vec<u8>, AllocError>
+    ensures { IfOk result (λ v. v.items ≡ answer_line request text.now) }
+{
+    let mut line = Vec::new(alloc);
+    line.extend_from_slice(b"answer ")?;
+    line.extend_from_slice(request.to_string(alloc)?.as_bytes())?;
+    line.push(b' ')?;
+    push_escaped(&mut line, text)?;
+    line.push(b'\n')?;
+    Ok(line)
+}
+
+/// Prints `heard SERVICE K HEX` and LF: the service by name, the incarnation, and the bytes of a frame
+/// that it heard, in lower-case hexadecimal.
+pub fn print_heard<O: Sink>(
+    out: &mut O,
+    stopped: &mut bool,
+    alloc: Global,
+    config: &Config,
+    service: u16,
+    incarnation: u32,
+    frame: &ServerFrame,
+) -> Result<(), AllocError>
+    requires { HasSpelling frame.now }
+    ensures printed { OnOk result (Prints (O.given out.old) stopped.old (O.given out.new) stopped.new (heard_line config.now service incarnation frame.now)) }
+    ensures counted { CountsOn (O.faults out.old) stopped.old (O.faults out.new) stopped.new }
+{
+    let line = line_of_heard(alloc, config, service, incarnation, frame)?;
+    print(out, stopped, &line);
+    Ok(())
+}
+
+/// Prints `answer N TEXT` and LF: the number of a request and the text of its response, escaped.
+pub fn print_answer<O: Sink>(
+    out: &mut O,
+    stopped: &mut bool,
+    alloc: Global,
+    request: usize,
+    text: &[u8],
+) -> Result<(), AllocError>
+    ensures printed { OnOk result (Prints (O.given out.old) stopped.old (O.given out.new) stopped.new (answer_line request text.now)) }
+    ensures counted { CountsOn (O.faults out.old) stopped.old (O.faults out.new) stopped.new }
+{
+    let line = line_of_answer(alloc, request, text)?;
+    print(out, stopped, &line);
+    Ok(())
+}
+
+/// Prints the answer of a request that goes to nobody, and nothing for another.
+pub fn print_way<O: Sink>(
+    out: &mut O,
+    stopped: &mut bool,
+    alloc: Global,
+    request: usize,
+    way: Way,
+    method: &[u8],
+) -> Result<(), AllocError>
+    ensures printed { OnOk result (Prints (O.given out.old) stopped.old (O.given out.new) stopped.new (way_text request way method.now)) }
+    ensures counted { CountsOn (O.faults out.old) stopped.old (O.faults out.new) stopped.new }
+{
+    match way {
+        Way::NotOwned => {
+            let text = own_response(alloc, 404, method)?;
+            print_answer(out, stopped, alloc, request, &text)
+        }
+        Way::Down(_) => {
+            let text = own_response(alloc, 503, method)?;
+            print_answer(out, stopped, alloc, request, &text)
+        }
+        Way::To { .. } => Ok(()),
+    }
+}

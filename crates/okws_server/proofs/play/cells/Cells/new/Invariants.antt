@@ -1,5 +1,0 @@
-use Rattle.okws_server.proofs.Cells.{AreFresh}
-use Rattle.okws_server.proofs.play.cells.Cells.new.Given as goal
-
-abbrev pub invariant-loop-i : goal.invariant-loop-i
-invariant-loop-i l = AreFresh l.i l.cells.items

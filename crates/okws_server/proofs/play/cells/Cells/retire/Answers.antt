@@ -1,9 +1,0 @@
-use Rattle.okws_server.specs.Cells.{retired_stand}
-use Rattle.okws_server.proofs.Cells.{now_is, seated_now}
-use Rattle.okws_server.proofs.play.cells.Cells.retire.Goals as goal
-
-pub invariant_of-self : goal.invariant_of-self
-invariant_of-self c = seated_now _ _ _ _ _ _ c.self.view_is c.self.invariant c.requires.service c.index_mut-cell.ensures.value c.retire.ensures
-
-pub returns : goal.returns
-returns c = now_is _ _ _ _ _ retired_stand c.self.view_is c.self.invariant c.requires.service c.index_mut-cell.ensures.value c.retire.ensures

@@ -46,13 +46,20 @@ for calls in 1000 4000 16000; do
     measure "$calls calls" "$folder/calls"
 done
 
-# Scripts of so many mebibytes: requests that are answered at once, and bytes that wait on a link.
+# Scripts of so many mebibytes: requests with forms of 200 bytes and short requests, which are answered at once, and bytes
+# that wait on a link. A request stands in okd's journal, in the run's own list and among the requests.
 for size in 1 4 16; do
     awk -v most=$((size * 1048576)) 'BEGIN {
         line = "accept GET /guest/a/path/that/is/owned/by/a/service/which/is/not/up"
         for (n = 0; n + length(line) + 1 <= most; n += length(line) + 1) print line
     }' >"$folder/accepts"
-    measure "$size MiB of requests" "$folder/accepts"
+    measure "$size MiB of short requests" "$folder/accepts"
+    awk -v most=$((size * 1048576)) 'BEGIN {
+        line = "accept POST /guest "
+        for (i = 0; i < 100; i++) line = line "6e6f"
+        for (n = 0; n + length(line) + 1 <= most; n += length(line) + 1) print line
+    }' >"$folder/forms"
+    measure "$size MiB of forms" "$folder/forms"
     awk -v most=$((size * 1048576)) 'BEGIN {
         print "launch guest"
         line = "bytes guest 0000000a420000000000000001000000000a42000000000000000100"

@@ -1,5 +1,5 @@
 -- What a column keeps of its grants, read as finite maps.
-use Rattle.std.specs.Prelude.{◌≡◌, ℕ, ◌+◌, ◌<◌, ◌≤◌, ◌^◌, Bool, true, false, List, Option, Some, None, ◌==◌, ◌&&◌, nat_lt, if◌then◌else◌, count_by, slice_index_or, unwrap_or, nat_eq, length}
+use Rattle.std.specs.Prelude.{◌≡◌, ℕ, ◌<◌, ◌^◌, Bool, true, false, List, Option, Some, None, ◌==◌, ◌&&◌, nat_lt, if◌then◌else◌, count_by, slice_index_or, unwrap_or, nat_eq, length}
 use Rattle.std.specs.Cmp.Lexicographic.{pointwise}
 use Rattle.std.specs.Map.{lookup}
 use Rattle.okws_base.specs.Value.{same_token}

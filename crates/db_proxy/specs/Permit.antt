@@ -6,7 +6,7 @@ use Rattle.okws_plan.specs.declared.configuration.Config.{Config}
 use Rattle.okws_plan.specs.declared.event.Call.{Call}
 use Rattle.monitor_model.specs.Proxy.{granted, query_denial}
 
--- the rule that a call breaks first, where its incarnation is live or not and has opened so many sessions
+-- The rule that a call breaks first, where its incarnation is live or not and has opened so many sessions.
 abbrev pub denial_at : Config → ℕ → Call → Bool → ℕ → Option Rule
 denial_at C p call live count =
     if not (nat_lt call.session count) then Some rule.NoSession

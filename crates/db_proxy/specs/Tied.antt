@@ -13,6 +13,7 @@ use Rattle.grant_column.specs.Granted.{Granted, service_count, stands, last, iss
 use Rattle.monitor_model.specs.Standing.{proxy_grant, issued}
 use Rattle.monitor_model.specs.Proxy.{opened, rows}
 
+-- What proxy p keeps beside its journal is what its past J says: the grants g, the tables that the keeper was made for, and the rows that it tells; its queries keep the rules, and there is room for a revocation of each incarnation that stands.
 pub record Tied (C : Config) (p : ℕ) (J : List (Entry ProxyEvent)) (room : ℕ) (g : Granted) (kept : List Table) (told : Option (List (List (List Value)))) : Type 0 where
   pub services : service_count g ≡ length C.services
   pub tables_are : kept ≡ tables C p
@@ -22,5 +23,4 @@ pub record Tied (C : Config) (p : ℕ) (J : List (Entry ProxyEvent)) (room : ℕ
   pub issued_is : (s : ℕ) (t : Token) → issued_in g s t ≡ issued J s t
   pub opened_is : (s k : ℕ) → opened_in g s k ≡ opened J s k
   pub rows_are : IfSome told (λ T. T ≡ rows C p J)
-  -- a place is kept for each revocation
   pub places_are : places g ≤ room

@@ -14,22 +14,27 @@ pub record Granted : Type 0 where
   pub ended : List (Incarnation × ℕ)
   pub issues : List (Issue × ℕ)
 
--- what is kept of a service of which nothing was installed
+-- What is kept of a service of which nothing was installed.
 abbrev pub nobody : Service
 nobody = record { last = 0; is_live = false; opened = 0 }
 
+-- What is kept of service s.
 abbrev pub service_in : List Service → ℕ → Service
 service_in services s = slice_index_or services s nobody
 
+-- Two incarnations are of one service and have one number.
 abbrev pub same_incarnation : Incarnation → Incarnation → Bool
 same_incarnation a b = (a.service == b.service) && (a.number == b.number)
 
+-- Two issues are of one service and one token.
 abbrev pub same_issue : Issue → Issue → Bool
 same_issue a b = (a.service == b.service) && pointwise nat_eq a.bytes b.bytes
 
+-- How many sessions incarnation k of s opened, where it is the last one of s no longer.
 abbrev pub ended_in : List (Incarnation × ℕ) → ℕ → ℕ → ℕ
 ended_in ended s k = unwrap_or (lookup (same_incarnation (record { service = s; number = k })) ended) 0
 
+-- To which incarnation of s a token was issued, as kept.
 abbrev pub issued_in : List (Issue × ℕ) → ℕ → Token → Option ℕ
 issued_in issues s t = lookup (same_issue (record { service = s; bytes = t.bytes })) issues
 
@@ -80,7 +85,7 @@ abbrev pub issued_with : ℕ → ℕ → Option Token → ℕ → Token → Opti
 issued_with u k None s t before = before
 issued_with u k (Some token) s t before = if (u == s) && same_token token t then Some k else before
 
--- the services are counted in 16 bits, and no incarnation beyond the last one of its service has ended
+-- The services are counted in 16 bits, and no incarnation beyond the last one of its service has ended.
 pub record IsKept (g : Granted) : Type 0 where
   pub few : length g.services < 2 ^ 16
   pub none : (s k : ℕ) → nat_lt (service_in g.services s).last k ≡ true → ended_in g.ended s k ≡ 0

@@ -1,6 +1,6 @@
 //! One proxy's column.
 
-ghost use Rattle.std.specs.Prelude.{◌≡◌, ◌≤◌, ◌<◌, ◌∷◌, [], IfOk, IfErr, IfSome, OnOk, OnErr, None, true, if◌then◌else◌, length, option_map};
+ghost use Rattle.std.specs.Prelude.{◌≡◌, ◌≤◌, ◌<◌, ◌∷◌, [], IfOk, IfErr, IfSome, IsSome, OnOk, OnErr, None, true, if◌then◌else◌, length, option_map};
 ghost use Rattle.std.specs.Arc.{arc_value};
 ghost use Rattle.okws_base.specs.Past.{standing_by, last_by};
 ghost use Rattle.okws_base.specs.declared.limit.TheConstants.{MOST_SERVICES};
@@ -86,11 +86,13 @@ impl<K: Keeper> Proxy<K> {
         }
     }
 
-    /// What was entered, and the keeper.
+    /// What was entered, and the keeper, which is as the column showed it.
     pub fn close(self) -> (Past<Entry<ProxyEvent>>, K)
         ensures past { result.0 ≡ self.past }
         ensures told { K.told result.1 ≡ self.told }
         ensures faults { K.faults result.1 ≡ self.faults }
+        ensures steady { K.steady result.1 ≡ self.steady }
+        ensures tables { K.tables result.1 ≡ tables self.config self.number }
     {
         (self.journal.into_past(), self.keeper)
     }
@@ -188,7 +190,7 @@ impl<K: Keeper> Proxy<K> {
 
     /// Decides a call, and has the keeper run its query where it is allowed. Its entry is marked as a
     /// fault where the keeper failed, which leaves the rows as they were. Where memory is refused, all
-    /// but the count of faults is as before.
+    /// but the count of faults is as before. A call that breaks a rule leaves that count too.
     pub fn call(&mut self, call: Call) -> Result<Verdict, AllocError>
         requires { call.service < length self.old.config.services }
         ensures entry { IfOk result (λ v. (mark : Mark) × (self.new.past ≡ record { worker = self.old.holder; event = event.Call call mark } ∷ self.old.past)
@@ -199,6 +201,7 @@ impl<K: Keeper> Proxy<K> {
         ensures rows { OnOk result (self.new.told ≡ option_map (λ _. rows self.new.config self.new.number self.new.past) self.old.told) }
         ensures same { self.new ≡ record self.old { past = self.new.past; told = self.new.told; faults = self.new.faults } }
         ensures later { self.old.faults ≤ self.new.faults }
+        ensures denied { IsSome (call_denial self.old.config self.old.number self.old.past call) → self.new.faults ≡ self.old.faults }
         ensures err { OnErr result (self.new ≡ record self.old { faults = self.new.faults }) }
     {
         self.journal.make_room(self.grants.places() + 1)?;

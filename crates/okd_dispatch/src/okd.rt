@@ -145,7 +145,7 @@ impl Okd {
     }
 
     /// What was entered.
-    pub fn into_past(self) -> Past<Entry<OkdEvent>>
+    pub fn close(self) -> Past<Entry<OkdEvent>>
         ensures { result ≡ self.past }
     {
         self.journal.into_past()

@@ -131,7 +131,7 @@ fn entries_are_kept_in_order(rt: HostRuntime) -> Result<(), Fail> {
     okd.down(OTHER, 3);
     assert_eq!(rt; okd.standing(OTHER), None);
     assert_eq!(rt; okd.holder(), 7);
-    let past = okd.into_past();
+    let past = okd.close();
     assert_eq!(rt; past.as_slice().len(), 2);
     Ok(())
 }

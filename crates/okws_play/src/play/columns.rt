@@ -126,7 +126,7 @@ impl Columns {
         workers.push(self.own.into_past())?;
         let (oklogd, _sink) = self.oklogd.close();
         Ok(Record {
-            okd: self.okd.into_past(),
+            okd: self.okd.close(),
             proxies: Items::of(proxies),
             pubd: self.pubd.close(),
             oklogd,

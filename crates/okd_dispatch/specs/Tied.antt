@@ -13,6 +13,7 @@ up_in ups s = slice_index_or ups s None
 abbrev pub places : List (Option ℕ) → ℕ
 places ups = count_by (λ (up : Option ℕ). is_some up) ups
 
+-- What okd keeps beside its journal is what its past says, and a place is kept for each Down.
 pub record Tied (C : Config) (J : List (Entry OkdEvent)) (room : ℕ) (ups : List (Option ℕ)) : Type 0 where
   pub services : length ups ≡ length C.services
   pub few : length ups < 2 ^ 16

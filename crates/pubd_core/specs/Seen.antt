@@ -18,6 +18,7 @@ pub record Seen : Type 0 where
 abbrev pub entered : Seen → PubdEvent → Seen
 entered p event = record p { past = record { worker = p.holder; event = event } ∷ p.past }
 
+-- The same with a publication entered of the template that was named, if there is one.
 abbrev pub published_at : Seen → Option ℕ → List ℕ → Seen
 published_at p None content = p
 published_at p (Some t) content = entered p (Publish t content)

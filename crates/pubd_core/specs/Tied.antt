@@ -12,6 +12,7 @@ use Rattle.pubd_core.specs.declared.kept.Current.{Current}
 use Rattle.pubd_core.specs.declared.kept.Publication.{Publication}
 use Rattle.pubd_core.specs.declared.kept.Incarnation.{Incarnation}
 
+-- What the template column keeps beside its journal is what its past says, and a place is kept for each revocation.
 pub record Tied (C : Config) (J : List (Entry PubdEvent)) (room : ℕ) (g : Granted) (currents : List Current) (P : List Publication) (marks : List (Incarnation × ℕ)) : Type 0 where
   pub few : length C.templates < 2 ^ 16
   pub services : service_count g ≡ length C.services

@@ -14,6 +14,7 @@ abbrev pub Owes : Bool → List ℕ → List ℕ → List ℕ → Type 0
 Owes false given due text = given ++ due ≡ text
 Owes true given due text = IsFront given text
 
+-- What the log column keeps beside its journal is what its past says, what its sink was given and what is due are as owed, and a place is kept for each revocation.
 pub record Tied (C : Config) (J : List (Entry LogEvent)) (room : ℕ) (g : Granted) (given : Option (List ℕ)) (due : List ℕ) (stopped : Bool) : Type 0 where
   pub services : service_count g ≡ length C.services
   pub standing_is : (s : ℕ) → stands g s ≡ standing_by log_grant J s

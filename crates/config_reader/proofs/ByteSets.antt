@@ -1,5 +1,5 @@
 -- What a set of byte strings knows after a change.
-use Rattle.std.proofs.Common.{◌≡◌, ℕ, Bool, true, false, cond, List, refl, sym, ap, subst, ◌∙◌, ⊎_elim}
+use Rattle.std.proofs.Common.{◌≡◌, ℕ, Bool, true, false, cond, List, sym, subst, ◌∙◌, ⊎_elim}
 use Rattle.std.specs.Prelude.{Vec, nat_eq}
 use Rattle.std.specs.HashSet.{HashSet, UpdatesBy}
 use Rattle.std.specs.Cmp.Lexicographic.{pointwise, bytes_decides}

@@ -1,5 +1,5 @@
 -- A lawful file gives queries that keep the rules of the query language for the tables of their proxy.
-use Rattle.std.proofs.Common.{◌≡◌, ℕ, suc, zero, Bool, true, false, List, [], ◌∷◌, ◌++◌, length, ◌<◌, nat_lt, Option, Some, None, Result, Ok, Err, refl, sym, ap, ◌∙◌, arith}
+use Rattle.std.proofs.Common.{◌≡◌, ℕ, suc, zero, Bool, true, List, [], ◌∷◌, ◌++◌, length, ◌<◌, nat_lt, Option, Some, None, Result, Ok, Err, refl, ap, ◌∙◌, arith}
 use Rattle.std.specs.Prelude.{slice_get, option_and_then}
 use Rattle.std.specs.List.{list_all}
 use Rattle.std.specs.Result.{result_ok}
@@ -8,7 +8,6 @@ use Rattle.okws_base.specs.declared.value.Value.{Value}
 use Rattle.okws_plan.specs.Configuration.{tables_of, queries_of}
 use Rattle.okws_plan.specs.Meaning.{columns_in, columns_of}
 use Rattle.okws_plan.specs.Rules.{keeps_rules}
-use Rattle.okws_plan.specs.declared.configuration.Column.{Column}
 use Rattle.okws_plan.specs.declared.configuration.Config.{Config}
 use Rattle.okws_plan.specs.declared.configuration.ProxyPlan.{ProxyPlan}
 use Rattle.okws_plan.specs.declared.configuration.Query.{Query}

@@ -1,5 +1,5 @@
--- Which KEY values are kept beside the rows of the tables while a configuration is read, so that no line looks through the rows above it.
-use Rattle.std.specs.Prelude.{◌≡◌, ℕ, ◌≤◌, Bool, false, List, length, Option, Some, None, slice_get, Vec}
+-- What is kept beside the rows, the grants and the owned paths while a configuration is read, so that no line looks through those above it.
+use Rattle.std.specs.Prelude.{◌≡◌, ℕ, ◌≤◌, Bool, false, ◌==◌, ◌&&◌, List, length, Option, Some, None, slice_get, Vec}
 use Rattle.std.specs.HashSet.{HashSet, contains, contains_by}
 use Rattle.std.specs.List.{list_any}
 use Rattle.std.specs.Ordering.{int_eq}
@@ -7,7 +7,11 @@ use Rattle.okws_base.specs.Value.{same_bytes, value_eq}
 use Rattle.okws_base.specs.declared.value.Value.{Value}
 use Rattle.okws_base.specs.declared.value.Value.TheVariants.{Int, Text, Bytes}
 use Rattle.okws_plan.specs.Meaning.{at_column, key_place}
+use Rattle.okws_plan.specs.declared.configuration.Granted.{Granted}
+use Rattle.okws_plan.specs.declared.configuration.Owned.{Owned}
 use Rattle.okws_plan.specs.declared.configuration.Table.{Table}
+use Rattle.config_reader.specs.Broken.{has_grant}
+use Rattle.config_reader.specs.declared.grants.Grant.{Grant}
 use Rattle.config_reader.specs.declared.keys.KeyValues.{KeyValues}
 
 -- A set has these bytes.
@@ -47,3 +51,15 @@ is_key_in (Some table) v = is_key_of table v
 pub record AreKept (tables : List Table) (keys : List KeyValues) : Type 0 where
   pub enough : length tables ≤ length keys
   pub each : (i : ℕ) (v : Value) → keeps_in (slice_get keys i) v ≡ is_key_in (slice_get tables i) v
+
+-- Two grants are one.
+abbrev pub same_grant : Grant → Grant → Bool
+same_grant a b = (a.service == b.service) && ((a.proxy == b.proxy) && (a.query == b.query))
+
+-- Exactly the grants of the list are kept.
+abbrev pub HoldsGrants : {S : Type 0} → HashSet Grant S → List Granted → Type 0
+HoldsGrants kept grants = (g : Grant) → contains same_grant kept g ≡ has_grant grants g.service g.proxy g.query
+
+-- Exactly the paths of the list are kept.
+abbrev pub HoldsPaths : {Z S : Type 0} → HashSet (Vec ℕ Z) S → List Owned → Type 0
+HoldsPaths kept paths = (path : List ℕ) → knows kept path ≡ list_any (λ (o : Owned). same_bytes o.path path) paths

@@ -7,7 +7,7 @@ ghost use Rattle.okws_base.specs.Value.{same_bytes};
 ghost use Rattle.config_reader.specs.Answers.{GivesLine};
 ghost use Rattle.config_reader.specs.Above.{proxy_number, service_number, template_number, table_number, tables_at, nothing_above};
 ghost use Rattle.config_reader.specs.Declarations.{Proxy, Table as TableLine, Row, Query, Service, Retry, Uri, Grant, Template, Read, Log};
-ghost use Rattle.config_reader.specs.Broken.{is_reserved, regrants, has_grant, has_bad_table_name, has_bad_row_name, takes_table, takes_query, can_hold, statement_at, has_too_many_tables, has_too_many_queries};
+ghost use Rattle.config_reader.specs.Broken.{is_reserved, regrants, has_bad_table_name, has_bad_row_name, takes_table, takes_query, can_hold, statement_at, has_too_many_tables, has_too_many_queries};
 ghost use Rattle.config_reader.specs.After.{declared, granted_of, with_plan, with_table, table_of, with_row_in, with_query};
 ghost use Rattle.config_reader.specs.declared.error.ConfigRule.TheVariants as rule;
 ghost use Rattle.statement_core.specs.Compiled.{compiled};
@@ -17,7 +17,9 @@ use crate::column::{
     ColumnWords, TableWords, count_keys, have_identifiers, have_kinds, have_repeats,
 };
 use crate::error::{ConfigRule, LineError};
+use crate::grants::Grants;
 use crate::literal::literals_of;
+use crate::paths::Paths;
 use crate::plan::ProxyDraft;
 use crate::words::{is_same, number_to, query_numbers};
 use okws_base::items::Items;
@@ -27,7 +29,7 @@ use okws_base::limit::{
 };
 use okws_base::name::{Name, Path, is_a_name, is_a_path, is_an_identifier};
 use okws_base::value::Value;
-use okws_plan::configuration::{Config, Granted, Owned, ProxyPlan, Readable, ServicePlan, Table};
+use okws_plan::configuration::{Config, ProxyPlan, Readable, ServicePlan, Table};
 use okws_plan::statement::Statement;
 use statement_core::{CompileError, compile};
 use std::alloc::{AllocError, Global};
@@ -40,8 +42,8 @@ pub struct Draft {
     services: Vec<ServicePlan>,
     templates: Vec<Name>,
     retry: Option<u16>,
-    paths: Vec<Owned>,
-    grants: Vec<Granted>,
+    paths: Paths,
+    grants: Grants,
     readables: Vec<Readable>,
     loggers: Vec<u16>,
 }
@@ -59,8 +61,8 @@ impl Model for Draft {
         services = a.services.items;
         templates = a.templates.items;
         retry = unwrap_or a.retry DEFAULT_RETRY;
-        paths = a.paths.items;
-        grants = a.grants.items;
+        paths = a.paths;
+        grants = a.grants;
         readables = a.readables.items;
         loggers = a.loggers.items;
       };
@@ -141,39 +143,20 @@ fn is_reserved_name(name: &[u8]) -> bool
     is_same(name, b"okd") || is_same(name, b"pubd") || is_same(name, b"oklogd")
 }
 
-fn has_path(paths: &[Owned], path: &[u8]) -> bool
-    ensures { result ≡ list_any (λ o. same_bytes o.path path.now) paths.now }
-{
-    paths
-        .iter()
-        .any(|owned| is_same(owned.path.as_slice(), path))
-}
-
-fn is_granted(grants: &[Granted], service: u16, proxy: u16, query: u16) -> bool
-    ensures { result ≡ has_grant grants.now service proxy query }
-{
-    grants.iter().any(|g| g.service == service && g.proxy == proxy && g.query == query)
-}
-
 /// Adds a grant of each query, and tells whether none of them was there.
 fn add_grants(
-    grants: &mut Vec<Granted>,
+    grants: &mut Grants,
     service: u16,
     proxy: u16,
     queries: &[u16],
 ) -> Result<bool, AllocError>
-    ensures free { IfOk result (λ free. free ≡ not (regrants grants.old.items service proxy queries.now)) }
-    ensures added { IfOk result (λ free. IsTrue free → grants.new.items ≡ grants.old.items ++ granted_of service proxy queries.now) }
+    ensures free { IfOk result (λ free. free ≡ not (regrants grants.old service proxy queries.now)) }
+    ensures added { IfOk result (λ free. IsTrue free → grants.new ≡ grants.old ++ granted_of service proxy queries.now) }
 {
     for query in queries {
-        if is_granted(grants, service, proxy, *query) {
+        if !grants.add(service, proxy, *query)? {
             return Ok(false);
         }
-        grants.push(Granted {
-            service,
-            proxy,
-            query: *query,
-        })?;
     }
     Ok(true)
 }
@@ -227,8 +210,8 @@ impl Draft {
             services: Vec::new(alloc),
             templates: Vec::new(alloc),
             retry: None,
-            paths: Vec::new(alloc),
-            grants: Vec::new(alloc),
+            paths: Paths::new(alloc),
+            grants: Grants::new(alloc),
             readables: Vec::new(alloc),
             loggers: Vec::new(alloc),
         }
@@ -562,11 +545,11 @@ impl Draft {
         let Some(service) = self.service_number(service) else {
             return broken(ConfigRule::Undeclared);
         };
-        if has_path(&self.paths, path) {
+        if self.paths.has(path) {
             return broken(ConfigRule::Taken);
         }
         let path = path_of(alloc, path)?;
-        self.paths.push(Owned { path, service })?;
+        self.paths.add(alloc, path, service)?;
         Ok(())
     }
 
@@ -664,8 +647,8 @@ impl Draft {
             services: Items::of(self.services),
             templates: Items::of(self.templates),
             retry: self.retry.unwrap_or(DEFAULT_RETRY),
-            paths: Items::of(self.paths),
-            grants: Items::of(self.grants),
+            paths: Items::of(self.paths.into_list()),
+            grants: Items::of(self.grants.into_list()),
             readables: Items::of(self.readables),
             loggers: Items::of(self.loggers),
         })

@@ -101,7 +101,7 @@ fn sites_are_read_whole(rt: HostRuntime) {
 }
 
 /// Whole files, and the line and rule of their refusals.
-const FILES: [(&[u8], u32, u8); 18] = [
+const FILES: [(&[u8], u32, u8); 20] = [
     (b"", 1, 1),
     (b"okws 2\n", 1, 1),
     (b"okws 1 1\n", 1, 1),
@@ -127,6 +127,16 @@ const FILES: [(&[u8], u32, u8); 18] = [
         b"okws 1\nproxy p\ntable p t a INT b BYTES KEY\nrow p t 1 x'61'\nrow p t 2 x'61'",
         5,
         14,
+    ),
+    (
+        b"okws 1\nproxy p\ntable p t a INT\nquery p 1 SELECT a FROM t\nservice s x\nservice r x\ngrant s p 1\ngrant r p 1\ngrant s p 1",
+        9,
+        12,
+    ),
+    (
+        b"okws 1\nservice s x\nservice r x\nuri /a s\nuri /b s\nuri /a r",
+        6,
+        12,
     ),
 ];
 
@@ -253,12 +263,13 @@ fn lines_are_refused_by_their_lowest_rule(rt: HostRuntime) -> Result<(), AllocEr
 }
 
 /// Lines below `sixth`'s five that are lawful there.
-const LAWFUL: [&[u8]; 20] = [
+const LAWFUL: [&[u8]; 22] = [
     b"",
     b"# \x01",
     b"\t #\xff",
     b" service  r\t./x #1 ",
     b"service r ./x\r\nuri / r\r\nuri /r r\r\n",
+    b"uri / s\nuri /a s\nuri /A s\nuri /aa s\nuri /a/ s",
     b"retry 1000",
     b"retry 000",
     b"row p t 1 'b'\nrow p t -1\t'it''s # 1' ",
@@ -267,6 +278,7 @@ const LAWFUL: [&[u8]; 20] = [
     b"table p u a INT KEY\nrow p u 1\nrow p t 1 'b'\nrow p u 2",
     b"proxy q\ntable q t a INT\nrow q t 1\nrow q t 1",
     b"query p 0 SELECT a FROM t\nquery p 65535 SELECT a FROM t\ngrant s p 00 65535",
+    b"query p 1 SELECT a FROM t\nquery p 2 SELECT b FROM t\nproxy q\ntable q t a INT\nquery q 1 SELECT a FROM t\nservice r ./x\ngrant s p 1\ngrant s p 2\ngrant s q 1\ngrant r p 1",
     b"query p 1  SELECT a,b FROM t WHERE a=?1 ",
     b"service p ./x\ntemplate p\ntemplate s",
     b"read s w",

@@ -5,6 +5,6 @@ use Rattle.config_reader.proofs.draft.add_grants.Given as goal
 
 abbrev pub invariant-loop-query : goal.invariant-loop-query
 invariant-loop-query l = record {
-  made : l.grants.items ≡ l.initial.grants.items ++ granted_of l.service l.proxy (take l.query-index l.queries);
-  free : regrants l.grants.items l.service l.proxy (drop l.query-index l.queries) ≡ regrants l.initial.grants.items l.service l.proxy l.queries;
+  made : l.grants ≡ l.initial.grants ++ granted_of l.service l.proxy (take l.query-index l.queries);
+  free : regrants l.grants l.service l.proxy (drop l.query-index l.queries) ≡ regrants l.initial.grants l.service l.proxy l.queries;
 }

@@ -72,11 +72,11 @@ impl<T> Items<T> {
     }
 }
 
-/// A copy of each item, in order.
+/// A copy of each item, in order, in no more room than they need.
 pub fn copies<T: Exact>(alloc: Global, items: &[T]) -> Result<Vec<T>, AllocError>
     ensures { IfOk result (λ v. v.items ≡ items.now) }
 {
-    let mut out = Vec::new(alloc);
+    let mut out = Vec::with_capacity(alloc, items.len())?;
     for item in items {
         out.push(item.copy(alloc)?)?;
     }

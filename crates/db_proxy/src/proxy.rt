@@ -189,8 +189,8 @@ impl<K: Keeper> Proxy<K> {
     }
 
     /// Decides a call, and has the keeper run its query where it is allowed. Its entry is marked as a
-    /// fault where the keeper failed, which leaves the rows as they were. Where memory is refused, all
-    /// but the count of faults is as before. A call that breaks a rule leaves that count too.
+    /// fault where the keeper failed, which leaves the rows as they were. A call that breaks a rule
+    /// leaves the count of faults. Where memory is refused, all is as before.
     pub fn call(&mut self, call: Call) -> Result<Verdict, AllocError>
         requires { call.service < length self.old.config.services }
         ensures entry { IfOk result (λ v. (mark : Mark) × (self.new.past ≡ record { worker = self.old.holder; event = event.Call call mark } ∷ self.old.past)
@@ -202,7 +202,7 @@ impl<K: Keeper> Proxy<K> {
         ensures same { self.new ≡ record self.old { past = self.new.past; told = self.new.told; faults = self.new.faults } }
         ensures later { self.old.faults ≤ self.new.faults }
         ensures denied { IsSome (call_denial self.old.config self.old.number self.old.past call) → self.new.faults ≡ self.old.faults }
-        ensures err { OnErr result (self.new ≡ record self.old { faults = self.new.faults }) }
+        ensures err { OnErr result (self.new ≡ self.old) }
     {
         self.journal.make_room(self.grants.places() + 1)?;
         let is_live = self.grants.standing(call.service) == Some(call.incarnation);

@@ -45,7 +45,8 @@ pub trait Keeper {
     /// That no call fails.
     ghost steady: { Self → Bool };
 
-    /// Runs a statement with these arguments; where it has no answer the rows are as they were.
+    /// Runs a statement with these arguments; where it has no answer the rows are as they were, and
+    /// where memory is refused the count of faults is too.
     fn run(
         &mut self,
         alloc: Global,
@@ -57,6 +58,7 @@ pub trait Keeper {
         ensures rows { Runs (tables self.old) statement.now args.now (told self.old) (told self.new) result }
         ensures tables { tables self.new ≡ tables self.old }
         ensures faults { Counts (faults self.old) (faults self.new) (IsErrOf result RunError.Failed) }
+        ensures spared { IsErrOf result RunError.NoMemory → faults self.new ≡ faults self.old }
         ensures sure { steady self.old ≡ true → IsErrOf result RunError.Failed → ⊥ }
         ensures steady { steady self.new ≡ steady self.old };
 }

@@ -179,29 +179,6 @@ pub verdict_same : (P : Pasts) (p : ℕ) (x : Seen) (call : Called) → IsColumn
     → call_verdict x.config x.number x.past call Done ≡ call_verdict P.config p (proxy_past P.pasts p) call Done
 verdict_same P p x call at = rw (at.config_is, at.number_is, at.past_is) refl
 
--- a column that differs in no entry
-same_pasts : (xs : List Seen) (p : ℕ) (x y : Seen) → x ≡ get_or xs p x → y.past ≡ x.past → pasts_of (slice_set xs p y) ≡ pasts_of xs
-same_pasts [] p x y is e = refl
-same_pasts (z ∷ xs) zero x y is e = ap (λ w. w ∷ pasts_of xs) (e ∙ ap (λ v. v.past) is)
-same_pasts (z ∷ xs) (suc p) x y is e = ap (λ ws. z.past ∷ ws) (same_pasts xs p x y is e)
-
-pub unchanged_is : (C : Config) (xs : List Seen) (P : Pasts) (p : ℕ) (x y : Seen) → record { config = C; pasts = pasts_of xs } ≡ P → x ≡ get_or xs p x
-    → y ≡ record x { faults = y.faults } → record { config = C; pasts = pasts_of (slice_set xs p y) } ≡ P
-unchanged_is C xs P p x y e is same = rw (same_pasts xs p x y is (ap (λ z. z.past) same)) e
-
-pub still_unchanged : (C : Config) (xs : List Seen) (P : Pasts) (p : ℕ) (x y : Seen) → record { config = C; pasts = pasts_of xs } ≡ P → AreFrom C 0 xs
-    → p < length P.pasts → x ≡ get_or xs p x → y ≡ record x { faults = y.faults } → AreFrom C 0 (slice_set xs p y)
-still_unchanged C xs P p x y e h b is same =
-    let it : IsColumn C p (get_or xs p x) = column_at C 0 p p xs x h (within C xs P p e b) (omega arith) in
-    column_set C 0 p p xs y h (omega arith) (record {
-      config_is = ap (λ v. v.config) same ∙ ap (λ v. v.config) is ∙ it.config_is;
-      number_is = ap (λ v. v.number) same ∙ ap (λ v. v.number) is ∙ it.number_is;
-      holder_is = ap (λ v. v.holder) same ∙ ap (λ v. v.holder) is ∙ it.holder_is;
-      steady_is = ap (λ v. v.steady) same ∙ ap (λ v. v.steady) is ∙ it.steady_is;
-      told_is = ap (λ v. is_some v.told) same ∙ ap (λ v. is_some v.told) is ∙ it.told_is;
-      faultless = ap (λ v. faults v.past) same ∙ ap (λ v. faults v.past) is ∙ it.faultless;
-    })
-
 -- one column more
 pub column_more : (C : Config) (i j : ℕ) (xs : List Seen) (x : Seen) → AreFrom C i xs → j ≡ i + length xs → IsColumn C j x → AreFrom C i (xs ++ x ∷ [])
 column_more C i j [] x h e k = let P : ℕ → Type 0 = λ n. IsColumn C n x in (subst P (omega (arith, e)) k, tt)

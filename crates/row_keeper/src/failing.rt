@@ -24,11 +24,12 @@ impl Failing {
         }
     }
 
-    /// Numbers a call, and tells whether it fails, which is then counted; the count stays at
+    /// Numbers a call, and tells whether it fails, which alone is counted; the count stays at
     /// 2^64 - 1.
     pub(crate) fn fails(&mut self) -> bool
         ensures calls { self.new.calls ≡ self.old.calls }
         ensures faults { Counts self.old.faults self.new.faults (result ≡ true) }
+        ensures still { result ≡ false → self.new.faults ≡ self.old.faults }
         ensures never { (length self.old.calls.items == 0) ≡ true → result ≡ false }
     {
         let call = self.next;

@@ -4,7 +4,7 @@ use Rattle.std.proofs.lemmas.Result.{on_err_weaker}
 use Rattle.okws_plan.specs.declared.event.Mark.TheVariants.{Done}
 use Rattle.okws_plan.specs.declared.event.ProxyEvent.TheVariants.{Call}
 use Rattle.monitor_model.specs.Proxy.{call_verdict}
-use Rattle.okws_play.proofs.Columns.{IsMore, IsColumnOf, column_of, called, verdict_same, more_is, still_more, unchanged_is, still_unchanged, where_ok, weaker_ok, if_or_err}
+use Rattle.okws_play.proofs.Columns.{IsMore, IsColumnOf, column_of, called, verdict_same, more_is, still_more, kept_is, still_kept, where_ok, weaker_ok, if_or_err}
 use Rattle.okws_play.proofs.play.proxies.Proxies.call.Goals as goal
 
 at : (c : goal.After-self-1) → IsColumnOf c.args.self.now c.args.proxy c.index_mut-column.result.now
@@ -21,7 +21,7 @@ pub invariant_of-self : goal.invariant_of-self
 invariant_of-self c =
     if_or_err c.call.result (made c) c.call.ensures.err
     (λ v h. still_more _ _ _ _ _ _ _ c.self.view_is c.self.invariant c.requires.proxy c.index_mut-column.ensures.value (λ n. omega arith) h.0)
-    (still_unchanged _ _ _ _ _ _ c.self.view_is c.self.invariant c.requires.proxy c.index_mut-column.ensures.value)
+    (still_kept _ _ _ _ _ c.self.invariant c.index_mut-column.ensures.value)
 
 pub returns-clause-verdict : goal.returns-clause-verdict
 returns-clause-verdict c = weaker_ok c.call.result (made c) (λ v h. h.1 ∙ verdict_same _ _ _ _ (at c))
@@ -31,4 +31,4 @@ returns-clause-ok c =
     where_ok c.call.result (made c) (λ v h. more_is _ _ _ _ _ _ _ c.self.view_is c.self.invariant c.requires.proxy c.index_mut-column.ensures.value h.0)
 
 pub returns-clause-err : goal.returns-clause-err
-returns-clause-err c = on_err_weaker c.call.result (unchanged_is _ _ _ _ _ _ c.self.view_is c.index_mut-column.ensures.value) c.call.ensures.err
+returns-clause-err c = on_err_weaker c.call.result (kept_is _ _ _ _ _ _ c.self.view_is c.index_mut-column.ensures.value) c.call.ensures.err

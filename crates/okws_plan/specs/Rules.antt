@@ -19,6 +19,7 @@ use Rattle.okws_plan.specs.declared.statement.Action.{Action}
 use Rattle.okws_plan.specs.declared.statement.Action.TheVariants.{Select, Insert, Update, Delete}
 use Rattle.okws_plan.specs.declared.statement.Statement.{Statement}
 
+-- A kind that may not be there is this one.
 abbrev pub is_of_kind : Kind → Option Kind → Bool
 is_of_kind kind None = false
 is_of_kind kind (Some other) = same_kind other kind
@@ -28,6 +29,7 @@ abbrev pub operand_fits : List Kind → Kind → Operand → Bool
 operand_fits parameters kind (Literal v) = same_kind (kind_of v) kind
 operand_fits parameters kind (Parameter n) = nat_le 1 n && is_of_kind kind (slice_get parameters (n - 1))
 
+-- An operand fits the kind of a column, where the column is there.
 abbrev pub fits_column : List Kind → Option Column → Operand → Bool
 fits_column parameters None operand = false
 fits_column parameters (Some column) operand = operand_fits parameters column.kind operand
@@ -36,9 +38,11 @@ fits_column parameters (Some column) operand = operand_fits parameters column.ki
 abbrev pub condition_fits : List Column → List Kind → Condition → Bool
 condition_fits columns parameters c = fits_column parameters (slice_get columns c.column) c.operand
 
+-- A number is that of a column.
 abbrev pub is_column : List Column → ℕ → Bool
 is_column columns c = nat_lt c (length columns)
 
+-- A column is there, and is no KEY.
 abbrev pub may_be_set : Option Column → Bool
 may_be_set None = false
 may_be_set (Some column) = not column.key
@@ -64,10 +68,12 @@ abbrev pub conditions_fit : List Column → List Kind → List Condition → Boo
 conditions_fit columns parameters conditions =
     nat_le (length conditions) MOST_CONDITIONS && list_all (λ (c : Condition). condition_fits columns parameters c) conditions
 
+-- An order, if there is one, is by a column of the table.
 abbrev pub order_fits : List Column → Option ℕ → Bool
 order_fits columns None = true
 order_fits columns (Some c) = is_column columns c
 
+-- A limit, if there is one, is at most 1,000,000,000.
 abbrev pub limit_fits : Option ℕ → Bool
 limit_fits None = true
 limit_fits (Some n) = nat_le n GREATEST_LIMIT
@@ -87,10 +93,12 @@ action_fits columns parameters (Update assignments conditions) =
     && (sets_each_once assignments && conditions_fit columns parameters conditions))
 action_fits columns parameters (Delete conditions) = conditions_fit columns parameters conditions
 
+-- An operand is this parameter.
 abbrev pub is_parameter : ℕ → Operand → Bool
 is_parameter n (Parameter m) = m == n
 is_parameter n (Literal v) = false
 
+-- A parameter stands in one of the conditions.
 abbrev pub stands_in_conditions : ℕ → List Condition → Bool
 stands_in_conditions n conditions = list_any (λ (c : Condition). is_parameter n c.operand) conditions
 

@@ -28,9 +28,11 @@ abbrev pub same_key_at : Option ℕ → List Value → List Value → Bool
 same_key_at None a b = false
 same_key_at (Some k) a b = value_eq (at_column a k) (at_column b k)
 
+-- Two rows have the same value in the KEY column.
 abbrev pub same_key : List Column → List Value → List Value → Bool
 same_key columns a b = same_key_at (key_place columns) a b
 
+-- The kinds of the columns, in order.
 abbrev pub column_kinds : List Column → List Kind
 column_kinds columns = map (λ (c : Column). c.kind) columns
 

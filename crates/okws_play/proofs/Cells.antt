@@ -11,41 +11,64 @@ use Rattle.monitor_model.specs.declared.record.CellEvent.{CellEvent}
 use Rattle.monitor_model.specs.Cell.{last_booted}
 use Rattle.monitor_model.specs.Played.{with_open}
 use Rattle.monitor_model.specs.Stage.{Stand, Opened, empty_stand}
-use Rattle.okws_play.specs.Cells.{Seat, seated, stand_at, stands_of, closed_stand, AreSeated, KeepsBooted}
+use Rattle.okws_plan.specs.declared.configuration.Config.{Config}
+use Rattle.okws_play.specs.Cells.{Row, Seat, seated, stand_at, stands_of, closed_stand, AreSeated, KeepsBooted}
 
 -- ---- one of the cells
 
-service_at : (i p s : ℕ) (seats : List Seat) (d : Seat) → AreSeated i seats → p < length seats → s ≡ i + p → (get_or seats p d).service ≡ s
-service_at i p s [] d h below e = absurd (omega (arith, below))
-service_at i zero s (seat ∷ more) d h below e = h.0 ∙ omega (arith, e)
-service_at i (suc p) s (seat ∷ more) d h below e = service_at (i + 1) p s more d h.1 (omega (arith, below)) (omega (arith, e))
+pub in_row : {x y : Row} → x ≡ y → x.stands ≡ y.stands
+in_row e = ap (λ (row : Row). row.stands) e
+
+service_at : (C : Config) (seed : List ℕ) (i p s : ℕ) (seats : List Seat) (d : Seat) → AreSeated C seed i seats → p < length seats → s ≡ i + p → (get_or seats p d).service ≡ s
+service_at C seed i p s [] d h below e = absurd (omega (arith, below))
+service_at C seed i zero s (seat ∷ more) d h below e = h.0 ∙ omega (arith, e)
+service_at C seed i (suc p) s (seat ∷ more) d h below e = service_at C seed (i + 1) p s more d h.3 (omega (arith, below)) (omega (arith, e))
+
+config_at : (C : Config) (seed : List ℕ) (i p : ℕ) (seats : List Seat) (d : Seat) → AreSeated C seed i seats → p < length seats → (get_or seats p d).config ≡ C
+config_at C seed i p [] d h below = absurd (omega (arith, below))
+config_at C seed i zero (seat ∷ more) d h below = h.1
+config_at C seed i (suc p) (seat ∷ more) d h below = config_at C seed (i + 1) p more d h.3 (omega (arith, below))
+
+within : (seats : List Seat) (stands : List Stand) (s : ℕ) → stands_of seats ≡ stands → s < length stands → s < length seats
+within seats stands s e below = let same : length (stands_of seats) ≡ length stands = ap length e in omega (arith, below, same, length-map seats (λ (seat : Seat). seat.stand))
 
 -- what is known of the cell of a service
 pub record IsSeatOf (stands : List Stand) (s : ℕ) (seat : Seat) : Type 0 where
   pub service_is : seat.service ≡ s
   pub stand_is : seat.stand ≡ stand_at stands s
 
-within : (seats : List Seat) (stands : List Stand) (s : ℕ) → stands_of seats ≡ stands → s < length stands → s < length seats
-within seats stands s e below = let same : length (stands_of seats) ≡ length stands = ap length e in omega (arith, below, same, length-map seats (λ (seat : Seat). seat.stand))
+seed_at : (C : Config) (seed : List ℕ) (i p : ℕ) (seats : List Seat) (d : Seat) → AreSeated C seed i seats → p < length seats → (get_or seats p d).seed ≡ seed
+seed_at C seed i p [] d h below = absurd (omega (arith, below))
+seed_at C seed i zero (seat ∷ more) d h below = h.2
+seed_at C seed i (suc p) (seat ∷ more) d h below = seed_at C seed (i + 1) p more d h.3 (omega (arith, below))
 
-pub seat_of : (seats : List Seat) (stands : List Stand) (s : ℕ) (seat : Seat) → stands_of seats ≡ stands → AreSeated 0 seats → s < length stands → seat ≡ get_or seats s seat → IsSeatOf stands s seat
-seat_of seats stands s seat e h below is =
+seed_of : (C : Config) (seed : List ℕ) (seats : List Seat) (stands : List Stand) (s : ℕ) (seat : Seat) → stands_of seats ≡ stands → AreSeated C seed 0 seats → s < length stands → seat ≡ get_or seats s seat → seat.seed ≡ seed
+seed_of C seed seats stands s seat e h below is = ap (λ (x : Seat). x.seed) is ∙ seed_at C seed 0 s seats seat h (within seats stands s e below)
+
+-- and of its site
+pub config_of : (C : Config) (seed : List ℕ) (seats : List Seat) (stands : List Stand) (s : ℕ) (seat : Seat) → stands_of seats ≡ stands → AreSeated C seed 0 seats → s < length stands → seat ≡ get_or seats s seat → seat.config ≡ C
+config_of C seed seats stands s seat e h below is = ap (λ (x : Seat). x.config) is ∙ config_at C seed 0 s seats seat h (within seats stands s e below)
+
+pub seat_of : (C : Config) (seed : List ℕ) (seats : List Seat) (stands : List Stand) (s : ℕ) (seat : Seat) → stands_of seats ≡ stands → AreSeated C seed 0 seats → s < length stands → seat ≡ get_or seats s seat → IsSeatOf stands s seat
+seat_of C seed seats stands s seat e h below is =
     let inside : s < length seats = within seats stands s e below in
     let at : stand_at (stands_of seats) s ≡ (get_or seats s seat).stand = get_or-map (λ (x : Seat). x.stand) seats s seat empty_stand inside in
     record {
-      service_is = ap (λ (x : Seat). x.service) is ∙ service_at 0 s s seats seat h inside (omega arith);
+      service_is = ap (λ (x : Seat). x.service) is ∙ service_at C seed 0 s s seats seat h inside (omega arith);
       stand_is = ap (λ (x : Seat). x.stand) is ∙ sym at ∙ ap (λ v. stand_at v s) e;
     }
 
 -- ---- a cell that changes
 
-seated_set : (i p s : ℕ) (seats : List Seat) (y : Seat) → AreSeated i seats → s ≡ i + p → y.service ≡ s → AreSeated i (slice_set seats p y)
-seated_set i p s [] y h e is = h
-seated_set i zero s (seat ∷ more) y h e is = (is ∙ omega (arith, e), h.1)
-seated_set i (suc p) s (seat ∷ more) y h e is = (h.0, seated_set (i + 1) p s more y h.1 (omega (arith, e)) is)
+seated_set : (C : Config) (seed : List ℕ) (i p s : ℕ) (seats : List Seat) (y : Seat) → AreSeated C seed i seats → s ≡ i + p → y.service ≡ s → y.config ≡ C → y.seed ≡ seed → AreSeated C seed i (slice_set seats p y)
+seated_set C seed i p s [] y h e is config same = h
+seated_set C seed i zero s (seat ∷ more) y h e is config same = (is ∙ omega (arith, e), config, same, h.3)
+seated_set C seed i (suc p) s (seat ∷ more) y h e is config same = (h.0, h.1, h.2, seated_set C seed (i + 1) p s more y h.3 (omega (arith, e)) is config same)
 
-pub still_seated : (seats : List Seat) (stands : List Stand) (s : ℕ) (seat y : Seat) → stands_of seats ≡ stands → AreSeated 0 seats → s < length stands → seat ≡ get_or seats s seat → y.service ≡ seat.service → AreSeated 0 (slice_set seats s y)
-still_seated seats stands s seat y e h below is same = seated_set 0 s s seats y h (omega arith) (same ∙ (seat_of seats stands s seat e h below is).service_is)
+pub still_seated : (C : Config) (seed : List ℕ) (seats : List Seat) (stands : List Stand) (s : ℕ) (seat y : Seat) → stands_of seats ≡ stands → AreSeated C seed 0 seats → s < length stands → seat ≡ get_or seats s seat → y ≡ seated seat y.stand → AreSeated C seed 0 (slice_set seats s y)
+still_seated C seed seats stands s seat y e h below is same =
+    seated_set C seed 0 s s seats y h (omega arith) (ap (λ (x : Seat). x.service) same ∙ (seat_of C seed seats stands s seat e h below is).service_is) (ap (λ (x : Seat). x.config) same ∙ config_of C seed seats stands s seat e h below is)
+    (ap (λ (x : Seat). x.seed) same ∙ seed_of C seed seats stands s seat e h below is)
 
 pub changed_is : (seats : List Seat) (stands : List Stand) (s : ℕ) (y : Seat) (there : Stand) → stands_of seats ≡ stands → y.stand ≡ there → stands_of (slice_set seats s y) ≡ slice_set stands s there
 changed_is seats stands s y there e is = map-set (λ (x : Seat). x.stand) seats s y ∙ rw (e, is) refl
@@ -80,32 +103,36 @@ keeps_booted stands s there below same = record {
     by q (inl e) = rw (e, stand_set stands s there below) same
     by q (inr other) = ap (λ (x : Stand). last_booted x.past) (get_or-set_other stands s q there empty_stand other)
 
-pub booted_kept : (seats : List Seat) (stands : List Stand) (s : ℕ) (seat y : Seat) → stands_of seats ≡ stands → AreSeated 0 seats → s < length stands → seat ≡ get_or seats s seat → last_booted y.stand.past ≡ last_booted seat.stand.past
+pub booted_kept : (C : Config) (seed : List ℕ) (seats : List Seat) (stands : List Stand) (s : ℕ) (seat y : Seat) → stands_of seats ≡ stands → AreSeated C seed 0 seats → s < length stands → seat ≡ get_or seats s seat → last_booted y.stand.past ≡ last_booted seat.stand.past
     → KeepsBooted stands (stands_of (slice_set seats s y))
-booted_kept seats stands s seat y e h below is same =
-    rw (changed_is seats stands s y y.stand e refl) (keeps_booted stands s y.stand below (same ∙ ap (λ (x : Stand). last_booted x.past) (seat_of seats stands s seat e h below is).stand_is))
+booted_kept C seed seats stands s seat y e h below is same =
+    rw (changed_is seats stands s y y.stand e refl) (keeps_booted stands s y.stand below (same ∙ ap (λ (x : Stand). last_booted x.past) (seat_of C seed seats stands s seat e h below is).stand_is))
 
 -- ---- cells that are added
 
-seated_more : (i s : ℕ) (seats : List Seat) (y : Seat) → AreSeated i seats → s ≡ i + length seats → y.service ≡ s → AreSeated i (seats ++ y ∷ [])
-seated_more i s [] y h e is = (is ∙ omega (arith, e), tt)
-seated_more i s (seat ∷ more) y h e is = (h.0, seated_more (i + 1) s more y h.1 (omega (arith, e)) is)
+seated_more : (C : Config) (seed : List ℕ) (i s : ℕ) (seats : List Seat) (y : Seat) → AreSeated C seed i seats → s ≡ i + length seats → y.service ≡ s → y.config ≡ C → y.seed ≡ seed → AreSeated C seed i (seats ++ y ∷ [])
+seated_more C seed i s [] y h e is config same = (is ∙ omega (arith, e), config, same, tt)
+seated_more C seed i s (seat ∷ more) y h e is config same = (h.0, h.1, h.2, seated_more C seed (i + 1) s more y h.3 (omega (arith, e)) is config same)
+
+-- a cell at which nothing happened
+abbrev pub fresh : Config → List ℕ → ℕ → Seat
+fresh C seed s = record { config = C; seed = seed; service = s; stand = empty_stand }
 
 -- the cells of the first n services, at which nothing happened
-pub record AreFresh (n : ℕ) (seats : List Seat) : Type 0 where
-  pub seated : AreSeated 0 seats
+pub record AreFresh (C : Config) (seed : List ℕ) (n : ℕ) (seats : List Seat) : Type 0 where
+  pub seated : AreSeated C seed 0 seats
   pub count : length seats ≡ n
   pub empty : stands_of seats ≡ replicate n empty_stand
 
-pub fresh_more : (n s : ℕ) (seats now : List Seat) (y : Seat) → AreFresh n seats → s ≡ n → y ≡ record { service = s; stand = empty_stand } → now ≡ seats ++ y ∷ [] → AreFresh (n + 1) now
-fresh_more n s seats now y h e is all = rw (all, is) (record {
-  seated = seated_more 0 s seats (record { service = s; stand = empty_stand }) h.seated (omega (arith, e, h.count)) refl;
-  count = length-append seats (record { service = s; stand = empty_stand } ∷ []) ∙ omega (arith, h.count);
-  empty = map-append (λ (x : Seat). x.stand) seats (record { service = s; stand = empty_stand } ∷ []) ∙ ap (λ (t : List Stand). t ++ empty_stand ∷ []) h.empty ∙ replicate_more n empty_stand;
+pub fresh_more : (C : Config) (seed : List ℕ) (n s : ℕ) (seats now : List Seat) (y : Seat) → AreFresh C seed n seats → s ≡ n → y ≡ fresh C seed s → now ≡ seats ++ y ∷ [] → AreFresh C seed (n + 1) now
+fresh_more C seed n s seats now y h e is all = rw (all, is) (record {
+  seated = seated_more C seed 0 s seats (fresh C seed s) h.seated (omega (arith, e, h.count)) refl refl refl;
+  count = length-append seats (fresh C seed s ∷ []) ∙ omega (arith, h.count);
+  empty = map-append (λ (x : Seat). x.stand) seats (fresh C seed s ∷ []) ∙ ap (λ (t : List Stand). t ++ empty_stand ∷ []) h.empty ∙ replicate_more n empty_stand;
 })
 
-pub fresh_none : (seats : List Seat) → seats ≡ [] → AreFresh 0 seats
-fresh_none seats e = rw e (record { seated = tt; count = refl; empty = refl })
+pub fresh_none : (C : Config) (seed : List ℕ) (seats : List Seat) → seats ≡ [] → AreFresh C seed 0 seats
+fresh_none C seed seats e = rw e (record { seated = tt; count = refl; empty = refl })
 
 -- ---- what a call of a cell makes of the cells
 
@@ -113,39 +140,39 @@ pub either : {T E A B X : Type 0} (r : Result T E) → OnOk r A → OnErr r B �
 either (Ok v) a b f g = f a
 either (Err e) a b f g = g b
 
-pub now_is : (seats : List Seat) (stands : List Stand) (s : ℕ) (seat y : Seat) (f : Stand → Stand) → stands_of seats ≡ stands → AreSeated 0 seats → s < length stands → seat ≡ get_or seats s seat → y ≡ seated seat (f seat.stand)
+pub now_is : (C : Config) (seed : List ℕ) (seats : List Seat) (stands : List Stand) (s : ℕ) (seat y : Seat) (f : Stand → Stand) → stands_of seats ≡ stands → AreSeated C seed 0 seats → s < length stands → seat ≡ get_or seats s seat → y ≡ seated seat (f seat.stand)
     → stands_of (slice_set seats s y) ≡ slice_set stands s (f (stand_at stands s))
-now_is seats stands s seat y f e h below is new =
-    changed_is seats stands s y (f (stand_at stands s)) e (ap (λ (x : Seat). x.stand) new ∙ ap f (seat_of seats stands s seat e h below is).stand_is)
+now_is C seed seats stands s seat y f e h below is new =
+    changed_is seats stands s y (f (stand_at stands s)) e (ap (λ (x : Seat). x.stand) new ∙ ap f (seat_of C seed seats stands s seat e h below is).stand_is)
 
-pub seated_now : (seats : List Seat) (stands : List Stand) (s : ℕ) (seat y : Seat) (there : Stand) → stands_of seats ≡ stands → AreSeated 0 seats → s < length stands → seat ≡ get_or seats s seat → y ≡ seated seat there → AreSeated 0 (slice_set seats s y)
-seated_now seats stands s seat y there e h below is new = still_seated seats stands s seat y e h below is (ap (λ (x : Seat). x.service) new)
+pub seated_now : (C : Config) (seed : List ℕ) (seats : List Seat) (stands : List Stand) (s : ℕ) (seat y : Seat) (there : Stand) → stands_of seats ≡ stands → AreSeated C seed 0 seats → s < length stands → seat ≡ get_or seats s seat → y ≡ seated seat there → AreSeated C seed 0 (slice_set seats s y)
+seated_now C seed seats stands s seat y there e h below is new = still_seated C seed seats stands s seat y e h below is (new ∙ ap (seated seat) (sym (ap (λ (x : Seat). x.stand) new)))
 
-pub seated_same : (seats : List Seat) (stands : List Stand) (s : ℕ) (seat y : Seat) → stands_of seats ≡ stands → AreSeated 0 seats → s < length stands → seat ≡ get_or seats s seat → y ≡ seat → AreSeated 0 (slice_set seats s y)
-seated_same seats stands s seat y e h below is new = still_seated seats stands s seat y e h below is (ap (λ (x : Seat). x.service) new)
+pub seated_same : (C : Config) (seed : List ℕ) (seats : List Seat) (stands : List Stand) (s : ℕ) (seat y : Seat) → stands_of seats ≡ stands → AreSeated C seed 0 seats → s < length stands → seat ≡ get_or seats s seat → y ≡ seat → AreSeated C seed 0 (slice_set seats s y)
+seated_same C seed seats stands s seat y e h below is new = still_seated C seed seats stands s seat y e h below is (new ∙ ap (seated seat) (sym (ap (λ (x : Seat). x.stand) new)))
 
 pub held : {A X : Type 0} (o : Option A) (P : A → Type 0) → IsSome o → IfSome o P → ((v : A) → P v → X) → X
 held None P some h f = absurd cc
 held (Some v) P some h f = f v h
 
-pub closed_now : (seats : List Seat) (stands : List Stand) (s : ℕ) (seat y : Seat) (how : End) → stands_of seats ≡ stands → AreSeated 0 seats → s < length stands → seat ≡ get_or seats s seat
+pub closed_now : (C : Config) (seed : List ℕ) (seats : List Seat) (stands : List Stand) (s : ℕ) (seat y : Seat) (how : End) → stands_of seats ≡ stands → AreSeated C seed 0 seats → s < length stands → seat ≡ get_or seats s seat
     → IfSome seat.stand.open_dialog (λ (opened : Opened). y ≡ seated seat (closed_stand seat.stand opened how))
     → IfSome (stand_at stands s).open_dialog (λ (opened : Opened). stands_of (slice_set seats s y) ≡ slice_set stands s (closed_stand (stand_at stands s) opened how))
-closed_now seats stands s seat y how e h below is new =
-    subst (λ (t : Stand). IfSome t.open_dialog (λ (opened : Opened). stands_of (slice_set seats s y) ≡ slice_set stands s (closed_stand t opened how))) (seat_of seats stands s seat e h below is).stand_is
+closed_now C seed seats stands s seat y how e h below is new =
+    subst (λ (t : Stand). IfSome t.open_dialog (λ (opened : Opened). stands_of (slice_set seats s y) ≡ slice_set stands s (closed_stand t opened how))) (seat_of C seed seats stands s seat e h below is).stand_is
     (IfSome_then seat.stand.open_dialog new (λ (opened : Opened) (made : y ≡ seated seat (closed_stand seat.stand opened how)). changed_is seats stands s y (closed_stand seat.stand opened how) e (ap (λ (x : Seat). x.stand) made)))
 
-pub closed_seated : (seats : List Seat) (stands : List Stand) (s : ℕ) (seat y : Seat) (how : End) → stands_of seats ≡ stands → AreSeated 0 seats → s < length stands → seat ≡ get_or seats s seat → IsSome (stand_at stands s).open_dialog
-    → IfSome seat.stand.open_dialog (λ (opened : Opened). y ≡ seated seat (closed_stand seat.stand opened how)) → AreSeated 0 (slice_set seats s y)
-closed_seated seats stands s seat y how e h below is some new =
-    let there : IsSome seat.stand.open_dialog = subst (λ (t : Stand). IsSome t.open_dialog) (sym (seat_of seats stands s seat e h below is).stand_is) some in
-    held seat.stand.open_dialog (λ (opened : Opened). y ≡ seated seat (closed_stand seat.stand opened how)) there new (λ opened made. still_seated seats stands s seat y e h below is (ap (λ (x : Seat). x.service) made))
+pub closed_seated : (C : Config) (seed : List ℕ) (seats : List Seat) (stands : List Stand) (s : ℕ) (seat y : Seat) (how : End) → stands_of seats ≡ stands → AreSeated C seed 0 seats → s < length stands → seat ≡ get_or seats s seat → IsSome (stand_at stands s).open_dialog
+    → IfSome seat.stand.open_dialog (λ (opened : Opened). y ≡ seated seat (closed_stand seat.stand opened how)) → AreSeated C seed 0 (slice_set seats s y)
+closed_seated C seed seats stands s seat y how e h below is some new =
+    let there : IsSome seat.stand.open_dialog = subst (λ (t : Stand). IsSome t.open_dialog) (sym (seat_of C seed seats stands s seat e h below is).stand_is) some in
+    held seat.stand.open_dialog (λ (opened : Opened). y ≡ seated seat (closed_stand seat.stand opened how)) there new (λ opened made. still_seated C seed seats stands s seat y e h below is (made ∙ ap (seated seat) (sym (ap (λ (x : Seat). x.stand) made))))
 
 -- what is known of the cell and of its service, of the cells
-pub moved_now : (seats : List Seat) (stands : List Stand) (s : ℕ) (seat y : Seat) (P : ℕ → Stand → Stand → Type 0) → stands_of seats ≡ stands → AreSeated 0 seats → s < length stands → seat ≡ get_or seats s seat
+pub moved_now : (C : Config) (seed : List ℕ) (seats : List Seat) (stands : List Stand) (s : ℕ) (seat y : Seat) (P : ℕ → Stand → Stand → Type 0) → stands_of seats ≡ stands → AreSeated C seed 0 seats → s < length stands → seat ≡ get_or seats s seat
     → P seat.service seat.stand y.stand → P s (stand_at stands s) (stand_at (stands_of (slice_set seats s y)) s)
-moved_now seats stands s seat y P e h below is p =
-    let at = seat_of seats stands s seat e h below is in
+moved_now C seed seats stands s seat y P e h below is p =
+    let at = seat_of C seed seats stands s seat e h below is in
     subst (λ (t : Stand). P s (stand_at stands s) t) (sym (stand_new seats stands s y e below))
     (subst (λ (t : Stand). P s t y.stand) at.stand_is (subst (λ (n : ℕ). P n seat.stand y.stand) at.service_is p))
 

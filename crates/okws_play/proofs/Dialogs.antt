@@ -392,8 +392,8 @@ pub record IsGoing (c : Standing) (last : ℕ) (over : Bool) (r : ℕ) (seat : S
   pub service_is : seat.service ≡ c.service
   pub stand_is : seat.stand ≡ plain c (Some r)
 
-pub going_is : (c : Standing) (last : ℕ) (over : Bool) (n : Option ℕ) (r : ℕ) (seat : Seat) → record { service = c.service; stand = stand_by c n } ≡ seat → IsKept c last over n → n ≡ Some r → IsGoing c last over r seat
-going_is c last over n r seat view kept asked =
+pub going_is : (C : Config) (seed : List ℕ) (c : Standing) (last : ℕ) (over : Bool) (n : Option ℕ) (r : ℕ) (seat : Seat) → record { config = C; seed = seed; service = c.service; stand = stand_by c n } ≡ seat → IsKept c last over n → n ≡ Some r → IsGoing c last over r seat
+going_is C seed c last over n r seat view kept asked =
     let there = asked_open (incarnation c.past) r c.open_dialog (subst (λ (x : Option ℕ). IsAsked (incarnation c.past) x c.open_dialog) asked kept.asked) in record {
       opened = there.0;
       open_is = there.1;
@@ -454,11 +454,11 @@ some_is : (n : Option ℕ) → IsSome n → (r : ℕ) × (n ≡ Some r)
 some_is None some = absurd cc
 some_is (Some r) some = (r, refl)
 
-pub ready_is : (c : Standing) (last : ℕ) (over : Bool) (n : Option ℕ) (seat : Seat) (test : Bool) → record { service = c.service; stand = stand_by c n } ≡ seat → IsKept c last over n → IsSome n → IfSome (left_of c.link) (λ left. IsTrue test ↔ IsReadyLink c.link left)
+pub ready_is : (C : Config) (seed : List ℕ) (c : Standing) (last : ℕ) (over : Bool) (n : Option ℕ) (seat : Seat) (test : Bool) → record { config = C; seed = seed; service = c.service; stand = stand_by c n } ≡ seat → IsKept c last over n → IsSome n → IfSome (left_of c.link) (λ left. IsTrue test ↔ IsReadyLink c.link left)
     → IsTrue test ↔ (IsSome seat.stand.open_dialog × IsReady seat.stand)
-ready_is c last over n seat test view kept some h =
+ready_is C seed c last over n seat test view kept some h =
     let asked = some_is n some in
-    let g = going_is c last over n asked.0 seat view kept asked.1 in
+    let g = going_is C seed c last over n asked.0 seat view kept asked.1 in
     let ready = ready_link c.link test g.at.wired h in
     let shown : IsSome (plain c (Some asked.0)).open_dialog = ap (λ (o : Option Open). is_some (opened_by (Some asked.0) o)) g.open_is in
     subst (λ (t : Stand). IsTrue test ↔ (IsSome t.open_dialog × IsReady t)) (sym g.stand_is) ((λ yes. (shown, ready.0 yes)), (λ both. ready.1 both.1))

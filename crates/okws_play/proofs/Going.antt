@@ -18,7 +18,7 @@ use Rattle.monitor_model.specs.Course.{said_count, opening, push_frame}
 use Rattle.monitor_model.specs.Pubd.{drain_verdict}
 use Rattle.monitor_model.specs.declared.verdict.Push.{Push}
 use Rattle.monitor_model.specs.declared.record.Own.TheVariants as own
-use Rattle.monitor_model.specs.declared.record.Item.TheVariants.{Heard}
+use Rattle.monitor_model.specs.declared.record.Item.TheVariants.{Heard, Said}
 use Rattle.frame_codec.specs.declared.frame.ServerFrame.{ServerFrame}
 use Rattle.frame_codec.specs.declared.frame.ServerFrame.TheVariants as frame
 use Rattle.http_text.specs.Response.{own_response}
@@ -27,7 +27,7 @@ use Rattle.monitor_model.specs.Seen.{Seen}
 use Rattle.monitor_model.specs.Stage.{Stage, Stand, Opened, Asked, stand, with_stand, with_item, method_text, heard_line, answer_line}
 use Rattle.okws_play.specs.Cells.{stand_at, closed_stand}
 use Rattle.okws_play.specs.Dialogs.{Moves, MovesOpen, Closes, Went, Opens, IsHeardOn, AreSpelledOn}
-use Rattle.service_cell.specs.Exchange.{IsSpelled}
+use Rattle.service_cell.specs.Exchange.{IsSpelled, IsHeardLast}
 use Rattle.okws_play.specs.Printed.{last_response, open_text, item_text, items_text, dialog_text, StepsOn, RunsOn, BeginsOn, DoesLine}
 use Rattle.okws_play.specs.Run.{Run, at_stage}
 use Rattle.okws_play.specs.declared.play.cell.Moved.{Moved}
@@ -189,6 +189,14 @@ last_printed R C s k xs x c is some h at = rw (c, is) (by (stand R.stage s).open
 pub heard_some : (dialog : Option Opened) → IsHeardOn dialog → IsSome dialog
 heard_some None h = absurd h
 heard_some (Some o) h = refl
+
+spelled_last : (x : Item) (rest : List Item) → IsHeardLast (x ∷ rest) → IsSpelled x
+spelled_last (Heard frame) rest h = h
+spelled_last (Said frame) rest h = absurd h
+
+pub last_spelled : (dialog : Option Opened) (xs : List Item) (x : Item) → IsHeardOn dialog → IfSome dialog (λ (o : Opened). reverse xs ≡ o.items) → Some x ≡ slice_get xs (length xs - 1) → IsSpelled x
+last_spelled None xs x heard h at = absurd heard
+last_spelled (Some o) xs x heard h at = let e = last_is xs o.items x h at in spelled_last x e.0 (rw e.1 at heard)
 
 -- ---- items one after the other
 

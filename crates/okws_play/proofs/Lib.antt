@@ -8,5 +8,6 @@ pub mod Narrow
 pub mod Opening
 pub mod Places
 pub mod Playing
+pub mod Putting
 pub mod Short
 pub mod Stages

@@ -1,19 +1,17 @@
-use Rattle.std.proofs.Common.{◌≡◌, ◌∙◌, ℕ, zero, suc, ◌<◌, ◌≤◌, List, [], length, get_or, replicate, refl, ap, subst, arith}
+use Rattle.std.proofs.Common.{◌≡◌, ◌∙◌, ℕ, zero, suc, ◌<◌, ◌≤◌, [], length, get_or, replicate, refl, ap, subst, arith}
 use Rattle.okws_base.specs.Past.{last_by}
-use Rattle.okws_base.specs.declared.limit.TheConstants.{MOST_PROXIES}
 use Rattle.okws_plan.specs.Configuration.{template_name}
 use Rattle.okws_plan.specs.declared.configuration.Config.{Config}
 use Rattle.monitor_model.specs.Cell.{last_booted}
 use Rattle.monitor_model.specs.Seen.{proxy_past}
-use Rattle.monitor_model.specs.Stage.{Stand, Asked, empty_stand}
+use Rattle.monitor_model.specs.Stage.{empty_stand}
 use Rattle.monitor_model.specs.Standing.{proxy_grant}
 use Rattle.okd_dispatch.specs.Seen.{Seen as OkdSeen}
 use Rattle.pubd_core.specs.Seen.{Seen as PubdSeen}
 use Rattle.log_daemon.specs.Seen.{Seen as LogSeen}
 use Rattle.okws_play.specs.Launches.{Launched}
 use Rattle.okws_play.specs.Proxies.{Pasts}
-use Rattle.okws_play.specs.Run.{IsRun}
-use Rattle.okws_play.specs.Site.{Site, unmade, AreBegun, IsSite, KeepsRules, are_short, are_numbered}
+use Rattle.okws_play.specs.Site.{AreBegun, IsSite, KeepsRules, are_short, are_numbered}
 
 none_entered : (n p : ℕ) → proxy_past (replicate n []) p ≡ []
 none_entered zero p = refl
@@ -75,17 +73,3 @@ names_same C D e h = let P : Config → Type 0 = λ X. (t : ℕ) → length (tem
 
 pub launched_same : (C D : Config) (l : Launched) → C ≡ D → l ≡ record { services = length C.services; past = [] } → l ≡ record { services = length D.services; past = [] }
 launched_same C D l e h = rw (← e) h
-
--- the run before its first line
-pub first_run : (C D : Config) (site : Site) (cells : List Stand) (requests : List Asked) → length C.proxies ≤ MOST_PROXIES → site ≡ unmade C → D ≡ C
-    → cells ≡ replicate (length D.services) empty_stand → requests ≡ [] → IsRun C site.config (record { seen = site.seen; stands = cells; requests = requests })
-first_run C D site cells requests few made same stood none =
-    let all : cells ≡ replicate (length C.services) empty_stand = stood ∙ ap (λ X. replicate (length X.services) empty_stand) same in record {
-      few = few;
-      config_is = ap (λ v. v.config) made;
-      cells_are = ap length all ∙ count empty_stand (length C.services);
-      booted_are = λ s.
-          let e : last_booted (get_or cells s empty_stand).past ≡ last_booted (get_or (replicate (length C.services) empty_stand) s empty_stand).past = ap (λ v. last_booted (get_or v s empty_stand).past) all in
-          omega (arith, e, none_booted (length C.services) s);
-      requests_are = rw none tt;
-    }

@@ -5,13 +5,15 @@ use Rattle.okws_plan.specs.declared.configuration.Config.{Config}
 use Rattle.frame_link.specs.Wire.{Wire}
 use Rattle.monitor_model.specs.declared.record.CellEvent.TheVariants as cell
 use Rattle.monitor_model.specs.declared.record.End.{End}
-use Rattle.monitor_model.specs.Cell.{incarnation, last_booted}
+use Rattle.monitor_model.specs.Cell.{incarnation, last_booted, heard}
 use Rattle.monitor_model.specs.Stage.{Stand, Opened, Asked, empty_stand}
 use Rattle.monitor_model.specs.Script.{settled}
-use Rattle.service_cell.specs.Standing.{Open, Standing}
+use Rattle.service_cell.specs.Standing.{Open, Standing, with_open}
 
--- A cell with the number of its service.
+-- A cell with the number of its service, the site's configuration and the run's seed.
 pub record Seat : Type 0 where
+  pub config : Config
+  pub seed : List ℕ
   pub service : ℕ
   pub stand : Stand
 
@@ -72,6 +74,15 @@ abbrev pub IsWired : Option Wire → Type 0
 IsWired None = ⊥
 IsWired (Some wire) = (wire.steady ≡ true) × IsSome wire.left
 
+-- What was put on a cell's link, where it tells.
+abbrev pub given_on : Option Wire → Option (List ℕ)
+given_on None = None
+given_on (Some wire) = wire.given
+
+-- Where a cell has an incarnation, what was put on its link is just what that heard: its Boot, with the tokens of the run's seed, and all that its dialogs heard, in order.
+abbrev pub IsHeard : Config → List ℕ → Standing → Type 0
+IsHeard C seed c = incarnation c.past ≢ 0 → given_on c.link ≡ Some (heard C seed c.service (incarnation c.past) (with_open c.open_dialog c.past))
+
 -- What is kept beside a cell: the greatest incarnation that was booted, whether the end was fed, and the request of the open dialog. Where the cell has an incarnation it has a link in memory.
 pub record IsKept (c : Standing) (last : ℕ) (ended : Bool) (n : Option ℕ) : Type 0 where
   pub last_is : last ≡ last_booted c.past
@@ -83,10 +94,26 @@ pub record IsKept (c : Standing) (last : ℕ) (ended : Bool) (n : Option ℕ) : 
 abbrev pub stands_of : List Seat → List Stand
 stands_of seats = map (λ (seat : Seat). seat.stand) seats
 
--- The cells from service s on.
-abbrev pub AreSeated : ℕ → List Seat → Type 0
-AreSeated s [] = Unit {0}
-AreSeated s (seat ∷ more) = (seat.service ≡ s) × AreSeated (s + 1) more
+-- The cells from service s on, of one site and seed.
+abbrev pub AreSeated : Config → List ℕ → ℕ → List Seat → Type 0
+AreSeated C seed s [] = Unit {0}
+AreSeated C seed s (seat ∷ more) = (seat.service ≡ s) × (seat.config ≡ C) × (seat.seed ≡ seed) × AreSeated C seed (s + 1) more
+
+-- The cells of a site's services, by number, with its configuration and the run's seed.
+pub record Row : Type 0 where
+  pub config : Config
+  pub seed : List ℕ
+  pub stands : List Stand
+
+-- The cells are those of the same site and seed.
+pub record KeepsSite (before now : Row) : Type 0 where
+  pub config_is : now.config ≡ before.config
+  pub seed_is : now.seed ≡ before.seed
+
+-- The cells of a run are those of its site and its seed.
+pub record IsOf (C : Config) (seed : List ℕ) (cells : Row) : Type 0 where
+  pub config_is : cells.config ≡ C
+  pub seed_is : cells.seed ≡ seed
 
 -- There are as many cells as before, and what was last booted at each stays.
 pub record KeepsBooted (before now : List Stand) : Type 0 where

@@ -106,6 +106,13 @@ impl<L: Link> Cell<L> {
         }
     }
 
+    /// The number of the service.
+    pub fn service(&self) -> u16
+        ensures { result ≡ self.now.service }
+    {
+        self.service
+    }
+
     /// The incarnation that is there, 0 for none.
     pub fn incarnation(&self) -> u32
         ensures { result ≡ incarnation self.now.past }

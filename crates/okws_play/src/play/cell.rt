@@ -1,27 +1,34 @@
 //! The cell of one service in a run of a script: a cell over a link in memory, and the number of the
 //! request whose dialog is open.
 
-ghost use Rattle.std.specs.Prelude.{◌≡◌, ◌≢◌, ◌≤◌, ◌<◌, ◌+◌, ◌∷◌, ◌++◌, [], None, Some, IfOk, IfSome, OnOk, OnErr, IsSome, IsTrue, ◌↔◌, length, option_map, reverse, true, false};
-ghost use Rattle.okws_base.specs.declared.limit.TheConstants.{LONGEST_FRAME};
+ghost use Rattle.std.specs.Prelude.{◌≡◌, ◌≢◌, ◌≤◌, ◌<◌, ◌+◌, ◌∷◌, ◌++◌, [], None, Some, IfOk, IfSome, OnOk, OnErr, IsSome, IsTrue, ◌↔◌, length, option_map, map, reverse, true, false};
+ghost use Rattle.okws_base.specs.declared.limit.TheConstants.{LONGEST_FRAME, MOST_INCARNATIONS, MOST_PROXIES};
+ghost use Rattle.std.specs.Arc.{arc_value};
+ghost use Rattle.okws_plan.specs.Configuration.{proxies_of};
 ghost use Rattle.monitor_model.specs.declared.record.End.{End};
 ghost use Rattle.monitor_model.specs.Cell.{incarnation, last_booted};
 ghost use Rattle.monitor_model.specs.Played.{with_open};
 ghost use Rattle.monitor_model.specs.Script.{IsReady};
 ghost use Rattle.monitor_model.specs.Stage.{Opened, empty_stand};
-ghost use Rattle.okws_play.specs.Cells.{seated, closed_stand, retired_stand, booted_stand};
+ghost use Rattle.okws_play.specs.Cells.{seated, closed_stand, retired_stand, booted_stand, IsHeard};
+ghost use Rattle.okws_play.specs.Places.{issued};
 ghost use Rattle.okws_play.specs.Dialogs.{Opens, MovesOpen, IsHeardOn, AreSpelledOn, left_to_do, opening_by, asked_then, moved_by, asked_still};
 
 use crate::play::columns::Columns;
+use crate::play::frames::tokens_of;
 use frame_codec::frame::{Issued, ServerFrame};
 use monitor_model::record::{CellEvent, Item};
 use okws_base::crash::Cause;
 use okws_base::items::Items;
 use okws_base::journal::Past;
 use okws_outer::memory::link::MemoryLink;
+use okws_plan::configuration::Config;
 use service_cell::answer::{Advanced, Begun, Booting};
 use service_cell::cell::Cell;
 use std::alloc::{AllocError, Global};
 use std::marker::Model;
+use std::sync::Arc;
+use token_core::Seed;
 
 /// How a dialog begins.
 #[derive(Clone, Copy, PartialEq, Eq)]
@@ -89,33 +96,39 @@ fn asked_still(number: u32, advanced: Advanced) -> Option<u32>
     }
 }
 
-/// The cell of a service.
+/// The cell of a service. What is put on its link is just what its transcript says was heard.
 #[derive(Drop)]
 pub struct PlayCell {
     alloc: Global,
+    config: Arc<Config, Global>,
+    seed: Seed,
     cell: Cell<MemoryLink<'static>>,
     last_booted: u32,
     has_ended: bool,
     request: Option<u32>,
+    ghost heard: { IsHeard (arc_value config) seed cell },
 }
 
 impl Model for PlayCell {
+    ghost use Rattle.std.specs.Arc.{arc_value};
     ghost use Rattle.okws_play.specs.Cells.{Seat, stand_by, IsKept};
 
     ghost Value = { Seat };
 
-    ghost view = { λ a. record { service = a.cell.service; stand = stand_by a.cell a.request } };
+    ghost view = { λ a. record { config = arc_value a.config; seed = a.seed; service = a.cell.service; stand = stand_by a.cell a.request } };
 
     ghost invariant = { λ a. IsKept a.cell a.last_booted a.has_ended a.request };
 }
 
 impl PlayCell {
-    /// The cell of a service, at which nothing happened.
-    pub fn new(alloc: Global, service: u16) -> Self
-        ensures { result ≡ record { service = service; stand = empty_stand } }
+    /// The cell of a service of a site, at which nothing happened. Its tokens are those of the seed.
+    pub fn new(alloc: Global, config: Arc<Config, Global>, seed: Seed, service: u16) -> Self
+        ensures { result ≡ record { config = arc_value config; seed = seed; service = service; stand = empty_stand } }
     {
         PlayCell {
             alloc,
+            config,
+            seed,
             cell: Cell::new(alloc, service),
             last_booted: 0,
             has_ended: false,
@@ -183,20 +196,34 @@ impl PlayCell {
         let _link = self.cell.retire();
     }
 
-    /// A fresh link gets Boot of the incarnation with these tokens. Where memory is refused, all is as
-    /// before.
-    pub fn boot(&mut self, number: u32, tokens: Items<Issued>) -> Result<(), AllocError>
+    // One token of the incarnation for each proxy where the service has a grant, ascending.
+    fn tokens(&self, incarnation: u32) -> Result<Vec<Issued>, AllocError>
+        requires first { 0 < incarnation }
+        requires most { incarnation ≤ MOST_INCARNATIONS }
+        requires few { length self.now.config.proxies ≤ MOST_PROXIES }
+        ensures tokens { IfOk result (λ v. v.items ≡ map (issued self.now.seed self.now.service incarnation) (proxies_of self.now.config self.now.service)) }
+        ensures few { IfOk result (λ v. length v.items ≤ MOST_PROXIES) }
+    {
+        let service = self.cell.service();
+        tokens_of(self.alloc, &self.config, &self.seed, service, incarnation)
+    }
+
+    /// A fresh link gets Boot of the incarnation, with one token for each proxy where the service has a
+    /// grant. Where memory is refused, all is as before.
+    pub fn boot(&mut self, number: u32) -> Result<(), AllocError>
         requires closed { self.old.stand.open_dialog ≡ None }
         requires empty { incarnation self.old.stand.past ≡ 0 }
         requires later { last_booted self.old.stand.past < number }
-        requires few { length tokens < 256 }
+        requires most { number ≤ MOST_INCARNATIONS }
+        requires few { length self.old.config.proxies ≤ MOST_PROXIES }
         ensures ok { OnOk result (self.new ≡ seated self.old (booted_stand self.old.stand number)) }
         ensures err { OnErr result (self.new ≡ self.old) }
     {
+        let tokens = self.tokens(number)?;
         // A cell that crashed has its link still.
         let _link = self.cell.retire();
         let link = MemoryLink::new(self.alloc, 0, &[]);
-        match self.cell.boot(link, number, tokens) {
+        match self.cell.boot(link, number, Items::of(tokens)) {
             Booting::Booted => {
                 self.last_booted = number;
                 self.has_ended = false;
@@ -232,7 +259,7 @@ impl PlayCell {
         requires short { length head + length content + 9 ≤ LONGEST_FRAME }
         ensures opens { IfOk result (λ opening. Opens columns.old.config self.old.service self.old.stand columns.old.seen number (ServerFrame.Request head content) wanted opening self.new.stand columns.new.seen) }
         ensures spelled { IfOk result (λ opening. opening ≡ Opening.Started → AreSpelledOn self.new.stand.open_dialog) }
-        ensures service { self.new.service ≡ self.old.service }
+        ensures seat { self.new ≡ seated self.old self.new.stand }
         ensures booted { last_booted self.new.stand.past ≡ last_booted self.old.stand.past }
         ensures config { columns.new.config ≡ columns.old.config }
         ensures launcher { columns.new.seen.launcher ≡ columns.old.seen.launcher }
@@ -254,7 +281,7 @@ impl PlayCell {
         ensures moves { IfOk result (λ moved. MovesOpen columns.old.config self.old.service self.old.stand self.old.stand.open_dialog columns.old.seen moved self.new.stand columns.new.seen) }
         ensures spelled { IfOk result (λ moved. moved ≡ Moved.Goes → IsHeardOn self.new.stand.open_dialog) }
         ensures less { OnOk result (left_to_do self.new.stand.open_dialog self.new.stand.left < left_to_do self.old.stand.open_dialog self.old.stand.left) }
-        ensures service { self.new.service ≡ self.old.service }
+        ensures seat { self.new ≡ seated self.old self.new.stand }
         ensures booted { last_booted self.new.stand.past ≡ last_booted self.old.stand.past }
         ensures config { columns.new.config ≡ columns.old.config }
         ensures launcher { columns.new.seen.launcher ≡ columns.old.seen.launcher }

@@ -117,7 +117,7 @@ impl Columns {
 
     /// The record of what was made, with what happened at each cell.
     pub fn into_record(self, cells: Cells) -> Result<Record, AllocError>
-        ensures record { IfOk result (λ r. r ≡ record { okd = self.seen.okd; proxies = self.seen.proxies; pubd = self.seen.pubd; oklogd = self.seen.oklogd; launcher = self.seen.launcher; cells = map (λ (there : Stand). with_open there.open_dialog there.past) cells; doors = []; workers = self.seen.own ∷ []; launches = [] }) }
+        ensures record { IfOk result (λ r. r ≡ record { okd = self.seen.okd; proxies = self.seen.proxies; pubd = self.seen.pubd; oklogd = self.seen.oklogd; launcher = self.seen.launcher; cells = map (λ (there : Stand). with_open there.open_dialog there.past) cells.stands; doors = []; workers = self.seen.own ∷ []; launches = [] }) }
         ensures faultless { (p : ℕ) → faults (proxy_past self.seen.proxies p) ≡ 0 }
     {
         let proxies = self.proxies.close(self.alloc)?;

@@ -10,7 +10,8 @@ ghost use Rattle.okws_plan.specs.Sound.{IsSound};
 ghost use Rattle.okws_plan.specs.declared.event.OkdEvent.TheVariants as okd_event;
 ghost use Rattle.okws_plan.specs.declared.script.Place.TheVariants as at_column;
 ghost use Rattle.okws_plan.specs.declared.event.PubdEvent.TheVariants as pubd_event;
-ghost use Rattle.monitor_model.specs.Cell.{incarnation, last_booted};
+ghost use Rattle.frame_codec.specs.Spelling.{HasSpelling};
+ghost use Rattle.monitor_model.specs.Cell.{boot_frame, incarnation, last_booted};
 ghost use Rattle.monitor_model.specs.Okd.{accept_verdict};
 ghost use Rattle.monitor_model.specs.Played.{IsFaultless, record_of};
 ghost use Rattle.monitor_model.specs.Pubd.{edition};
@@ -18,14 +19,15 @@ ghost use Rattle.monitor_model.specs.Standing.{up_at_okd};
 ghost use Rattle.monitor_model.specs.Stage.{stand, empty_stand, with_seen, first_stage};
 ghost use Rattle.monitor_model.specs.Script.{greatest, begins, installed, revoked, downed, upped, retired, superseded, superseded_text, freshly_booted, boot_text, request_method, at_okd, at_pubd, last_at, goes_of, is_pending, is_busy_request};
 ghost use Rattle.okws_outer.specs.Printing.{Prints, CountsOn};
-ghost use Rattle.okws_play.specs.Cells.{FitsRequest};
+ghost use Rattle.okws_play.specs.Cells.{FitsRequest, IsOf};
 ghost use Rattle.okws_play.specs.Run.{at_stage, with_request, MayLaunch, IsOnlyAt, KeepsCells};
 
 use crate::play::cells::Cells;
 use crate::play::columns::Columns;
-use crate::play::frames::{boot_frame, may_call_at, tokens_of};
+use crate::play::frames::{boot_frame, may_call_at};
 use crate::play::lines::{print_answer, print_heard};
 use crate::play::request::{Request, method_name};
+use frame_codec::frame::ServerFrame;
 use http_text::response::own_response;
 use monitor_model::record::{Own, Record};
 use monitor_model::verdict::Way;
@@ -47,6 +49,7 @@ pub struct Play {
     pub(crate) columns: Columns,
     pub(crate) cells: Cells,
     pub(crate) requests: Vec<Request>,
+    ghost tokens: { IsOf (arc_value config) seed cells },
 }
 
 impl Model for Play {
@@ -55,17 +58,9 @@ impl Model for Play {
 
     ghost Value = { Run };
 
-    ghost view = { λ a. record { config = arc_value a.config; seed = a.seed; stage = record { seen = a.columns.seen; stands = a.cells; requests = a.requests.items } } };
+    ghost view = { λ a. record { config = arc_value a.config; seed = a.seed; stage = record { seen = a.columns.seen; stands = a.cells.stands; requests = a.requests.items } } };
 
-    ghost invariant = { λ a. IsRun (arc_value a.config) a.columns.config (record { seen = a.columns.seen; stands = a.cells; requests = a.requests.items }) };
-}
-
-// The cells of a site's services, at which nothing happened.
-fn first_cells(alloc: Global, config: &Config) -> Result<Cells, AllocError>
-    requires { length config.now.services ≤ MOST_SERVICES }
-    ensures { IfOk result (λ cells. cells ≡ replicate (length config.now.services) empty_stand) }
-{
-    Cells::new(alloc, config.services.as_slice().len())
+    ghost invariant = { λ a. IsRun (arc_value a.config) a.columns.config (record { seen = a.columns.seen; stands = a.cells.stands; requests = a.requests.items }) };
 }
 
 impl Play {
@@ -76,7 +71,7 @@ impl Play {
         ensures { IfOk result (λ run. run ≡ record { config = arc_value config; seed = seed; stage = first_stage (arc_value config) }) }
     {
         let columns = Columns::new(alloc, &config)?;
-        let cells = first_cells(alloc, &config)?;
+        let cells = Cells::new(alloc, &config, seed)?;
         Ok(Play {
             alloc,
             config,
@@ -242,6 +237,16 @@ impl Play {
         print_answer(out, stopped, self.alloc, request as usize, &text)
     }
 
+    // The Boot frame of an incarnation.
+    fn boot_frame(&self, service: u16, incarnation: u32) -> Result<ServerFrame, AllocError>
+        requires first { 0 < incarnation }
+        requires most { incarnation ≤ MOST_INCARNATIONS }
+        ensures frame { IfOk result (λ f. f ≡ boot_frame self.now.config self.now.seed service incarnation) }
+        ensures spelling { IfOk result (λ f. HasSpelling f) }
+    {
+        boot_frame(self.alloc, &self.config, &self.seed, service, incarnation)
+    }
+
     /// The cell's fresh link gets Boot of the greatest incarnation begun.
     pub fn boot_freshly<O: Sink>(
         &mut self,
@@ -259,9 +264,8 @@ impl Play {
         ensures counted { CountsOn (O.faults out.old) stopped.old (O.faults out.new) stopped.new }
     {
         let incarnation = self.columns.greatest(service);
-        let frame = boot_frame(self.alloc, &self.config, &self.seed, service, incarnation)?;
-        let tokens = tokens_of(self.alloc, &self.config, &self.seed, service, incarnation)?;
-        self.cells.boot(service, incarnation, Items::of(tokens))?;
+        let frame = self.boot_frame(service, incarnation)?;
+        self.cells.boot(service, incarnation)?;
         self.columns.note(Own::Boot {
             service,
             incarnation,

@@ -6,5 +6,5 @@ use Rattle.okws_play.proofs.play.cells.Cells.close.Given as goal
 abbrev pub invariant-loop-cell : goal.invariant-loop-cell
 invariant-loop-cell l = record {
   pasts : l.pasts.items ≡ map (λ (seat : Seat). with_open seat.stand.open_dialog seat.stand.past) l.yielded;
-  all : stands_of (l.yielded ++ l.cell-iterator.rest.items) ≡ l.fn.self;
+  all : stands_of (l.yielded ++ l.cell-iterator.rest.items) ≡ l.fn.self.stands;
 }

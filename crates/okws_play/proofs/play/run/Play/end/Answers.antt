@@ -16,5 +16,5 @@ pub returns-clause-does : goal.returns-clause-does
 returns-clause-does g c =
     on_ok_weaker c.go_on.result
     (end_on c.args.self.now c.go_on.new.self _ _ _ _ _ _ c.args.service (Prints (g.O.Sink.given c.args.out.now) c.args.stopped.now (g.O.Sink.given c.go_on.new.out) c.go_on.new.stopped)
-    c.self.view_is c.feed_end.ensures)
+    c.self.view_is c.feed_end.ensures.stands)
     c.go_on.ensures.went

@@ -19,8 +19,8 @@ returns-in-Goes-clause-steps g c =
 
 pub returns-in-Closed-clause-steps : goal.returns-in-Closed-clause-steps
 returns-in-Closed-clause-steps g c =
-    let services : length c.args.self.now.config.services ≡ length c.self.inside.cells = sym (ap (λ (v : Run). length v.config.services) c.self.view_is) ∙ sym c.self.invariant.cells_are in
-    let below : c.args.service < length c.self.inside.cells = omega (arith, c.requires.service, services) in
+    let services : length c.args.self.now.config.services ≡ length c.self.inside.cells.stands = sym (ap (λ (v : Run). length v.config.services) c.self.view_is) ∙ sym c.self.invariant.cells_are in
+    let below : c.args.service < length c.self.inside.cells.stands = omega (arith, c.requires.service, services) in
     on_ok_weaker c.print_closing.result
     (step_closed c.args.self.now _ _ _ _ _ _ _ _ c.args.service c.in-Closed.request (Prints (g.O.Sink.given c.args.out.now) c.args.stopped.now (g.O.Sink.given c.print_closing.new.out) c.print_closing.new.stopped)
     c.self.view_is c.self.invariant.config_is below c.requires.ready (rw c.in-Closed.is at c.in_ok-advance.ensures.moves) c.in_ok-advance.ensures.others)

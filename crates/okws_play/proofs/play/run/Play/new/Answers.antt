@@ -1,5 +1,0 @@
-use Rattle.okws_play.proofs.Opening.{first_run}
-use Rattle.okws_play.proofs.play.run.Play.new.Goals as goal
-
-pub invariant_of-result : goal.invariant_of-result
-invariant_of-result c = first_run _ _ _ _ _ c.requires.sound.few_proxies c.in_ok-columns.ensures c.deref.ensures c.in_ok-cells.ensures c.new-2.ensures.items

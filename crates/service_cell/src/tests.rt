@@ -5,6 +5,7 @@ ghost use Rattle.monitor_model.specs.Cell.{incarnation};
 ghost use Rattle.service_cell.specs.Steps.{IsSpeaking};
 
 mod bare;
+mod scant;
 
 use crate::answer::{Advanced, Begun, Booting};
 use crate::cell::Cell;
@@ -12,6 +13,8 @@ use bare::Bare;
 use okws_base::crash::Cause;
 use okws_base::items::Items;
 use okws_outer::memory::link::MemoryLink;
+use okws_outer::stream::Link;
+use scant::Scant;
 use std::alloc::{AllocError, Global};
 use std::test::Fail;
 
@@ -34,11 +37,7 @@ fn letter_of(answer: Advanced) -> char {
 }
 
 /// The cell, once its dialog is open.
-fn begun<'a>(
-    alloc: Global,
-    mut cell: Cell<MemoryLink<'a>>,
-    columns: &mut Bare,
-) -> Option<Cell<MemoryLink<'a>>>
+fn begun<L: Link + Drop>(alloc: Global, mut cell: Cell<L>, columns: &mut Bare) -> Option<Cell<L>>
     requires service { cell.service ≡ 0 }
     requires closed { cell.open_dialog ≡ None }
     ensures { IfSome result (λ c. IsSpeaking 0 c.open_dialog × (c.service ≡ 0) × (incarnation c.past ≢ 0)) }
@@ -55,11 +54,7 @@ fn begun<'a>(
 }
 
 /// A cell whose dialog is open, with this link.
-fn started<'a>(
-    alloc: Global,
-    link: MemoryLink<'a>,
-    columns: &mut Bare,
-) -> Option<Cell<MemoryLink<'a>>>
+fn started<L: Link + Drop>(alloc: Global, link: L, columns: &mut Bare) -> Option<Cell<L>>
     ensures { IfSome result (λ c. IsSpeaking 0 c.open_dialog × (c.service ≡ 0) × (incarnation c.past ≢ 0)) }
 {
     let mut cell = Cell::new(alloc, 0);
@@ -73,7 +68,7 @@ fn started<'a>(
 }
 
 /// The letter of the last of at most two answers.
-fn last_answer(cell: &mut Cell<MemoryLink>, columns: &mut Bare) -> char
+fn last_answer<L: Link>(cell: &mut Cell<L>, columns: &mut Bare) -> char
     requires { IsSpeaking 0 cell.old.open_dialog × (cell.old.service ≡ 0) × (incarnation cell.old.past ≢ 0) }
 {
     match cell.advance(columns) {
@@ -135,6 +130,30 @@ fn a_link_fails(rt: HostRuntime) -> Result<(), Fail> {
         let (letter, given) = spoken(rt.alloc(), LOG, true, 1, &[call])?;
         assert_eq!(rt; letter, 'f');
         assert_eq!(rt; given.len(), length);
+    }
+    Ok(())
+}
+
+/// The last letter for a Log and its end over a link that makes room so many times; nothing where no
+/// dialog opens.
+fn spoken_in(alloc: Global, rooms: u32) -> Result<char, AllocError> {
+    let mut columns = Bare::new(alloc);
+    let mut link = MemoryLink::new(alloc, 3, &[]);
+    link.feed(LOG)?;
+    link.feed_end();
+    let Some(mut cell) = started(alloc, Scant::new(link, rooms), &mut columns) else {
+        return Ok('-');
+    };
+    let letter = last_answer(&mut cell, &mut columns);
+    let _parts = cell.into_parts();
+    Ok(letter)
+}
+
+#[test]
+fn memory_is_refused(rt: HostRuntime) -> Result<(), Fail> {
+    // Room is made for the Boot, for the Request, and before each frame is taken.
+    for (rooms, want) in [(0, '-'), (1, '-'), (2, 'n'), (3, 'n'), (4, 'e')] {
+        assert_eq!(rt; spoken_in(rt.alloc(), rooms)?, want);
     }
     Ok(())
 }

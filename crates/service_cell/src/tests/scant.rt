@@ -1,0 +1,49 @@
+//! Links that make room but a few times.
+
+ghost use Rattle.std.specs.Prelude.{false};
+
+use okws_outer::stream::{Link, Pull, Put};
+use std::alloc::AllocError;
+
+/// A link that refuses memory once it made room so many times.
+#[derive(Drop)]
+pub(super) struct Scant<L: Link> {
+    link: L,
+    rooms: u32,
+}
+
+impl<L: Link> Scant<L> {
+    pub(super) fn new(link: L, rooms: u32) -> Self {
+        Scant { link, rooms }
+    }
+}
+
+impl<L: Link> Link for Scant<L> {
+    ghost left = { λ s. L.left s.link };
+
+    ghost given = { λ s. L.given s.link };
+
+    ghost faults = { λ s. L.faults s.link };
+
+    ghost steady = { λ _. false };
+
+    ghost room = { λ _. 0 };
+
+    ghost ended = { λ s. L.ended s.link };
+
+    fn pull(&mut self, into: &mut [u8]) -> Pull {
+        self.link.pull(into)
+    }
+
+    fn put(&mut self, bytes: &[u8]) -> Put {
+        self.link.put(bytes)
+    }
+
+    fn make_room(&mut self, n: usize) -> Result<(), AllocError> {
+        if self.rooms == 0 {
+            return Err(AllocError);
+        }
+        self.rooms -= 1;
+        self.link.make_room(n)
+    }
+}

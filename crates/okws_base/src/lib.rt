@@ -8,4 +8,5 @@ pub mod items;
 pub mod journal;
 pub mod limit;
 pub mod name;
+pub mod told;
 pub mod value;

@@ -1,17 +1,18 @@
 //! What a service may do at a proxy.
 
-ghost use Rattle.std.specs.Prelude.{◌≡◌, ◌<◌, true, None, Some, IfOk, IfErr};
+ghost use Rattle.std.specs.Prelude.{◌≡◌, ◌<◌, ◌==◌, ◌&&◌, true, None, Some, IfOk, IfErr, option_copied, find};
+ghost use Rattle.std.specs.List.{list_any};
 ghost use Rattle.okws_base.specs.declared.limit.TheConstants.{MOST_SESSIONS};
-ghost use Rattle.okws_plan.specs.Configuration.{query};
+ghost use Rattle.okws_plan.specs.Configuration.{grants, query, queries_of};
 ghost use Rattle.okws_plan.specs.Fits.{fits};
 ghost use Rattle.monitor_model.specs.Proxy.{granted, open_denial};
 ghost use Rattle.db_proxy.specs.Permit.{denial_at};
 
-use monitor_model::plain::call::{fit, granted_query};
 use okws_base::denial::Rule;
 use okws_base::limit::MOST_SESSIONS;
-use okws_plan::configuration::{Config, Query};
+use okws_plan::configuration::{Config, Granted, Query};
 use okws_plan::event::Call;
+use okws_plan::meaning::fit;
 
 // The rule that an Open breaks first. `issued` is the incarnation to which the token was issued.
 pub fn denial(issued: Option<u32>, incarnation: u32, is_live: bool, opened: u32) -> Option<Rule>
@@ -25,6 +26,43 @@ pub fn denial(issued: Option<u32>, incarnation: u32, is_live: bool, opened: u32)
         Some(Rule::StaleToken)
     } else if opened >= MOST_SESSIONS {
         Some(Rule::TooManySessions)
+    } else {
+        None
+    }
+}
+
+fn is_granted(all: &[Granted], service: u16, proxy: u16, number: u16) -> bool
+    ensures { result ≡ list_any (λ g. (g.service == service) && ((g.proxy == proxy) && (g.query == number))) all.now }
+{
+    all.iter().any(|g| g.service == service && g.proxy == proxy && g.query == number)
+}
+
+fn find_query(queries: &[Query], number: u16) -> Option<&Query>
+    ensures { option_copied result ≡ find (λ x. x.number == number) queries.now }
+{
+    for query in queries {
+        if query.number == number {
+            return Some(query);
+        }
+    }
+    None
+}
+
+fn query_of(config: &Config, proxy: u16, number: u16) -> Option<&Query>
+    ensures { option_copied result ≡ query config.now proxy number }
+{
+    match config.proxies.as_slice().get(proxy as usize) {
+        None => None,
+        Some(plan) => find_query(plan.queries.as_slice(), number),
+    }
+}
+
+// The query of this number, where the configuration grants it to the service.
+fn granted_query(config: &Config, proxy: u16, service: u16, number: u16) -> Option<&Query>
+    ensures { option_copied result ≡ granted config.now proxy service number }
+{
+    if is_granted(config.grants.as_slice(), service, proxy, number) {
+        query_of(config, proxy, number)
     } else {
         None
     }

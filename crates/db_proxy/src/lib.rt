@@ -2,6 +2,7 @@
 //! it, and has a keeper run what is allowed.
 #![tactic(auto)]
 
+mod answering;
 mod granting;
 mod proxy;
 #[cfg(test)]

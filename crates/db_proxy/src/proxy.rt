@@ -15,9 +15,9 @@ ghost use Rattle.monitor_model.specs.Proxy.{open_verdict, call_answer, call_verd
 ghost use Rattle.monitor_model.specs.declared.verdict.Verdict.{Verdict};
 ghost use Rattle.db_proxy.specs.Seen.{entered};
 
+use crate::answering::within;
 use crate::granting::{allowed, denial};
 use grant_column::Grants;
-use monitor_model::plain::call::within;
 use monitor_model::verdict::Verdict;
 use okws_base::journal::{Entry, Journal, Past};
 use okws_base::value::Token;

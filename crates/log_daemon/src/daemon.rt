@@ -13,15 +13,15 @@ ghost use Rattle.okws_plan.specs.Configuration.{service_name};
 ghost use Rattle.log_daemon.specs.Seen.{entered, IsFront};
 ghost use Rattle.log_daemon.specs.Stopped.{is_stopped};
 
+use crate::line::{may_log, with_line};
 use grant_column::Grants;
-use monitor_model::plain::log::{may_log, name_of, with_line};
 use monitor_model::verdict::Noted;
 use okws_base::denial::Rule;
 use okws_base::items::Items;
 use okws_base::journal::{Entry, Journal, Past};
 use okws_base::limit::LONGEST_LOG;
 use okws_outer::stream::{Put, Sink};
-use okws_plan::configuration::Config;
+use okws_plan::configuration::{Config, name_of};
 use okws_plan::event::LogEvent;
 use std::alloc::{AllocError, Global};
 use std::marker::Model;

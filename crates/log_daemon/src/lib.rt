@@ -3,6 +3,7 @@
 #![tactic(auto)]
 
 mod daemon;
+mod line;
 #[cfg(test)]
 mod tests;
 

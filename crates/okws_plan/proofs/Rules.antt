@@ -1,6 +1,6 @@
 -- Queries that keep the rules.
-use Rattle.std.proofs.Common.{◌≡◌, refl, ℕ, Bool, true, false, List, [], ◌∷◌, Option, Some, None, ◌&&◌}
-use Rattle.std.specs.Prelude.{find, ◌==◌, if◌then◌else◌, slice_get}
+use Rattle.std.proofs.Common.{◌≡◌, refl, ℕ, Bool, true, false, List, [], ◌∷◌, Some, ◌&&◌}
+use Rattle.std.specs.Prelude.{find, ◌==◌, slice_get}
 use Rattle.std.specs.List.{list_all}
 use Rattle.okws_plan.specs.Configuration.{tables, queries_of}
 use Rattle.okws_plan.specs.Rules.{keeps_rules, QueriesKeepRules}

@@ -1,5 +1,8 @@
 //! What a configuration says.
 
+ghost use Rattle.std.specs.Prelude.{◌≡◌};
+ghost use Rattle.okws_plan.specs.Configuration.{service_name};
+
 use crate::statement::Statement;
 use okws_base::items::{Exact, Items};
 use okws_base::name::{Identifier, Name, Path};
@@ -98,4 +101,14 @@ pub struct Config {
     pub grants: Items<Granted>,
     pub readables: Items<Readable>,
     pub loggers: Items<u16>,
+}
+
+/// The name of the service, or nothing where there is none of this number.
+pub fn name_of(config: &Config, service: u16) -> &[u8]
+    ensures { result.now ≡ service_name config.now service }
+{
+    match config.services.as_slice().get(service as usize) {
+        None => &[],
+        Some(plan) => plan.name.as_slice(),
+    }
 }

@@ -10,11 +10,10 @@ ghost use Rattle.okws_outer.specs.Printing.{Prints, CountsOn};
 use frame_codec::frame::ServerFrame;
 use frame_codec::server::write_server_frame;
 use http_text::response::own_response;
-use monitor_model::plain::log::name_of;
 use monitor_model::verdict::Way;
 use okws_outer::printing::print;
 use okws_outer::stream::Sink;
-use okws_plan::configuration::Config;
+use okws_plan::configuration::{Config, name_of};
 use std::alloc::{AllocError, Global};
 
 fn digit(n: u8) -> u8

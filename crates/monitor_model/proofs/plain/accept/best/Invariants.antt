@@ -1,7 +1,0 @@
-use Rattle.std.proofs.Common.{◌≡◌, take}
-use Rattle.std.specs.Prelude.{option_copied}
-use Rattle.okws_plan.specs.Configuration.{best_owner}
-use Rattle.monitor_model.proofs.plain.accept.best.Given as goal
-
-abbrev pub invariant-loop-owned : goal.invariant-loop-owned
-invariant-loop-owned l = option_copied l.best ≡ best_owner (take l.owned-index l.paths) l.path

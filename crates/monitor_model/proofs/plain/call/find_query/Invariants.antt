@@ -1,7 +1,0 @@
-use Rattle.std.proofs.Common.{◌≡◌, drop}
-use Rattle.std.specs.Prelude.{find, ◌==◌}
-use Rattle.okws_plan.specs.declared.configuration.Query.{Query}
-use Rattle.monitor_model.proofs.plain.call.find_query.Given as goal
-
-abbrev pub invariant-loop-query : goal.invariant-loop-query
-invariant-loop-query l = find (λ (x : Query). x.number == l.number) (drop l.query-index l.queries) ≡ find (λ (x : Query). x.number == l.number) l.queries

@@ -1,5 +1,5 @@
 -- What the bytes that were taken tell of the next frame.
-use Rattle.std.proofs.Common.{◌≡◌, ◌≢◌, ℕ, ◌+◌, ◌<◌, List, [], ◌∷◌, ◌++◌, length, refl, sym, ap, subst, ◌∙◌, arith, inl, inr}
+use Rattle.std.proofs.Common.{◌≡◌, ◌≢◌, ℕ, ◌+◌, ◌<◌, List, [], ◌++◌, length, refl, sym, ap, subst, ◌∙◌, arith, inl, inr}
 use Rattle.std.specs.Prelude.{IsTrue}
 use Rattle.std.specs.declared.option.Option.{Option}
 use Rattle.std.specs.declared.option.Option.TheVariants.{Some, None}
@@ -11,7 +11,7 @@ use Rattle.frame_codec.specs.Stream.{IsBad, IsShort}
 use Rattle.frame_codec.proofs.Sizes.{length-four}
 use Rattle.frame_codec.proofs.Apart.{short_begins_none}
 use Rattle.frame_codec.proofs.Stops.{bad_stop, short_stop, bad_more}
-use Rattle.frame_link.specs.Wire.{AreLeft, IsNext, IsBadFront}
+use Rattle.frame_link.specs.Next.{AreLeft, IsNext, IsBadFront}
 use Rattle.frame_link.specs.Filling.{IsWhole, Reads}
 use Rattle.frame_link.specs.declared.receiving.NextFrame.{NextFrame}
 use Rattle.frame_link.specs.declared.receiving.NextFrame.TheVariants.{Frame, Ended, BadFrame, LinkFault, NoMemory}

@@ -1,3 +1,3 @@
-pub mod Wire
+pub mod Next
 pub mod Filling
 pub mod Sending

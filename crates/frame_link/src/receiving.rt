@@ -2,8 +2,8 @@
 
 ghost use Rattle.std.specs.Prelude.{◌≡◌, ◌≤◌, ◌<◌, ℕ, true, length, List, IfSome, Some};
 ghost use Rattle.std.specs.Io.KnownBytes.{Consumes};
-ghost use Rattle.okws_outer.specs.Streams.{Counts};
-ghost use Rattle.frame_link.specs.Wire.{IsNext, IsBadFront};
+ghost use Rattle.okws_outer.specs.Wire.{Receives};
+ghost use Rattle.frame_link.specs.Next.{IsNext, IsBadFront};
 ghost use Rattle.frame_link.specs.Filling.{Fills, IsWhole, Reads};
 
 use frame_codec::frame::ServiceFrame;
@@ -45,13 +45,8 @@ const PIECE: usize = 4096;
 /// Takes bytes from the link until there are so many in all.
 fn fill<L: Link>(link: &mut L, bytes: &mut Vec<u8>, total: usize) -> Filled
     requires { length bytes.old.items ≤ total }
-    ensures bytes { Fills (L.left link.old) (L.left link.new) bytes.old.items bytes.new.items total result }
-    ensures faults { Counts (L.faults link.old) (L.faults link.new) (result ≡ Filled.Failed) }
-    ensures sure { L.steady link.old ≡ true → result ≡ Filled.Failed → ⊥ }
-    ensures given { L.given link.new ≡ L.given link.old }
-    ensures steady { L.steady link.new ≡ L.steady link.old }
-    ensures ended { L.ended link.new ≡ L.ended link.old }
-    ensures room { L.room link.new ≡ L.room link.old }
+    ensures bytes { Fills (L.wire link.old).left (L.wire link.new).left bytes.old.items bytes.new.items total result }
+    ensures link { Receives (L.wire link.old) (L.wire link.new) (result ≡ Filled.Failed) }
 {
     let mut piece = [0u8; PIECE];
     while bytes.len() < total {
@@ -84,14 +79,9 @@ fn whole_frame(alloc: Global, bytes: &[u8]) -> NextFrame
 
 /// Takes the next frame from the link, or as many bytes as tell that there is none.
 pub fn next<L: Link>(alloc: Global, link: &mut L) -> NextFrame
-    ensures next { IsNext (L.left link.old) (L.left link.new) result }
-    ensures bad { result ≡ NextFrame.BadFrame → IsBadFront (L.left link.old) (L.left link.new) }
-    ensures faults { Counts (L.faults link.old) (L.faults link.new) (result ≡ NextFrame.LinkFault) }
-    ensures sure { L.steady link.old ≡ true → result ≡ NextFrame.LinkFault → ⊥ }
-    ensures given { L.given link.new ≡ L.given link.old }
-    ensures steady { L.steady link.new ≡ L.steady link.old }
-    ensures ended { L.ended link.new ≡ L.ended link.old }
-    ensures room { L.room link.new ≡ L.room link.old }
+    ensures next { IsNext (L.wire link.old).left (L.wire link.new).left result }
+    ensures bad { result ≡ NextFrame.BadFrame → IsBadFront (L.wire link.old).left (L.wire link.new).left }
+    ensures link { Receives (L.wire link.old) (L.wire link.new) (result ≡ NextFrame.LinkFault) }
 {
     let mut bytes = Vec::new(alloc);
     match fill(link, &mut bytes, 4) {

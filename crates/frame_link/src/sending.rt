@@ -3,9 +3,9 @@
 ghost use Rattle.std.specs.Prelude.{◌≡◌, ◌≤◌, ◌<◌, ◌^◌, ℕ, ◌+◌, ◌++◌, ◌∷◌, [], List, true, length, flat_map, Ok, MatchResult};
 ghost use Rattle.std.specs.Io.KnownBytes.{Appends};
 ghost use Rattle.std.specs.Int.{w64, cast_unsigned};
-ghost use Rattle.okws_outer.specs.Streams.{Counts, AppendsPrefix};
+ghost use Rattle.okws_outer.specs.Streams.{AppendsPrefix};
 ghost use Rattle.frame_codec.specs.Spelling.{two, four, eight, string, name, value, values, token_parts, size, joined, server_parts, server_spelling, HasSpelling};
-ghost use Rattle.frame_link.specs.Wire.{Wire, wire_of};
+ghost use Rattle.okws_outer.specs.Wire.{Wire, Gives};
 ghost use Rattle.frame_link.specs.Sending.{Sends};
 
 use frame_codec::frame::{Issued, ServerFrame};
@@ -20,7 +20,7 @@ use okws_outer::stream::{Link, Put};
 pub struct LinkFault;
 
 fn put<L: Link>(link: &mut L, bytes: &[u8]) -> Result<(), LinkFault>
-    ensures { Sends (wire_of L.left L.given L.faults L.steady L.ended L.room link.old) bytes.now result (wire_of L.left L.given L.faults L.steady L.ended L.room link.new) }
+    ensures { Sends (L.wire link.old) bytes.now result (L.wire link.new) }
 {
     match link.put(bytes) {
         Put::Done => Ok(()),
@@ -30,7 +30,7 @@ fn put<L: Link>(link: &mut L, bytes: &[u8]) -> Result<(), LinkFault>
 
 /// Puts the bytes, unless a part before them failed.
 fn then<L: Link>(sent: Result<(), LinkFault>, link: &mut L, bytes: &[u8]) -> Result<(), LinkFault>
-    ensures { (start : Wire) (text : List ℕ) → Sends start text sent (wire_of L.left L.given L.faults L.steady L.ended L.room link.old) → Sends start (text ++ bytes.now) result (wire_of L.left L.given L.faults L.steady L.ended L.room link.new) }
+    ensures { (start : Wire) (text : List ℕ) → Sends start text sent (L.wire link.old) → Sends start (text ++ bytes.now) result (L.wire link.new) }
 {
     match sent {
         Ok(()) => put(link, bytes),
@@ -40,28 +40,28 @@ fn then<L: Link>(sent: Result<(), LinkFault>, link: &mut L, bytes: &[u8]) -> Res
 
 #[tactic(auto, unfolding(frame_codec::specs::Spelling::two))]
 fn then_u16<L: Link>(sent: Result<(), LinkFault>, link: &mut L, n: u16) -> Result<(), LinkFault>
-    ensures { (start : Wire) (text : List ℕ) → Sends start text sent (wire_of L.left L.given L.faults L.steady L.ended L.room link.old) → Sends start (text ++ two n) result (wire_of L.left L.given L.faults L.steady L.ended L.room link.new) }
+    ensures { (start : Wire) (text : List ℕ) → Sends start text sent (L.wire link.old) → Sends start (text ++ two n) result (L.wire link.new) }
 {
     then(sent, link, &n.to_be_bytes())
 }
 
 #[tactic(auto, unfolding(frame_codec::specs::Spelling::four))]
 fn then_u32<L: Link>(sent: Result<(), LinkFault>, link: &mut L, n: u32) -> Result<(), LinkFault>
-    ensures { (start : Wire) (text : List ℕ) → Sends start text sent (wire_of L.left L.given L.faults L.steady L.ended L.room link.old) → Sends start (text ++ four n) result (wire_of L.left L.given L.faults L.steady L.ended L.room link.new) }
+    ensures { (start : Wire) (text : List ℕ) → Sends start text sent (L.wire link.old) → Sends start (text ++ four n) result (L.wire link.new) }
 {
     then(sent, link, &n.to_be_bytes())
 }
 
 #[tactic(auto, unfolding(frame_codec::specs::Spelling::eight))]
 fn then_u64<L: Link>(sent: Result<(), LinkFault>, link: &mut L, n: u64) -> Result<(), LinkFault>
-    ensures { (start : Wire) (text : List ℕ) → Sends start text sent (wire_of L.left L.given L.faults L.steady L.ended L.room link.old) → Sends start (text ++ eight n) result (wire_of L.left L.given L.faults L.steady L.ended L.room link.new) }
+    ensures { (start : Wire) (text : List ℕ) → Sends start text sent (L.wire link.old) → Sends start (text ++ eight n) result (L.wire link.new) }
 {
     then(sent, link, &n.to_be_bytes())
 }
 
 #[tactic(auto, unfolding(frame_codec::specs::Spelling::eight))]
 fn then_i64<L: Link>(sent: Result<(), LinkFault>, link: &mut L, n: i64) -> Result<(), LinkFault>
-    ensures { (start : Wire) (text : List ℕ) → Sends start text sent (wire_of L.left L.given L.faults L.steady L.ended L.room link.old) → Sends start (text ++ eight (cast_unsigned w64 n)) result (wire_of L.left L.given L.faults L.steady L.ended L.room link.new) }
+    ensures { (start : Wire) (text : List ℕ) → Sends start text sent (L.wire link.old) → Sends start (text ++ eight (cast_unsigned w64 n)) result (L.wire link.new) }
 {
     then(sent, link, &n.to_be_bytes())
 }
@@ -73,7 +73,7 @@ fn then_string<L: Link>(
     bytes: &[u8],
 ) -> Result<(), LinkFault>
     requires { length bytes.now < 2 ^ 32 }
-    ensures { (start : Wire) (text : List ℕ) → Sends start text sent (wire_of L.left L.given L.faults L.steady L.ended L.room link.old) → Sends start (joined text (string bytes.now)) result (wire_of L.left L.given L.faults L.steady L.ended L.room link.new) }
+    ensures { (start : Wire) (text : List ℕ) → Sends start text sent (L.wire link.old) → Sends start (joined text (string bytes.now)) result (L.wire link.new) }
 {
     let sent = then_u32(sent, link, bytes.len() as u32);
     then(sent, link, bytes)
@@ -86,7 +86,7 @@ fn then_name<L: Link>(
     bytes: &[u8],
 ) -> Result<(), LinkFault>
     requires { length bytes.now < 256 }
-    ensures { (start : Wire) (text : List ℕ) → Sends start text sent (wire_of L.left L.given L.faults L.steady L.ended L.room link.old) → Sends start (joined text (name bytes.now)) result (wire_of L.left L.given L.faults L.steady L.ended L.room link.new) }
+    ensures { (start : Wire) (text : List ℕ) → Sends start text sent (L.wire link.old) → Sends start (joined text (name bytes.now)) result (L.wire link.new) }
 {
     let sent = then(sent, link, &[bytes.len() as u8]);
     then(sent, link, bytes)
@@ -103,7 +103,7 @@ trait Sendable {
         link: &mut L,
     ) -> Result<(), LinkFault>
         requires { size (parts self.now) ≤ LONGEST_FRAME }
-        ensures { (start : Wire) (text : List ℕ) → Sends start text sent (wire_of L.left L.given L.faults L.steady L.ended L.room link.old) → Sends start (joined text (parts self.now)) result (wire_of L.left L.given L.faults L.steady L.ended L.room link.new) };
+        ensures { (start : Wire) (text : List ℕ) → Sends start text sent (L.wire link.old) → Sends start (joined text (parts self.now)) result (L.wire link.new) };
 }
 
 impl Sendable for Value {
@@ -151,7 +151,7 @@ fn then_all<T: Sendable, L: Link>(
     items: &[T],
 ) -> Result<(), LinkFault>
     requires { size (flat_map T.parts items.now) ≤ LONGEST_FRAME }
-    ensures { (start : Wire) (text : List ℕ) → Sends start text sent (wire_of L.left L.given L.faults L.steady L.ended L.room link.old) → Sends start (joined text (flat_map T.parts items.now)) result (wire_of L.left L.given L.faults L.steady L.ended L.room link.new) }
+    ensures { (start : Wire) (text : List ℕ) → Sends start text sent (L.wire link.old) → Sends start (joined text (flat_map T.parts items.now)) result (L.wire link.new) }
 {
     for item in items {
         sent = item.send_after(sent, link);
@@ -173,7 +173,7 @@ impl Sendable for Row {
 
 /// The length of what follows it, and the kind.
 fn head<L: Link>(link: &mut L, told: u32, kind: u8) -> Result<(), LinkFault>
-    ensures { Sends (wire_of L.left L.given L.faults L.steady L.ended L.room link.old) (four told ++ kind ∷ []) result (wire_of L.left L.given L.faults L.steady L.ended L.room link.new) }
+    ensures { Sends (L.wire link.old) (four told ++ kind ∷ []) result (L.wire link.new) }
 {
     let sent = then_u32(Ok(()), link, told);
     then(sent, link, &[kind])
@@ -189,7 +189,7 @@ fn send_boot<L: Link>(
     requires told { told ≡ size (server_parts (ServerFrame.Boot service incarnation tokens.now)) }
     requires few { length tokens.now < 256 }
     requires size { size (flat_map token_parts tokens.now) ≤ LONGEST_FRAME }
-    ensures { Sends (wire_of L.left L.given L.faults L.steady L.ended L.room link.old) (server_spelling (ServerFrame.Boot service incarnation tokens.now)) result (wire_of L.left L.given L.faults L.steady L.ended L.room link.new) }
+    ensures { Sends (L.wire link.old) (server_spelling (ServerFrame.Boot service incarnation tokens.now)) result (L.wire link.new) }
 {
     let sent = head(link, told, kind::BOOT);
     let sent = then_u16(sent, link, service);
@@ -207,7 +207,7 @@ fn send_request<L: Link>(
     requires told { told ≡ size (server_parts (ServerFrame.Request head_bytes.now content.now)) }
     requires head { length head_bytes.now < 2 ^ 32 }
     requires content { length content.now < 2 ^ 32 }
-    ensures { Sends (wire_of L.left L.given L.faults L.steady L.ended L.room link.old) (server_spelling (ServerFrame.Request head_bytes.now content.now)) result (wire_of L.left L.given L.faults L.steady L.ended L.room link.new) }
+    ensures { Sends (L.wire link.old) (server_spelling (ServerFrame.Request head_bytes.now content.now)) result (L.wire link.new) }
 {
     let sent = head(link, told, kind::REQUEST);
     let sent = then_string(sent, link, head_bytes);
@@ -224,7 +224,7 @@ fn send_push<L: Link>(
     requires told { told ≡ size (server_parts (ServerFrame.Push template.now edition content.now)) }
     requires template { length template.now < 256 }
     requires content { length content.now < 2 ^ 32 }
-    ensures { Sends (wire_of L.left L.given L.faults L.steady L.ended L.room link.old) (server_spelling (ServerFrame.Push template.now edition content.now)) result (wire_of L.left L.given L.faults L.steady L.ended L.room link.new) }
+    ensures { Sends (L.wire link.old) (server_spelling (ServerFrame.Push template.now edition content.now)) result (L.wire link.new) }
 {
     let sent = head(link, told, kind::PUSH);
     let sent = then_name(sent, link, template);
@@ -234,7 +234,7 @@ fn send_push<L: Link>(
 
 fn send_opened<L: Link>(link: &mut L, told: u32, session: u32) -> Result<(), LinkFault>
     requires { told ≡ size (server_parts (ServerFrame.Opened session)) }
-    ensures { Sends (wire_of L.left L.given L.faults L.steady L.ended L.room link.old) (server_spelling (ServerFrame.Opened session)) result (wire_of L.left L.given L.faults L.steady L.ended L.room link.new) }
+    ensures { Sends (L.wire link.old) (server_spelling (ServerFrame.Opened session)) result (L.wire link.new) }
 {
     let sent = head(link, told, kind::OPENED);
     then_u32(sent, link, session)
@@ -244,7 +244,7 @@ fn send_rows<L: Link>(link: &mut L, told: u32, columns: u8, rows: &[Row]) -> Res
     requires told { told ≡ size (server_parts (ServerFrame.Rows columns rows.now)) }
     requires count { length rows.now < 2 ^ 32 }
     requires size { size (flat_map values rows.now) ≤ LONGEST_FRAME }
-    ensures { Sends (wire_of L.left L.given L.faults L.steady L.ended L.room link.old) (server_spelling (ServerFrame.Rows columns rows.now)) result (wire_of L.left L.given L.faults L.steady L.ended L.room link.new) }
+    ensures { Sends (L.wire link.old) (server_spelling (ServerFrame.Rows columns rows.now)) result (L.wire link.new) }
 {
     let sent = head(link, told, kind::ROWS);
     let sent = then(sent, link, &[columns]);
@@ -254,7 +254,7 @@ fn send_rows<L: Link>(link: &mut L, told: u32, columns: u8, rows: &[Row]) -> Res
 
 fn send_changed<L: Link>(link: &mut L, told: u32, rows: u64) -> Result<(), LinkFault>
     requires { told ≡ size (server_parts (ServerFrame.Changed rows)) }
-    ensures { Sends (wire_of L.left L.given L.faults L.steady L.ended L.room link.old) (server_spelling (ServerFrame.Changed rows)) result (wire_of L.left L.given L.faults L.steady L.ended L.room link.new) }
+    ensures { Sends (L.wire link.old) (server_spelling (ServerFrame.Changed rows)) result (L.wire link.new) }
 {
     let sent = head(link, told, kind::CHANGED);
     then_u64(sent, link, rows)
@@ -268,7 +268,7 @@ fn send_template<L: Link>(
 ) -> Result<(), LinkFault>
     requires told { told ≡ size (server_parts (ServerFrame.Template edition content.now)) }
     requires content { length content.now < 2 ^ 32 }
-    ensures { Sends (wire_of L.left L.given L.faults L.steady L.ended L.room link.old) (server_spelling (ServerFrame.Template edition content.now)) result (wire_of L.left L.given L.faults L.steady L.ended L.room link.new) }
+    ensures { Sends (L.wire link.old) (server_spelling (ServerFrame.Template edition content.now)) result (L.wire link.new) }
 {
     let sent = head(link, told, kind::TEMPLATE);
     let sent = then_u32(sent, link, edition);
@@ -277,7 +277,7 @@ fn send_template<L: Link>(
 
 fn send_denied<L: Link>(link: &mut L, told: u32, rule: u8) -> Result<(), LinkFault>
     requires { told ≡ size (server_parts (ServerFrame.Denied rule)) }
-    ensures { Sends (wire_of L.left L.given L.faults L.steady L.ended L.room link.old) (server_spelling (ServerFrame.Denied rule)) result (wire_of L.left L.given L.faults L.steady L.ended L.room link.new) }
+    ensures { Sends (L.wire link.old) (server_spelling (ServerFrame.Denied rule)) result (L.wire link.new) }
 {
     let sent = head(link, told, kind::DENIED);
     then(sent, link, &[rule])
@@ -287,7 +287,7 @@ fn send_denied<L: Link>(link: &mut L, told: u32, rule: u8) -> Result<(), LinkFau
 fn send_told<L: Link>(link: &mut L, told: u32, frame: &ServerFrame) -> Result<(), LinkFault>
     requires spelling { HasSpelling frame.now }
     requires told { told ≡ size (server_parts frame.now) }
-    ensures { Sends (wire_of L.left L.given L.faults L.steady L.ended L.room link.old) (server_spelling frame.now) result (wire_of L.left L.given L.faults L.steady L.ended L.room link.new) }
+    ensures { Sends (L.wire link.old) (server_spelling frame.now) result (L.wire link.new) }
 {
     match frame {
         ServerFrame::Boot {
@@ -326,13 +326,8 @@ fn send_told<L: Link>(link: &mut L, told: u32, frame: &ServerFrame) -> Result<()
 /// Puts the frame's one spelling on the link, or after a fault a prefix of it. Takes no memory.
 pub fn send<L: Link>(link: &mut L, frame: &ServerFrame) -> Result<(), LinkFault>
     requires { HasSpelling frame.now }
-    ensures bytes { MatchResult result (λ _. Appends (L.given link.old) (L.given link.new) (server_spelling frame.now)) (λ _. AppendsPrefix (L.given link.old) (L.given link.new) (server_spelling frame.now)) }
-    ensures faults { Counts (L.faults link.old) (L.faults link.new) (result ≡ Ok tt → ⊥) }
-    ensures sure { L.steady link.old ≡ true → length (server_spelling frame.now) ≤ L.room link.old → result ≡ Ok tt }
-    ensures left { L.left link.new ≡ L.left link.old }
-    ensures steady { L.steady link.new ≡ L.steady link.old }
-    ensures ended { L.ended link.new ≡ L.ended link.old }
-    ensures room { L.room link.old ≤ L.room link.new + length (server_spelling frame.now) }
+    ensures bytes { MatchResult result (λ _. Appends (L.wire link.old).given (L.wire link.new).given (server_spelling frame.now)) (λ _. AppendsPrefix (L.wire link.old).given (L.wire link.new).given (server_spelling frame.now)) }
+    ensures link { Gives (L.wire link.old) (L.wire link.new) (length (server_spelling frame.now)) (result ≡ Ok tt) }
 {
     send_told(link, frame.length().unwrap(), frame)
 }

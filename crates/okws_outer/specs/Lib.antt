@@ -1,4 +1,5 @@
 pub mod Streams
+pub mod Wire
 pub mod Printing
 pub mod Entries
 pub mod Keeping

@@ -1,12 +1,13 @@
 //! Bytes that come in and bytes that go out.
 
-ghost use Rattle.std.specs.Prelude.{◌≡◌, ◌<◌, ◌≤◌, ◌+◌, ℕ, List, length, Bool, true, None, OnOk};
+ghost use Rattle.std.specs.Prelude.{◌≡◌, ◌<◌, ◌≤◌, ℕ, List, length, true, None, OnOk};
 ghost use Rattle.std.specs.declared.option.Option.{Option};
 ghost use Rattle.okws_outer.specs.declared.stream.Pull.{Pull};
 ghost use Rattle.okws_outer.specs.declared.stream.Pull.TheVariants.{Failed};
 ghost use Rattle.okws_outer.specs.declared.stream.Put.{Put};
 ghost use Rattle.okws_outer.specs.declared.stream.Put.TheVariants.{Done};
 ghost use Rattle.okws_outer.specs.Streams.{Counts, Pulls, Puts};
+ghost use Rattle.okws_outer.specs.Wire.{Wire, Receives, Gives, GainsRoom};
 
 use std::alloc::AllocError;
 
@@ -62,52 +63,23 @@ pub trait Sink {
 
 /// Bytes in both directions, with one count of faults.
 pub trait Link {
-    /// The bytes that are left to come in, where the link tells.
-    ghost left: { Self → Option (List ℕ) };
-
-    /// The bytes that were given to go out, where the link tells.
-    ghost given: { Self → Option (List ℕ) };
-
-    /// How many calls have failed; it never falls, and stays at 2^64 - 1 once it is there.
-    ghost faults: { Self → ℕ };
-
-    /// That no call fails but for want of room.
-    ghost steady: { Self → Bool };
-
-    /// How many bytes more a steady link is sure to take.
-    ghost room: { Self → ℕ };
-
-    /// That nothing is to come in behind the bytes that are left.
-    ghost ended: { Self → Bool };
+    /// The link, as contracts see it. Its count of faults never falls, and stays at 2^64 - 1 once it
+    /// is there.
+    ghost wire: { Self → Wire };
 
     /// Takes bytes that are left, at most as many as there is room for.
     fn pull(&mut self, into: &mut [u8]) -> Pull
         requires { 0 < length into.old }
-        ensures bytes { Pulls (left self.old) (left self.new) into.new result }
-        ensures given { given self.new ≡ given self.old }
-        ensures faults { Counts (faults self.old) (faults self.new) (result ≡ Failed) }
-        ensures sure { steady self.old ≡ true → result ≡ Failed → ⊥ }
-        ensures steady { steady self.new ≡ steady self.old }
-        ensures ended { ended self.new ≡ ended self.old }
-        ensures room { room self.new ≡ room self.old };
+        ensures bytes { Pulls (wire self.old).left (wire self.new).left into.new result }
+        ensures link { Receives (wire self.old) (wire self.new) (result ≡ Failed) };
 
     /// Gives the bytes behind those that were given before.
     fn put(&mut self, bytes: &[u8]) -> Put
-        ensures bytes { Puts (given self.old) (given self.new) bytes.now result }
-        ensures left { left self.new ≡ left self.old }
-        ensures faults { Counts (faults self.old) (faults self.new) (result ≡ Done → ⊥) }
-        ensures sure { steady self.old ≡ true → length bytes.now ≤ room self.old → result ≡ Done }
-        ensures steady { steady self.new ≡ steady self.old }
-        ensures ended { ended self.new ≡ ended self.old }
-        ensures room { room self.old ≤ room self.new + length bytes.now };
+        ensures bytes { Puts (wire self.old).given (wire self.new).given bytes.now result }
+        ensures link { Gives (wire self.old) (wire self.new) (length bytes.now) (result ≡ Done) };
 
     /// Makes a steady link sure of room for n bytes more; where memory is refused it is as before.
     fn make_room(&mut self, n: usize) -> Result<(), AllocError>
-        ensures made { OnOk result (steady self.old ≡ true → n ≤ room self.new) }
-        ensures room { room self.old ≤ room self.new }
-        ensures left { left self.new ≡ left self.old }
-        ensures given { given self.new ≡ given self.old }
-        ensures faults { faults self.new ≡ faults self.old }
-        ensures steady { steady self.new ≡ steady self.old }
-        ensures ended { ended self.new ≡ ended self.old };
+        ensures made { OnOk result ((wire self.old).steady ≡ true → n ≤ (wire self.new).room) }
+        ensures link { GainsRoom (wire self.old) (wire self.new) };
 }

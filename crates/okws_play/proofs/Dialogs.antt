@@ -15,7 +15,8 @@ use Rattle.frame_codec.specs.declared.frame.ServiceFrame.{ServiceFrame}
 use Rattle.frame_codec.specs.declared.frame.ServiceFrame.TheVariants as said
 use Rattle.frame_codec.specs.declared.frame.ServerFrame.{ServerFrame}
 use Rattle.frame_codec.proofs.Apart.{short_begins_none}
-use Rattle.frame_link.specs.Wire.{Wire, IsBadFront}
+use Rattle.okws_outer.specs.Wire.{Wire}
+use Rattle.frame_link.specs.Next.{IsBadFront}
 use Rattle.monitor_model.specs.declared.record.CellEvent.{CellEvent}
 use Rattle.monitor_model.specs.declared.record.CellEvent.TheVariants as cell
 use Rattle.monitor_model.specs.declared.record.End.{End}

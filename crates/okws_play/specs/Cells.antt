@@ -2,7 +2,7 @@
 use Rattle.std.specs.Prelude.{◌≡◌, ◌≢◌, ◌≤◌, ◌<◌, ℕ, ◌+◌, Bool, true, false, List, [], ◌∷◌, Option, Some, None, ◌==◌, if◌then◌else◌, length, map, IfSome, IsSome, unwrap_or, slice_index_or}
 use Rattle.okws_base.specs.declared.limit.TheConstants.{LONGEST_FRAME}
 use Rattle.okws_plan.specs.declared.configuration.Config.{Config}
-use Rattle.frame_link.specs.Wire.{Wire}
+use Rattle.okws_outer.specs.Wire.{Wire}
 use Rattle.monitor_model.specs.declared.record.CellEvent.TheVariants as cell
 use Rattle.monitor_model.specs.declared.record.End.{End}
 use Rattle.monitor_model.specs.Cell.{incarnation, last_booted, heard}

@@ -4,7 +4,7 @@ use Rattle.okws_base.specs.declared.crash.Cause.TheVariants as cause
 use Rattle.okws_plan.specs.declared.configuration.Config.{Config}
 use Rattle.frame_codec.specs.Spelling.{Spells, server_spelling}
 use Rattle.frame_codec.specs.declared.frame.ServiceFrame.{ServiceFrame}
-use Rattle.frame_link.specs.Wire.{Wire}
+use Rattle.okws_outer.specs.Wire.{Wire}
 use Rattle.monitor_model.specs.declared.record.Item.{Item}
 use Rattle.monitor_model.specs.Course.{Speaker}
 use Rattle.monitor_model.specs.Seen.{Seen}

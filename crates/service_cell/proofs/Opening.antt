@@ -9,7 +9,7 @@ use Rattle.std.specs.Prelude.{OnOk}
 use Rattle.okws_base.specs.Runs.{Each}
 use Rattle.frame_codec.specs.Spelling.{HasSpelling, server_spelling}
 use Rattle.frame_codec.specs.declared.frame.ServerFrame.{ServerFrame}
-use Rattle.frame_link.specs.Wire.{Wire}
+use Rattle.okws_outer.specs.Wire.{Wire}
 use Rattle.monitor_model.specs.declared.verdict.Push.{Push}
 use Rattle.monitor_model.specs.declared.record.Item.{Item}
 use Rattle.monitor_model.specs.declared.record.Item.TheVariants.{Heard, Said}

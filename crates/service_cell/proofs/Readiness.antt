@@ -4,7 +4,7 @@ use Rattle.std.specs.Prelude.{IsTrue, IsFalse, IfSome, ◌↔◌, not, option_ma
 use Rattle.frame_codec.specs.Stream.{Begins, IsBad, IsShort}
 use Rattle.frame_codec.specs.declared.frame.ServiceFrame.{ServiceFrame}
 use Rattle.frame_codec.proofs.Apart.{short_begins_none}
-use Rattle.frame_link.specs.Wire.{Wire}
+use Rattle.okws_outer.specs.Wire.{Wire}
 use Rattle.service_cell.specs.Standing.{left_of, IsReadyLink}
 
 abbrev Settled : List ℕ → Type 0

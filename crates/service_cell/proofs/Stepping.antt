@@ -1,7 +1,7 @@
 -- A step of a cell, from the exchange that it made.
 use Rattle.std.proofs.Common.{◌≡◌, ℕ, List, Option, Some, None, refl, sym, ap, subst, ◌∙◌}
 use Rattle.okws_base.specs.declared.crash.Cause.{Cause}
-use Rattle.frame_link.specs.Wire.{Wire}
+use Rattle.okws_outer.specs.Wire.{Wire}
 use Rattle.monitor_model.specs.declared.record.Item.{Item}
 use Rattle.monitor_model.specs.Course.{Speaker}
 use Rattle.monitor_model.specs.Seen.{Seen}

@@ -7,13 +7,13 @@ use Rattle.std.specs.declared.result.Result.TheVariants.{Ok, Err}
 use Rattle.std.specs.Io.KnownBytes.{Appends, Consumes}
 use Rattle.std.proofs.KnownBytes.{Appends-trans, Appends-nil, Consumes-trans, Consumes-nil}
 use Rattle.std.proofs.lemmas.List.{append-nil, length-append}
-use Rattle.okws_outer.specs.Streams.{Rose, Counts, AppendsPrefix}
+use Rattle.okws_outer.specs.Streams.{Rose, AppendsPrefix}
 use Rattle.frame_codec.specs.Spelling.{four, size, server_parts, server_spelling, HasSpelling}
 use Rattle.frame_codec.specs.declared.frame.ServerFrame.{ServerFrame}
 use Rattle.frame_codec.proofs.Sizes.{length-four}
 use Rattle.frame_codec.proofs.Formats.{bytes_of, length-bytes_of, joined-is}
 use Rattle.frame_codec.proofs.Whole.{lawful_bounds}
-use Rattle.frame_link.specs.Wire.{Wire}
+use Rattle.okws_outer.specs.Wire.{Wire, Receives, Gives, GainsRoom}
 use Rattle.frame_link.specs.declared.sending.LinkFault.{LinkFault}
 use Rattle.service_cell.specs.Standing.{Moves, Breaks}
 use Rattle.service_cell.specs.Exchange.{PutsFrame}
@@ -30,21 +30,13 @@ spelling_is_short frame has = omega (arith, length-spelling frame, (lawful_bound
 
 -- ---- steps
 
--- nothing but the room changed
-pub record Same (old new : Wire) : Type 0 where
-  pub left : new.left ≡ old.left
-  pub given : new.given ≡ old.given
-  pub faults : new.faults ≡ old.faults
-  pub steady : new.steady ≡ old.steady
-  pub ended : new.ended ≡ old.ended
-
 consumes_none : (a b : Option (List ℕ)) → b ≡ a → Consumes a b []
 consumes_none a b e = subst (λ (o : Option (List ℕ)). Consumes a o []) (sym e) (Consumes-nil a)
 
 appends_none : (a b : Option (List ℕ)) → b ≡ a → Appends a b []
 appends_none a b e = subst (λ (o : Option (List ℕ)). Appends a o []) (sym e) (Appends-nil a)
 
-pub stood : (old new : Wire) → Same old new → Moves old new [] []
+pub stood : (old new : Wire) → GainsRoom old new → Moves old new [] []
 stood old new s = record { takes = consumes_none old.left new.left s.left; puts = appends_none old.given new.given s.given; faults = omega (arith, s.faults); steady = s.steady; ended = s.ended }
 
 pub moves_then : (a b c : Wire) (t u p q : List ℕ) → Moves a b t p → Moves b c u q → Moves a c (t ++ u) (p ++ q)
@@ -87,31 +79,44 @@ unsteady_by false never = refl
 
 pub puts_frame : (old new : Wire) (text : List ℕ) (result : Result (Unit {0}) LinkFault)
     → MatchResult result (λ _. Appends old.given new.given text) (λ _. AppendsPrefix old.given new.given text)
-    → Counts old.faults new.faults (result ≡ Ok tt → ⊥)
-    → (old.steady ≡ true → length text ≤ old.room → result ≡ Ok tt)
-    → new.left ≡ old.left → new.steady ≡ old.steady → new.ended ≡ old.ended
+    → Gives old new (length text) (result ≡ Ok tt)
     → (old.steady ≡ true → length text ≤ old.room)
     → PutsFrame old text result new
-puts_frame old new text (Ok done) bytes counts sure left steady ended room =
-    record { takes = consumes_none old.left new.left left; puts = bytes; faults = counts.later; steady = steady; ended = ended }
-puts_frame old new text (Err fault) bytes counts sure left steady ended room =
+puts_frame old new text (Ok done) bytes link room =
+    record { takes = consumes_none old.left new.left link.left; puts = bytes; faults = link.faults.later; steady = link.steady; ended = link.ended }
+puts_frame old new text (Err fault) bytes link room =
     record {
-      takes = consumes_none old.left new.left left;
+      takes = consumes_none old.left new.left link.left;
       front = take bytes.taken text;
       rest = drop bytes.taken text;
       cut = take-append-drop bytes.taken text;
       puts = bytes.given;
-      faults = counts.cause (λ e. cc);
-      steady = steady;
-      unsteady = unsteady_by old.steady (λ is. let done = sure is (room is) in cc);
-      ended = ended;
+      faults = link.faults.cause (λ e. cc);
+      steady = link.steady;
+      unsteady = unsteady_by old.steady (λ is. let done = link.sure is (room is) in cc);
+      ended = link.ended;
     }
 
--- a fault before a frame was there
-pub broke_taking : (old new : Wire) (taken : List ℕ) → Consumes old.left new.left taken → new.given ≡ old.given → Rose old.faults new.faults → new.steady ≡ old.steady → (old.steady ≡ true → ⊥) → new.ended ≡ old.ended → Breaks old new taken [] []
-broke_taking old new taken takes given rose steady unsteady ended =
-    record { takes = takes; front = []; rest = []; cut = refl; puts = appends_none old.given new.given given; faults = rose; steady = steady; unsteady = unsteady_by old.steady unsteady; ended = ended }
+-- room was made first, and then a fault came before a frame was there
+pub broke_taking : (old mid new : Wire) (taken : List ℕ) (fault : Type 0) → GainsRoom old mid → Consumes mid.left new.left taken → Receives mid new fault → fault → Breaks old new taken [] []
+broke_taking old mid new taken fault made takes link failed = breaks_after old mid new [] taken [] [] [] (stood old mid made) (record {
+  takes = takes;
+  front = [];
+  rest = [];
+  cut = refl;
+  puts = appends_none mid.given new.given link.given;
+  faults = link.faults.cause failed;
+  steady = link.steady;
+  unsteady = unsteady_by mid.steady (λ steady. link.sure steady failed);
+  ended = link.ended;
+})
 
--- bytes were taken, and nothing was put
-pub took : (old new : Wire) (taken : List ℕ) → Consumes old.left new.left taken → new.given ≡ old.given → old.faults ≤ new.faults → new.steady ≡ old.steady → new.ended ≡ old.ended → Moves old new taken []
-took old new taken takes given faults steady ended = record { takes = takes; puts = appends_none old.given new.given given; faults = faults; steady = steady; ended = ended }
+-- room was made first, and then bytes were taken
+pub took : (old mid new : Wire) (taken : List ℕ) (fault : Type 0) → GainsRoom old mid → Consumes mid.left new.left taken → Receives mid new fault → Moves old new taken []
+took old mid new taken fault made takes link = moves_then old mid new [] taken [] [] (stood old mid made) (record {
+  takes = takes;
+  puts = appends_none mid.given new.given link.given;
+  faults = link.faults.later;
+  steady = link.steady;
+  ended = link.ended;
+})

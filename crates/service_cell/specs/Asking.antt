@@ -23,6 +23,11 @@ pub record Asker : Type 0 where
   pub worker : ℕ
   pub alone : Bool
 
+-- Who asks is the same, and the board still may show what it might.
+pub record KeepsBoard {C : Type 0} (asker : C → Asker) (shows : C → ℕ → ℕ → Type 0) (old new : C) : Type 0 where
+  pub asked : asker new ≡ asker old
+  pub shown : (s k : ℕ) → shows old s k → shows new s k
+
 -- A verdict's rows have 1 to 255 columns.
 abbrev pub IsNarrow : Verdict → Type 0
 IsNarrow (Rows columns T) = (0 < columns) × (columns < 256)

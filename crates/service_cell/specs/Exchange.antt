@@ -15,7 +15,7 @@ use Rattle.frame_codec.specs.declared.frame.ServiceFrame.{ServiceFrame}
 use Rattle.frame_codec.specs.declared.frame.ServiceFrame.TheVariants as said
 use Rattle.frame_codec.specs.declared.frame.ServerFrame.{ServerFrame}
 use Rattle.frame_codec.specs.declared.frame.ServerFrame.TheVariants as frame
-use Rattle.frame_link.specs.Wire.{Wire}
+use Rattle.okws_outer.specs.Wire.{Wire}
 use Rattle.frame_link.specs.declared.sending.LinkFault.{LinkFault}
 use Rattle.monitor_model.specs.declared.verdict.Verdict.{Verdict}
 use Rattle.monitor_model.specs.declared.verdict.Verdict.TheVariants.{Opened, Rows, Changed, Duplicate, Denied, Failed}

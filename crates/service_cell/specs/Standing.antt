@@ -4,7 +4,7 @@ use Rattle.std.specs.Io.KnownBytes.{Appends, Consumes}
 use Rattle.okws_outer.specs.Streams.{Rose, AppendsPrefix}
 use Rattle.frame_codec.specs.Stream.{Begins, IsBad}
 use Rattle.frame_codec.specs.declared.frame.ServiceFrame.{ServiceFrame}
-use Rattle.frame_link.specs.Wire.{Wire}
+use Rattle.okws_outer.specs.Wire.{Wire}
 use Rattle.monitor_model.specs.declared.record.Item.{Item}
 use Rattle.monitor_model.specs.declared.record.End.{End}
 use Rattle.monitor_model.specs.declared.record.CellEvent.{CellEvent}
@@ -77,14 +77,6 @@ Fails (Some old) (Some new) taken put due = Breaks old new taken put due
 abbrev pub left_of : Option Wire → Option (List ℕ)
 left_of None = None
 left_of (Some wire) = wire.left
-
--- More bytes are to come in.
-abbrev pub fed : List ℕ → Wire → Wire
-fed bytes wire = record wire { left = option_map (λ (left : List ℕ). left ++ bytes) wire.left }
-
--- Nothing is to come behind what is left.
-abbrev pub shut : Wire → Wire
-shut wire = record wire { ended = true }
 
 -- What is left begins with a whole frame, or is bad, or nothing comes behind it.
 abbrev pub IsReadyLink : Option Wire → List ℕ → Type 0

@@ -11,7 +11,8 @@ use Rattle.frame_codec.specs.declared.frame.ServiceFrame.{ServiceFrame}
 use Rattle.frame_codec.specs.declared.frame.ServiceFrame.TheVariants as said
 use Rattle.frame_codec.specs.declared.frame.ServerFrame.{ServerFrame}
 use Rattle.frame_codec.specs.declared.frame.ServerFrame.TheVariants as frame
-use Rattle.frame_link.specs.Wire.{Wire, AreLeft, IsBadFront}
+use Rattle.okws_outer.specs.Wire.{Wire}
+use Rattle.frame_link.specs.Next.{AreLeft, IsBadFront}
 use Rattle.monitor_model.specs.declared.verdict.Push.{Push}
 use Rattle.monitor_model.specs.declared.record.Item.{Item}
 use Rattle.monitor_model.specs.declared.record.Item.TheVariants.{Heard, Said}

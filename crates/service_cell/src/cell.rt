@@ -2,13 +2,12 @@
 
 ghost use Rattle.std.specs.Prelude.{◌≡◌, ◌≢◌, ◌≤◌, ◌<◌, ℕ, ◌+◌, [], ◌∷◌, reverse, length, option_map, IsTrue, IsSome, IfSome, OnOk, OnErr, ◌↔◌};
 ghost use Rattle.okws_base.specs.declared.limit.TheConstants.{LONGEST_FRAME};
-ghost use Rattle.frame_link.specs.Wire.{wire_of};
 ghost use Rattle.monitor_model.specs.declared.record.CellEvent.TheVariants as cell;
 ghost use Rattle.monitor_model.specs.declared.record.End.TheVariants as end;
 ghost use Rattle.monitor_model.specs.declared.record.Own.TheVariants as own;
 ghost use Rattle.monitor_model.specs.Seen.{noted};
 ghost use Rattle.monitor_model.specs.Cell.{CellLaw, incarnation, last_booted};
-ghost use Rattle.service_cell.specs.Asking.{IsNextBy};
+ghost use Rattle.service_cell.specs.Asking.{KeepsBoard, IsNextBy};
 ghost use Rattle.service_cell.specs.Exchange.{AreSpelled, IsHeardOpen};
 ghost use Rattle.service_cell.specs.Standing.{with_open, finished};
 ghost use Rattle.service_cell.specs.Steps.{crash_end, StepsOpen, OpensCell, Boots, Begins, AdvancesOpen, IsSpeaking, retired, superseded};
@@ -77,7 +76,6 @@ impl<L: Link> Model for Cell<L> {
     ghost use Rattle.std.specs.Prelude.{option_map, is_some};
     ghost use Rattle.service_cell.specs.Standing.{Standing, Open};
     ghost use Rattle.service_cell.specs.Tied.{Tied};
-    ghost use Rattle.frame_link.specs.Wire.{wire_of};
 
     ghost Value = { Standing };
 
@@ -85,7 +83,7 @@ impl<L: Link> Model for Cell<L> {
       service = a.service;
       past = a.events.past;
       open_dialog = option_map (λ o. record { worker = o.worker; items = o.items.past }) a.speaking;
-      link = option_map (wire_of L.left L.given L.faults L.steady L.ended L.room) a.wire;
+      link = option_map L.wire a.wire;
     } };
 
     ghost invariant = { λ a. Tied a.incarnation a.events a.speaking (is_some a.wire) };
@@ -154,7 +152,7 @@ impl<L: Link> Cell<L> {
         requires unlinked { self.old.link ≡ None }
         requires later { last_booted self.old.past < number }
         requires few { length tokens < 256 }
-        ensures { Boots (wire_of L.left L.given L.faults L.steady L.ended L.room) link (ServerFrame.Boot self.old.service number tokens) number self.old result self.new }
+        ensures { Boots L.wire link (ServerFrame.Boot self.old.service number tokens) number self.old result self.new }
     {
         let mut link = link;
         if self.events.make_room(2).is_err() || link.make_room(LONGEST_FRAME + 4).is_err() {
@@ -178,7 +176,7 @@ impl<L: Link> Cell<L> {
     pub fn retire(&mut self) -> Option<L>
         requires { self.old.open_dialog ≡ None }
         ensures cell { self.new ≡ retired self.old }
-        ensures link { option_map (wire_of L.left L.given L.faults L.steady L.ended L.room) result ≡ self.old.link }
+        ensures link { option_map L.wire result ≡ self.old.link }
     {
         if self.incarnation != 0 {
             self.events.enter(CellEvent::Retired);
@@ -213,8 +211,7 @@ impl<L: Link> Cell<L> {
         requires short { length head + length content + 9 ≤ LONGEST_FRAME }
         ensures begins { Begins (C.asker columns.old) (C.shows columns.new self.old.service) (ServerFrame.Request head content) wanted self.old (C.seen columns.old) result self.new (C.seen columns.new) }
         ensures spelled { result ≡ Begun.Started → AreSpelled self.new.open_dialog }
-        ensures still { (s k : ℕ) → C.shows columns.old s k → C.shows columns.new s k }
-        ensures asker { C.asker columns.new ≡ C.asker columns.old }
+        ensures board { KeepsBoard C.asker C.shows columns.old columns.new }
     {
         let is = self.incarnation;
         if is != wanted {
@@ -242,8 +239,7 @@ impl<L: Link> Cell<L> {
         requires another { wanted ≢ incarnation self.old.past }
         ensures ok { OnOk result ((self.new ≡ record self.old { past = cell.Missed (C.asker columns.old).worker wanted (incarnation self.old.past) ∷ self.old.past }) × (C.seen columns.new ≡ noted (C.seen columns.old) (own.Missed self.old.service wanted (incarnation self.old.past)))) }
         ensures err { OnErr result ((self.new ≡ self.old) × (C.seen columns.new ≡ C.seen columns.old)) }
-        ensures still { (s k : ℕ) → C.shows columns.old s k → C.shows columns.new s k }
-        ensures asker { C.asker columns.new ≡ C.asker columns.old }
+        ensures board { KeepsBoard C.asker C.shows columns.old columns.new }
     {
         let is = self.incarnation;
         let missed = Own::Missed {
@@ -271,8 +267,7 @@ impl<L: Link> Cell<L> {
         requires there { 0 < incarnation self.old.past }
         ensures ok { OnOk result ((self.new ≡ finished self.old (C.asker columns.old).worker [] (end.Superseded shown) self.old.link) × (C.seen columns.new ≡ noted (C.seen columns.old) (own.Dialog self.old.service))) }
         ensures err { OnErr result ((self.new ≡ self.old) × (C.seen columns.new ≡ C.seen columns.old)) }
-        ensures still { (s k : ℕ) → C.shows columns.old s k → C.shows columns.new s k }
-        ensures asker { C.asker columns.new ≡ C.asker columns.old }
+        ensures board { KeepsBoard C.asker C.shows columns.old columns.new }
     {
         self.events.make_room(2)?;
         columns.note(Own::Dialog(self.service))?;
@@ -293,8 +288,7 @@ impl<L: Link> Cell<L> {
         requires short { length head + length content + 9 ≤ LONGEST_FRAME }
         ensures opens { OpensCell (C.asker columns.old) (ServerFrame.Request head content) self.old (C.seen columns.old) result self.new (C.seen columns.new) }
         ensures spelled { result ≡ Begun.Started → AreSpelled self.new.open_dialog }
-        ensures still { (s k : ℕ) → C.shows columns.old s k → C.shows columns.new s k }
-        ensures asker { C.asker columns.new ≡ C.asker columns.old }
+        ensures board { KeepsBoard C.asker C.shows columns.old columns.new }
     {
         if self.events.make_room(2).is_err() {
             return Begun::NoMemory;
@@ -333,8 +327,7 @@ impl<L: Link> Cell<L> {
         ensures advances { AdvancesOpen (C.asker columns.old) (C.shows columns.new self.old.service) self.old self.old.open_dialog (C.seen columns.old) result self.new (C.seen columns.new) }
         ensures spelled { result ≡ Advanced.Goes → IsHeardOpen self.new.open_dialog }
         ensures next { IsTrue (C.asker columns.old).alone → IsNextBy (C.asker columns.old).worker (C.seen columns.old) (C.seen columns.new) }
-        ensures still { (s k : ℕ) → C.shows columns.old s k → C.shows columns.new s k }
-        ensures asker { C.asker columns.new ≡ C.asker columns.old }
+        ensures board { KeepsBoard C.asker C.shows columns.old columns.new }
     {
         let shown = columns.current(self.service);
         if shown > self.incarnation {
@@ -356,8 +349,7 @@ impl<L: Link> Cell<L> {
         ensures steps { StepsOpen (C.asker columns.old) self.old self.old.open_dialog (C.seen columns.old) result self.new (C.seen columns.new) }
         ensures spelled { result ≡ Exchanged.Goes → IsHeardOpen self.new.open_dialog }
         ensures next { IsTrue (C.asker columns.old).alone → IsNextBy (C.asker columns.old).worker (C.seen columns.old) (C.seen columns.new) }
-        ensures still { (s k : ℕ) → C.shows columns.old s k → C.shows columns.new s k }
-        ensures asker { C.asker columns.new ≡ C.asker columns.old }
+        ensures board { KeepsBoard C.asker C.shows columns.old columns.new }
     {
         let who = Who {
             service: self.service,
@@ -395,7 +387,7 @@ impl<L: Link> Cell<L> {
     pub fn into_parts(self) -> (Past<CellEvent>, Option<L>)
         ensures past { result.0 ≡ with_open self.open_dialog self.past }
         ensures law { CellLaw result.0 }
-        ensures link { option_map (wire_of L.left L.given L.faults L.steady L.ended L.room) result.1 ≡ self.link }
+        ensures link { option_map L.wire result.1 ≡ self.link }
     {
         let Cell {
             alloc: _,

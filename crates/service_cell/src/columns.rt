@@ -14,7 +14,7 @@ ghost use Rattle.monitor_model.specs.Proxy.{open_verdict, call_verdict};
 ghost use Rattle.monitor_model.specs.Pubd.{get_verdict};
 ghost use Rattle.monitor_model.specs.Logd.{log_verdict};
 ghost use Rattle.monitor_model.specs.Seen.{Seen, AtProxy, AtPubd, AtLog, noted};
-ghost use Rattle.service_cell.specs.Asking.{Asker, Drains, IsNextBy, IsNarrow, IsShortPush, IsShortGot};
+ghost use Rattle.service_cell.specs.Asking.{Asker, KeepsBoard, Drains, IsNextBy, IsNarrow, IsShortPush, IsShortGot};
 
 use monitor_model::record::Own;
 use monitor_model::verdict::{Got, Noted, Push, Verdict};
@@ -47,16 +47,14 @@ pub trait Columns {
     fn current(&mut self, service: u16) -> u32
         requires { service < length (asker self.old).config.services }
         ensures shown { shows self.new service result }
-        ensures still { (s k : ℕ) → shows self.old s k → shows self.new s k }
         ensures seen { seen self.new ≡ seen self.old }
-        ensures asker { asker self.new ≡ asker self.old };
+        ensures board { KeepsBoard asker shows self.old self.new };
 
     /// Notes an own item that is no entry.
     fn note(&mut self, item: Own) -> Result<(), AllocError>
         ensures ok { OnOk result (seen self.new ≡ noted (seen self.old) item) }
         ensures err { OnErr result (seen self.new ≡ seen self.old) }
-        ensures still { (s k : ℕ) → shows self.old s k → shows self.new s k }
-        ensures asker { asker self.new ≡ asker self.old };
+        ensures board { KeepsBoard asker shows self.old self.new };
 
     /// Notes a dialog with the incarnation, enters its Drain, and gives what is pushed.
     fn drain(&mut self, service: u16, incarnation: u32) -> Result<Vec<Push>, AllocError>
@@ -64,8 +62,7 @@ pub trait Columns {
         ensures ok { IfOk result (λ pushes. Drains (asker self.old) service incarnation (seen self.old) pushes.items (seen self.new)) }
         ensures short { IfOk result (λ pushes. Each IsShortPush pushes.items) }
         ensures err { OnErr result (seen self.new ≡ seen self.old) }
-        ensures still { (s k : ℕ) → shows self.old s k → shows self.new s k }
-        ensures asker { asker self.new ≡ asker self.old };
+        ensures board { KeepsBoard asker shows self.old self.new };
 
     /// Enters an Open at a proxy, and gives its verdict.
     fn open_session(
@@ -81,8 +78,7 @@ pub trait Columns {
             × AtProxy (asker self.old).worker proxy (proxied.Open service incarnation shown) (seen self.old) before (seen self.new)) }
         ensures err { OnErr result (seen self.new ≡ seen self.old) }
         ensures next { IsTrue (asker self.old).alone → IsNextBy (asker self.old).worker (seen self.old) (seen self.new) }
-        ensures still { (s k : ℕ) → shows self.old s k → shows self.new s k }
-        ensures asker { asker self.new ≡ asker self.old };
+        ensures board { KeepsBoard asker shows self.old self.new };
 
     /// Enters a Call at a proxy, and gives its verdict.
     fn call(&mut self, proxy: u16, call: Call) -> Result<Verdict, AllocError>
@@ -93,8 +89,7 @@ pub trait Columns {
         ensures narrow { IfOk result IsNarrow }
         ensures err { OnErr result (seen self.new ≡ seen self.old) }
         ensures next { IsTrue (asker self.old).alone → IsNextBy (asker self.old).worker (seen self.old) (seen self.new) }
-        ensures still { (s k : ℕ) → shows self.old s k → shows self.new s k }
-        ensures asker { asker self.new ≡ asker self.old };
+        ensures board { KeepsBoard asker shows self.old self.new };
 
     /// Enters a Get at the template publisher, and gives what it is answered.
     fn get(&mut self, service: u16, incarnation: u32, name: Items<u8>) -> Result<Got, AllocError>
@@ -104,8 +99,7 @@ pub trait Columns {
         ensures short { IfOk result IsShortGot }
         ensures err { OnErr result (seen self.new ≡ seen self.old) }
         ensures next { IsTrue (asker self.old).alone → IsNextBy (asker self.old).worker (seen self.old) (seen self.new) }
-        ensures still { (s k : ℕ) → shows self.old s k → shows self.new s k }
-        ensures asker { asker self.new ≡ asker self.old };
+        ensures board { KeepsBoard asker shows self.old self.new };
 
     /// Enters a Log at the log daemon, and gives what it is answered.
     fn log(&mut self, service: u16, incarnation: u32, text: Items<u8>) -> Result<Noted, AllocError>
@@ -114,6 +108,5 @@ pub trait Columns {
             × AtLog (asker self.old).worker (oklogd.Log service incarnation text) (seen self.old) before (seen self.new)) }
         ensures err { OnErr result (seen self.new ≡ seen self.old) }
         ensures next { IsTrue (asker self.old).alone → IsNextBy (asker self.old).worker (seen self.old) (seen self.new) }
-        ensures still { (s k : ℕ) → shows self.old s k → shows self.new s k }
-        ensures asker { asker self.new ≡ asker self.old };
+        ensures board { KeepsBoard asker shows self.old self.new };
 }

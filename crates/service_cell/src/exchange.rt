@@ -3,9 +3,8 @@
 ghost use Rattle.std.specs.Prelude.{◌≡◌, ◌≤◌, ◌<◌, ℕ, ◌+◌, [], true, length, MatchOption, IsTrue, OnOk};
 ghost use Rattle.okws_base.specs.Runs.{Each};
 ghost use Rattle.frame_codec.specs.Spelling.{server_spelling, HasSpelling};
-ghost use Rattle.frame_link.specs.Wire.{wire_of};
 ghost use Rattle.monitor_model.specs.Course.{Answers, opening, said_count, verdict_frame as frame_of_verdict, got_frame as frame_of_got, noted_frame as frame_of_noted, push_frame as frame_of_push};
-ghost use Rattle.service_cell.specs.Asking.{Asker, IsNextBy, IsShortPush, IsShortGot};
+ghost use Rattle.service_cell.specs.Asking.{Asker, KeepsBoard, IsNextBy, IsShortPush, IsShortGot};
 ghost use Rattle.service_cell.specs.Exchange.{FitsFrame, IsReply, IsSpelled, IsHeardLast, PutsFrame, Hears, Opens, Exchanges, AnswersFrame};
 
 use crate::columns::Columns;
@@ -93,8 +92,7 @@ fn answer_open<C: Columns>(columns: &mut C, who: Who, proxy: u16, shown: Token) 
     ensures answer { Answers (C.asker columns.old).config (record { worker = (C.asker columns.old).worker; service = who.service; incarnation = who.incarnation }) (ServiceFrame.Open proxy shown) (C.seen columns.old) result (C.seen columns.new) }
     ensures spelling { HasSpelling result }
     ensures next { IsTrue (C.asker columns.old).alone → IsNextBy (C.asker columns.old).worker (C.seen columns.old) (C.seen columns.new) }
-    ensures still { (s k : ℕ) → C.shows columns.old s k → C.shows columns.new s k }
-    ensures asker { C.asker columns.new ≡ C.asker columns.old }
+    ensures board { KeepsBoard C.asker C.shows columns.old columns.new }
 {
     if proxy as usize >= columns.proxies() {
         return making::denied(Rule::NoSuchProxy.number());
@@ -110,8 +108,7 @@ fn answer_call<C: Columns>(columns: &mut C, proxy: u16, call: Call) -> ServerFra
     ensures answer { Answers (C.asker columns.old).config (record { worker = (C.asker columns.old).worker; service = call.service; incarnation = call.incarnation }) (ServiceFrame.Call proxy call.session call.query call.args) (C.seen columns.old) result (C.seen columns.new) }
     ensures spelling { HasSpelling result }
     ensures next { IsTrue (C.asker columns.old).alone → IsNextBy (C.asker columns.old).worker (C.seen columns.old) (C.seen columns.new) }
-    ensures still { (s k : ℕ) → C.shows columns.old s k → C.shows columns.new s k }
-    ensures asker { C.asker columns.new ≡ C.asker columns.old }
+    ensures board { KeepsBoard C.asker C.shows columns.old columns.new }
 {
     if proxy as usize >= columns.proxies() {
         return making::denied(Rule::NoSuchProxy.number());
@@ -127,8 +124,7 @@ fn answer_get<C: Columns>(columns: &mut C, who: Who, name: Items<u8>) -> ServerF
     ensures answer { Answers (C.asker columns.old).config (record { worker = (C.asker columns.old).worker; service = who.service; incarnation = who.incarnation }) (ServiceFrame.Get name) (C.seen columns.old) result (C.seen columns.new) }
     ensures spelling { HasSpelling result }
     ensures next { IsTrue (C.asker columns.old).alone → IsNextBy (C.asker columns.old).worker (C.seen columns.old) (C.seen columns.new) }
-    ensures still { (s k : ℕ) → C.shows columns.old s k → C.shows columns.new s k }
-    ensures asker { C.asker columns.new ≡ C.asker columns.old }
+    ensures board { KeepsBoard C.asker C.shows columns.old columns.new }
 {
     match columns.get(who.service, who.incarnation, name) {
         Ok(got) => told_got(got),
@@ -141,8 +137,7 @@ fn answer_log<C: Columns>(columns: &mut C, who: Who, text: Items<u8>) -> ServerF
     ensures answer { Answers (C.asker columns.old).config (record { worker = (C.asker columns.old).worker; service = who.service; incarnation = who.incarnation }) (ServiceFrame.Log text) (C.seen columns.old) result (C.seen columns.new) }
     ensures spelling { HasSpelling result }
     ensures next { IsTrue (C.asker columns.old).alone → IsNextBy (C.asker columns.old).worker (C.seen columns.old) (C.seen columns.new) }
-    ensures still { (s k : ℕ) → C.shows columns.old s k → C.shows columns.new s k }
-    ensures asker { C.asker columns.new ≡ C.asker columns.old }
+    ensures board { KeepsBoard C.asker C.shows columns.old columns.new }
 {
     match columns.log(who.service, who.incarnation, text) {
         Ok(noted) => told_noted(noted),
@@ -164,8 +159,7 @@ fn answer_copied_call<C: Columns>(
     ensures answer { Answers (C.asker columns.old).config (record { worker = (C.asker columns.old).worker; service = who.service; incarnation = who.incarnation }) (ServiceFrame.Call proxy session query args.now) (C.seen columns.old) result (C.seen columns.new) }
     ensures spelling { HasSpelling result }
     ensures next { IsTrue (C.asker columns.old).alone → IsNextBy (C.asker columns.old).worker (C.seen columns.old) (C.seen columns.new) }
-    ensures still { (s k : ℕ) → C.shows columns.old s k → C.shows columns.new s k }
-    ensures asker { C.asker columns.new ≡ C.asker columns.old }
+    ensures board { KeepsBoard C.asker C.shows columns.old columns.new }
 {
     if proxy as usize >= columns.proxies() {
         return making::denied(Rule::NoSuchProxy.number());
@@ -196,8 +190,7 @@ fn answer<C: Columns>(
     requires { who.service < length (C.asker columns.old).config.services }
     ensures answer { MatchOption result (IsReply said.now × (C.seen columns.new ≡ C.seen columns.old)) (λ heard. HasSpelling heard × Answers (C.asker columns.old).config (record { worker = (C.asker columns.old).worker; service = who.service; incarnation = who.incarnation }) said.now (C.seen columns.old) heard (C.seen columns.new)) }
     ensures next { IsTrue (C.asker columns.old).alone → IsNextBy (C.asker columns.old).worker (C.seen columns.old) (C.seen columns.new) }
-    ensures still { (s k : ℕ) → C.shows columns.old s k → C.shows columns.new s k }
-    ensures asker { C.asker columns.new ≡ C.asker columns.old }
+    ensures board { KeepsBoard C.asker C.shows columns.old columns.new }
 {
     match said {
         ServiceFrame::Open { proxy, shown } => Some(answer_open(columns, who, *proxy, *shown)),
@@ -222,8 +215,8 @@ fn answer<C: Columns>(
 /// Puts a frame for which there is room where the link is steady.
 pub(crate) fn put_frame<L: Link>(link: &mut L, frame: &ServerFrame) -> Result<(), LinkFault>
     requires spelling { HasSpelling frame.now }
-    requires room { L.steady link.old ≡ true → length (server_spelling frame.now) ≤ L.room link.old }
-    ensures { PutsFrame (wire_of L.left L.given L.faults L.steady L.ended L.room link.old) (server_spelling frame.now) result (wire_of L.left L.given L.faults L.steady L.ended L.room link.new) }
+    requires room { (L.wire link.old).steady ≡ true → length (server_spelling frame.now) ≤ (L.wire link.old).room }
+    ensures { PutsFrame (L.wire link.old) (server_spelling frame.now) result (L.wire link.new) }
 {
     send(link, frame)
 }
@@ -232,7 +225,7 @@ pub(crate) fn put_frame<L: Link>(link: &mut L, frame: &ServerFrame) -> Result<()
 #[tactic(auto, using(crate::proofs::Wires::spelling_is_short))]
 fn hear<L: Link>(link: &mut L, items: &mut Journal<Item>, frame: ServerFrame) -> Result<(), Cause>
     requires { HasSpelling frame }
-    ensures { Hears (wire_of L.left L.given L.faults L.steady L.ended L.room link.old) items.old.past frame result (wire_of L.left L.given L.faults L.steady L.ended L.room link.new) items.new.past }
+    ensures { Hears (L.wire link.old) items.old.past frame result (L.wire link.new) items.new.past }
 {
     if items.make_room(1).is_err() || link.make_room(LONGEST_FRAME + 4).is_err() {
         return Err(Cause::Starved);
@@ -257,7 +250,7 @@ pub(crate) fn hear_opening<L: Link>(
     requires fresh { items.old.past ≡ [] }
     requires short { Each IsShortPush pushes.items }
     requires request { length head + length content + 9 ≤ LONGEST_FRAME }
-    ensures opens { Opens (wire_of L.left L.given L.faults L.steady L.ended L.room link.old) (opening pushes.items (ServerFrame.Request head content)) result (wire_of L.left L.given L.faults L.steady L.ended L.room link.new) items.new.past }
+    ensures opens { Opens (L.wire link.old) (opening pushes.items (ServerFrame.Request head content)) result (L.wire link.new) items.new.past }
     ensures said { said_count items.new.past ≡ 0 }
     ensures spelled { OnOk result (Each IsSpelled items.new.past) }
 {
@@ -283,12 +276,11 @@ fn exchange_frame<L: Link, C: Columns>(
     requires counted { frames ≡ said_count items.old.past }
     requires most { frames ≤ MOST_FRAMES }
     requires places { 2 ≤ items.old.room }
-    requires room { L.steady link.old ≡ true → LONGEST_FRAME + 4 ≤ L.room link.old }
-    ensures exchanged { AnswersFrame (C.asker columns.old).config (record { worker = (C.asker columns.old).worker; service = who.service; incarnation = who.incarnation }) (wire_of L.left L.given L.faults L.steady L.ended L.room link.old) items.old.past said (C.seen columns.old) result (wire_of L.left L.given L.faults L.steady L.ended L.room link.new) items.new.past (C.seen columns.new) }
+    requires room { (L.wire link.old).steady ≡ true → LONGEST_FRAME + 4 ≤ (L.wire link.old).room }
+    ensures exchanged { AnswersFrame (C.asker columns.old).config (record { worker = (C.asker columns.old).worker; service = who.service; incarnation = who.incarnation }) (L.wire link.old) items.old.past said (C.seen columns.old) result (L.wire link.new) items.new.past (C.seen columns.new) }
     ensures spelled { result ≡ Exchanged.Goes → IsHeardLast items.new.past }
     ensures next { IsTrue (C.asker columns.old).alone → IsNextBy (C.asker columns.old).worker (C.seen columns.old) (C.seen columns.new) }
-    ensures still { (s k : ℕ) → C.shows columns.old s k → C.shows columns.new s k }
-    ensures asker { C.asker columns.new ≡ C.asker columns.old }
+    ensures board { KeepsBoard C.asker C.shows columns.old columns.new }
 {
     if frames >= MOST_FRAMES {
         items.enter(Item::Said(said));
@@ -321,11 +313,10 @@ pub(crate) fn exchange<L: Link, C: Columns>(
     requires declared { who.service < length (C.asker columns.old).config.services }
     requires counted { frames ≡ said_count items.old.past }
     requires most { frames ≤ MOST_FRAMES }
-    ensures exchanged { Exchanges (C.asker columns.old).config (record { worker = (C.asker columns.old).worker; service = who.service; incarnation = who.incarnation }) (wire_of L.left L.given L.faults L.steady L.ended L.room link.old) items.old.past (C.seen columns.old) result (wire_of L.left L.given L.faults L.steady L.ended L.room link.new) items.new.past (C.seen columns.new) }
+    ensures exchanged { Exchanges (C.asker columns.old).config (record { worker = (C.asker columns.old).worker; service = who.service; incarnation = who.incarnation }) (L.wire link.old) items.old.past (C.seen columns.old) result (L.wire link.new) items.new.past (C.seen columns.new) }
     ensures spelled { result ≡ Exchanged.Goes → IsHeardLast items.new.past }
     ensures next { IsTrue (C.asker columns.old).alone → IsNextBy (C.asker columns.old).worker (C.seen columns.old) (C.seen columns.new) }
-    ensures still { (s k : ℕ) → C.shows columns.old s k → C.shows columns.new s k }
-    ensures asker { C.asker columns.new ≡ C.asker columns.old }
+    ensures board { KeepsBoard C.asker C.shows columns.old columns.new }
 {
     if items.make_room(2).is_err() || link.make_room(LONGEST_FRAME + 4).is_err() {
         return Exchanged::Crashed(Cause::Starved);

@@ -2,7 +2,8 @@
 
 ghost use Rattle.std.specs.Prelude.{◌≡◌, ◌≢◌, ℕ, List, IsTrue, ◌↔◌, OnOk, OnErr, option_map, IfSome, true};
 ghost use Rattle.monitor_model.specs.Cell.{incarnation};
-ghost use Rattle.service_cell.specs.Standing.{fed, shut, IsReadyLink, left_of};
+ghost use Rattle.okws_outer.specs.Wire.{fed, shut};
+ghost use Rattle.service_cell.specs.Standing.{IsReadyLink, left_of};
 
 use crate::cell::Cell;
 use frame_codec::reading::is_short;

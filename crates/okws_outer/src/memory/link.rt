@@ -1,7 +1,7 @@
 //! A link in memory.
 
-ghost use Rattle.std.specs.Prelude.{◌≡◌, ◌≤◌, ◌-◌, ◌==◌, true, false, Some, [], OnOk, OnErr, length, drop, vec_len, vec_capacity};
-ghost use Rattle.std.specs.Io.KnownBytes.{Appends};
+ghost use Rattle.std.specs.Prelude.{◌≡◌, ◌≤◌, ◌-◌, ◌==◌, Some, OnOk, OnErr, length, drop, vec_len, vec_capacity};
+ghost use Rattle.okws_outer.specs.Wire.{unused, fed, shut};
 
 use crate::memory::failing::Failing;
 use crate::memory::room::Room;
@@ -26,12 +26,7 @@ impl<'a> MemoryLink<'a> {
     /// A link with nothing in it and no room, which takes no memory yet. The calls, pulls and puts
     /// together, of the numbers in `failing` fail.
     pub fn new(alloc: Global, piece: usize, failing: &'a [u64]) -> Self
-        ensures left { ⟦<MemoryLink<'a> as Link>⟧.left result ≡ Some [] }
-        ensures given { ⟦<MemoryLink<'a> as Link>⟧.given result ≡ Some [] }
-        ensures faults { ⟦<MemoryLink<'a> as Link>⟧.faults result ≡ 0 }
-        ensures steady { ⟦<MemoryLink<'a> as Link>⟧.steady result ≡ (length failing.now == 0) }
-        ensures ended { ⟦<MemoryLink<'a> as Link>⟧.ended result ≡ false }
-        ensures room { ⟦<MemoryLink<'a> as Link>⟧.room result ≡ 0 }
+        ensures { ⟦<MemoryLink<'a> as Link>⟧.wire result ≡ unused (length failing.now == 0) }
     {
         MemoryLink {
             coming: Vec::new(alloc),
@@ -48,13 +43,8 @@ impl<'a> MemoryLink<'a> {
     /// Adds bytes that are to come in, behind those that are left; where memory is refused the link
     /// is as it was.
     pub fn feed(&mut self, bytes: &[u8]) -> Result<(), AllocError>
-        ensures fed { OnOk result (Appends (⟦<MemoryLink<'a> as Link>⟧.left self.old) (⟦<MemoryLink<'a> as Link>⟧.left self.new) bytes.now) }
-        ensures refused { OnErr result (⟦<MemoryLink<'a> as Link>⟧.left self.new ≡ ⟦<MemoryLink<'a> as Link>⟧.left self.old) }
-        ensures given { ⟦<MemoryLink<'a> as Link>⟧.given self.new ≡ ⟦<MemoryLink<'a> as Link>⟧.given self.old }
-        ensures faults { ⟦<MemoryLink<'a> as Link>⟧.faults self.new ≡ ⟦<MemoryLink<'a> as Link>⟧.faults self.old }
-        ensures steady { ⟦<MemoryLink<'a> as Link>⟧.steady self.new ≡ ⟦<MemoryLink<'a> as Link>⟧.steady self.old }
-        ensures room { ⟦<MemoryLink<'a> as Link>⟧.room self.new ≡ ⟦<MemoryLink<'a> as Link>⟧.room self.old }
-        ensures ended { ⟦<MemoryLink<'a> as Link>⟧.ended self.new ≡ ⟦<MemoryLink<'a> as Link>⟧.ended self.old }
+        ensures fed { OnOk result (⟦<MemoryLink<'a> as Link>⟧.wire self.new ≡ fed bytes.now (⟦<MemoryLink<'a> as Link>⟧.wire self.old)) }
+        ensures refused { OnErr result (⟦<MemoryLink<'a> as Link>⟧.wire self.new ≡ ⟦<MemoryLink<'a> as Link>⟧.wire self.old) }
     {
         if self.at == self.coming.len() {
             self.at = 0;
@@ -65,57 +55,49 @@ impl<'a> MemoryLink<'a> {
 
     /// Says that no bytes are to come in behind those that are left.
     pub fn feed_end(&mut self)
-        ensures ended { ⟦<MemoryLink<'a> as Link>⟧.ended self.new ≡ true }
-        ensures left { ⟦<MemoryLink<'a> as Link>⟧.left self.new ≡ ⟦<MemoryLink<'a> as Link>⟧.left self.old }
-        ensures given { ⟦<MemoryLink<'a> as Link>⟧.given self.new ≡ ⟦<MemoryLink<'a> as Link>⟧.given self.old }
-        ensures faults { ⟦<MemoryLink<'a> as Link>⟧.faults self.new ≡ ⟦<MemoryLink<'a> as Link>⟧.faults self.old }
-        ensures steady { ⟦<MemoryLink<'a> as Link>⟧.steady self.new ≡ ⟦<MemoryLink<'a> as Link>⟧.steady self.old }
-        ensures room { ⟦<MemoryLink<'a> as Link>⟧.room self.new ≡ ⟦<MemoryLink<'a> as Link>⟧.room self.old }
+        ensures { ⟦<MemoryLink<'a> as Link>⟧.wire self.new ≡ shut (⟦<MemoryLink<'a> as Link>⟧.wire self.old) }
     {
         self.ended = true;
     }
 
     /// Whether the end was fed.
     pub fn is_ended(&self) -> bool
-        ensures { result ≡ ⟦<MemoryLink<'a> as Link>⟧.ended self.now }
+        ensures { result ≡ (⟦<MemoryLink<'a> as Link>⟧.wire self.now).ended }
     {
         self.ended
     }
 
     /// The bytes that are left to come in.
     pub fn left(&self) -> &[u8]
-        ensures { Some result.now ≡ ⟦<MemoryLink<'a> as Link>⟧.left self.now }
+        ensures { Some result.now ≡ (⟦<MemoryLink<'a> as Link>⟧.wire self.now).left }
     {
         &self.coming[self.at..]
     }
 
     /// The bytes that were given to go out.
     pub fn given(&self) -> &[u8]
-        ensures { Some result.now ≡ ⟦<MemoryLink<'a> as Link>⟧.given self.now }
+        ensures { Some result.now ≡ (⟦<MemoryLink<'a> as Link>⟧.wire self.now).given }
     {
         &self.room.bytes
     }
 
     /// How many calls have failed.
     pub fn faults(&self) -> u64
-        ensures { result ≡ ⟦<MemoryLink<'a> as Link>⟧.faults self.now }
+        ensures { result ≡ (⟦<MemoryLink<'a> as Link>⟧.wire self.now).faults }
     {
         self.failing.faults
     }
 }
 
 impl<'a> Link for MemoryLink<'a> {
-    ghost left = { λ s. Some (drop s.at s.coming.items) };
-
-    ghost given = { λ s. Some s.room.bytes.items };
-
-    ghost faults = { λ s. s.failing.faults };
-
-    ghost steady = { λ s. length s.failing.calls.now == 0 };
-
-    ghost room = { λ s. vec_capacity s.room.bytes - vec_len s.room.bytes };
-
-    ghost ended = { λ s. s.ended };
+    ghost wire = { λ s. record {
+      left = Some (drop s.at s.coming.items);
+      given = Some s.room.bytes.items;
+      faults = s.failing.faults;
+      steady = (length s.failing.calls.now == 0);
+      ended = s.ended;
+      room = vec_capacity s.room.bytes - vec_len s.room.bytes;
+    } };
 
     fn pull(&mut self, into: &mut [u8]) -> Pull {
         if self.failing.fails() {

@@ -19,17 +19,7 @@ impl<L: Link> Scant<L> {
 }
 
 impl<L: Link> Link for Scant<L> {
-    ghost left = { λ s. L.left s.link };
-
-    ghost given = { λ s. L.given s.link };
-
-    ghost faults = { λ s. L.faults s.link };
-
-    ghost steady = { λ _. false };
-
-    ghost room = { λ _. 0 };
-
-    ghost ended = { λ s. L.ended s.link };
+    ghost wire = { λ s. record (L.wire s.link) { steady = false; room = 0 } };
 
     fn pull(&mut self, into: &mut [u8]) -> Pull {
         self.link.pull(into)

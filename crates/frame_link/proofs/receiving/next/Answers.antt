@@ -1,10 +1,9 @@
-use Rattle.std.proofs.Common.{◌≡◌, ◌≢◌, List, ℕ, [], arith, sym, ◌∙◌, ap, length, subst, refl}
+use Rattle.std.proofs.Common.{arith, sym, ◌∙◌, subst, refl}
 use Rattle.std.proofs.lemmas.Grind.{common_steps}
 use Rattle.std.proofs.lemmas.Bool.Decides.{nat_tests}
 use Rattle.std.proofs.KnownBytes.{Consumes-trans}
-use Rattle.std.specs.Io.KnownBytes.{Consumes}
 use Rattle.frame_codec.specs.Stream.{IsBad}
-use Rattle.frame_link.proofs.Nexts.{bad_next, bad_front, ended_next, ended_front, took_first, took_both, few_are_short, part_is_short, is_some, is_whole, reads_next, reads_front, not_empty}
+use Rattle.frame_link.proofs.Nexts.{bad_next, bad_front, ended_next, ended_front, took_first, took_both, few_are_short, part_is_short, is_some, reads_next, reads_front, not_empty}
 use Rattle.frame_link.proofs.receiving.next.Goals as goal
 
 pub returns-in-Ended-2-clause-next : goal.returns-in-Ended-2-clause-next

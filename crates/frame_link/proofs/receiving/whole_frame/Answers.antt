@@ -1,5 +1,5 @@
-use Rattle.std.proofs.Common.{◌≡◌, List, ℕ, ◌++◌, take, subst, sym}
-use Rattle.frame_codec.specs.Spelling.{Spells, four}
+use Rattle.std.proofs.Common.{List, ℕ, take, subst, sym}
+use Rattle.frame_codec.specs.Spelling.{Spells}
 use Rattle.frame_codec.specs.Stream.{IsShort}
 use Rattle.frame_codec.proofs.Stops.{whole_is_taken, whole_not_short}
 use Rattle.frame_link.proofs.receiving.whole_frame.Goals as goal

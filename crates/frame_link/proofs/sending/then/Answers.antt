@@ -1,5 +1,3 @@
-use Rattle.std.proofs.Common.{subst}
-use Rattle.std.specs.declared.result.Result.{Result}
 use Rattle.frame_link.proofs.Sends.{sends_then}
 use Rattle.frame_link.proofs.sending.then.Goals as goal
 

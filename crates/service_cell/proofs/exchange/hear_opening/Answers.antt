@@ -5,7 +5,6 @@ use Rattle.monitor_model.specs.declared.record.Item.{Item}
 use Rattle.monitor_model.specs.Course.{push_frame, opening}
 use Rattle.monitor_model.specs.declared.record.Item.TheVariants.{Heard}
 use Rattle.monitor_model.specs.declared.verdict.Push.{Push}
-use Rattle.frame_link.specs.Wire.{wire_of}
 use Rattle.service_cell.proofs.Opening.{nothing_left, pushed_more, due_after, heard_one, heard_spelled, broke_off, last_heard}
 use Rattle.service_cell.proofs.exchange.hear_opening.Goals as goal
 
@@ -16,7 +15,7 @@ loop-push-preserved g c =
     let s = c.in-Some.ensures.steps in
     record {
       heard = h.1 ∙ ap (λ (f : ServerFrame). Heard f ∷ c.loop-push.items.past) c.told_push.ensures.frame ∙ ap (λ (t : List Item). Heard (push_frame c.in-Some.push) ∷ t) i.heard ∙ sym (pushed_more c.loop-push.yielded c.in-Some.push);
-      moved = heard_one (wire_of g.L.Link.left g.L.Link.given g.L.Link.faults g.L.Link.steady g.L.Link.ended g.L.Link.room c.args.link.now) (wire_of g.L.Link.left g.L.Link.given g.L.Link.faults g.L.Link.steady g.L.Link.ended g.L.Link.room c.loop-push.link) (wire_of g.L.Link.left g.L.Link.given g.L.Link.faults g.L.Link.steady g.L.Link.ended g.L.Link.room c.hear.new.link) c.loop-push.items.past c.hear.new.items.past c.told_push.result i.moved h.0 h.1;
+      moved = heard_one (g.L.Link.wire c.args.link.now) (g.L.Link.wire c.loop-push.link) (g.L.Link.wire c.hear.new.link) c.loop-push.items.past c.hear.new.items.past c.told_push.result i.moved h.0 h.1;
       all = i.all ∙ ap (λ (t : List Push). c.loop-push.yielded ++ t) s.0 ∙ sym (append_assoc c.loop-push.yielded (c.in-Some.push ∷ []) c.next.new.self.rest.items);
       said = rw h.1 i.said;
       spelled = rw h.1 (c.told_push.ensures.spelling, i.spelled);
@@ -27,7 +26,7 @@ returns-in-Err-clause-opens g c =
     let i = c.loop-push.invariant in
     let s = c.in-Some.ensures.steps in
     let more : List Push = c.next.new.self.rest.items in
-    broke_off (wire_of g.L.Link.left g.L.Link.given g.L.Link.faults g.L.Link.steady g.L.Link.ended g.L.Link.room c.args.link.now) (wire_of g.L.Link.left g.L.Link.given g.L.Link.faults g.L.Link.steady g.L.Link.ended g.L.Link.room c.loop-push.link) (wire_of g.L.Link.left g.L.Link.given g.L.Link.faults g.L.Link.steady g.L.Link.ended g.L.Link.room c.hear.new.link) c.loop-push.items.past c.hear.new.items.past (opening c.args.pushes.items (frame.Request c.args.head c.args.content)) (Heard (frame.Request c.args.head c.args.content) ∷ reverse (map (λ (p : Push). Heard (push_frame p)) more)) c.told_push.result c.in-Err.cause i.moved c.in-Err.ensures
+    broke_off (g.L.Link.wire c.args.link.now) (g.L.Link.wire c.loop-push.link) (g.L.Link.wire c.hear.new.link) c.loop-push.items.past c.hear.new.items.past (opening c.args.pushes.items (frame.Request c.args.head c.args.content)) (Heard (frame.Request c.args.head c.args.content) ∷ reverse (map (λ (p : Push). Heard (push_frame p)) more)) c.told_push.result c.in-Err.cause i.moved c.in-Err.ensures
     (due_after c.args.pushes.items c.loop-push.yielded more c.in-Some.push (frame.Request c.args.head c.args.content) c.loop-push.items.past (i.all ∙ ap (λ (t : List Push). c.loop-push.yielded ++ t) s.0) i.heard
     ∙ ap (λ (f : ServerFrame). (Heard (frame.Request c.args.head c.args.content) ∷ reverse (map (λ (p : Push). Heard (push_frame p)) more)) ++ Heard f ∷ c.loop-push.items.past) (sym c.told_push.ensures.frame))
 
@@ -36,7 +35,7 @@ returns-clause-opens g c =
     let i = c.loop-push.invariant in
     let s = c.in-None.ensures.steps in
     let none : c.loop-push.push-iterator.rest.items ≡ [] = nothing_left c.loop-push.push-iterator.rest.items (sym c.loop-push.push-iterator.rest.ok.0 ∙ s.0) in
-    last_heard (wire_of g.L.Link.left g.L.Link.given g.L.Link.faults g.L.Link.steady g.L.Link.ended g.L.Link.room c.args.link.now) (wire_of g.L.Link.left g.L.Link.given g.L.Link.faults g.L.Link.steady g.L.Link.ended g.L.Link.room c.loop-push.link) (wire_of g.L.Link.left g.L.Link.given g.L.Link.faults g.L.Link.steady g.L.Link.ended g.L.Link.room c.hear-2.new.link) c.loop-push.items.past c.hear-2.new.items.past c.loop-push.yielded c.args.pushes.items (frame.Request c.args.head c.args.content) c.hear-2.result
+    last_heard (g.L.Link.wire c.args.link.now) (g.L.Link.wire c.loop-push.link) (g.L.Link.wire c.hear-2.new.link) c.loop-push.items.past c.hear-2.new.items.past c.loop-push.yielded c.args.pushes.items (frame.Request c.args.head c.args.content) c.hear-2.result
     i.moved (rw c.request.ensures.frame at c.hear-2.ensures) i.heard (i.all ∙ ap (λ (t : List Push). c.loop-push.yielded ++ t) none)
 
 pub returns-clause-spelled : goal.returns-clause-spelled

@@ -1,5 +1,4 @@
 use Rattle.std.proofs.Common.{◌≡◌, [], ◌++◌, map, reverse}
-use Rattle.frame_link.specs.Wire.{wire_of}
 use Rattle.monitor_model.specs.Course.{heard_text, push_frame, said_count}
 use Rattle.monitor_model.specs.declared.verdict.Push.{Push}
 use Rattle.monitor_model.specs.declared.record.Item.TheVariants.{Heard}
@@ -11,7 +10,7 @@ use Rattle.service_cell.proofs.exchange.hear_opening.Given as goal
 abbrev pub invariant-loop-push : goal.invariant-loop-push
 invariant-loop-push g l = record {
   heard : l.items.past ≡ reverse (map (λ (push : Push). Heard (push_frame push)) l.yielded);
-  moved : Moves (wire_of g.L.Link.left g.L.Link.given g.L.Link.faults g.L.Link.steady g.L.Link.ended g.L.Link.room l.fn.link) (wire_of g.L.Link.left g.L.Link.given g.L.Link.faults g.L.Link.steady g.L.Link.ended g.L.Link.room l.link) [] (heard_text l.items.past);
+  moved : Moves (g.L.Link.wire l.fn.link) (g.L.Link.wire l.link) [] (heard_text l.items.past);
   all : l.fn.pushes.items ≡ l.yielded ++ l.push-iterator.rest.items;
   said : said_count l.items.past ≡ 0;
   spelled : Each IsSpelled l.items.past;

@@ -2,4 +2,4 @@ use Rattle.service_cell.proofs.Wires.{puts_frame}
 use Rattle.service_cell.proofs.exchange.put_frame.Goals as goal
 
 pub returns : goal.returns
-returns g c = puts_frame _ _ _ c.send.result c.send.ensures.bytes c.send.ensures.faults c.send.ensures.sure c.send.ensures.left c.send.ensures.steady c.send.ensures.ended c.requires.room
+returns g c = puts_frame _ _ _ c.send.result c.send.ensures.bytes c.send.ensures.link c.requires.room

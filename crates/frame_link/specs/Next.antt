@@ -1,28 +1,12 @@
--- What a link is seen as, and what its next frame is.
-use Rattle.std.specs.Prelude.{◌≡◌, ◌≢◌, ◌≤◌, ℕ, ◌+◌, Bool, true, false, List, [], ◌++◌, length, ◌⊎◌, Ok, Err}
+-- What the next frame of a link is.
+use Rattle.std.specs.Prelude.{◌≡◌, ◌≢◌, ℕ, List, [], ◌⊎◌}
 use Rattle.std.specs.declared.option.Option.{Option}
 use Rattle.std.specs.declared.option.Option.TheVariants.{Some, None}
-use Rattle.std.specs.declared.result.Result.{Result}
-use Rattle.std.specs.Io.KnownBytes.{Appends, Consumes, Keeps, IsAtEnd}
-use Rattle.okws_outer.specs.Streams.{Rose, AppendsPrefix}
+use Rattle.std.specs.Io.KnownBytes.{Consumes, Keeps, IsAtEnd}
 use Rattle.frame_codec.specs.Spelling.{Spells}
 use Rattle.frame_codec.specs.Stream.{BeginsNone, IsBad, IsShort, IsBadStop}
-use Rattle.frame_codec.specs.declared.frame.ServiceFrame.{ServiceFrame}
 use Rattle.frame_link.specs.declared.receiving.NextFrame.{NextFrame}
 use Rattle.frame_link.specs.declared.receiving.NextFrame.TheVariants.{Frame, Ended, BadFrame, LinkFault, NoMemory}
-
--- A link as contracts see it: the bytes that are left to come in and those given to go out, where it tells; how many calls failed; that none fails but for want of room; that nothing comes behind what is left; how many bytes more it is sure to take.
-pub record Wire : Type 0 where
-  pub left : Option (List ℕ)
-  pub given : Option (List ℕ)
-  pub faults : ℕ
-  pub steady : Bool
-  pub ended : Bool
-  pub room : ℕ
-
--- A link, by what each of these tells of it.
-abbrev pub wire_of : {L : Type 0} → (L → Option (List ℕ)) → (L → Option (List ℕ)) → (L → ℕ) → (L → Bool) → (L → Bool) → (L → ℕ) → L → Wire
-wire_of left given faults steady ended room l = record { left = left l; given = given l; faults = faults l; steady = steady l; ended = ended l; room = room l }
 
 -- These bytes are left, where the link tells.
 abbrev pub AreLeft : Option (List ℕ) → List ℕ → Type 0

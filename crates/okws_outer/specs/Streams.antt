@@ -1,7 +1,8 @@
 -- What the calls of a source and a sink do to the bytes that are told, and when their faults count.
-use Rattle.std.specs.Prelude.{◌≤◌, ◌<◌, ℕ, ◌+◌, ◌-◌, ◌^◌, min, List, length, take}
+use Rattle.std.specs.Prelude.{◌≡◌, ◌≤◌, ◌<◌, ℕ, ◌+◌, ◌-◌, ◌^◌, min, List, length, take}
 use Rattle.std.specs.Io.KnownBytes.{Appends, Consumes, Keeps, IsAtEnd}
 use Rattle.std.specs.declared.option.Option.{Option}
+use Rattle.std.specs.declared.option.Option.TheVariants.{Some, None}
 use Rattle.okws_outer.specs.declared.stream.Pull.{Pull}
 use Rattle.okws_outer.specs.declared.stream.Pull.TheVariants.{Took, End, Failed}
 use Rattle.okws_outer.specs.declared.stream.Put.{Put}
@@ -15,6 +16,19 @@ Rose before now = min (before + 1) (2 ^ 64 - 1) ≤ now
 pub record Counts (before now : ℕ) (fault : Type 0) : Type 0 where
   pub later : before ≤ now
   pub cause : fault → Rose before now
+
+-- A count after n more, which stays at its last value.
+abbrev pub counted : ℕ → ℕ → ℕ
+counted before n = min (before + n) (2 ^ 64 - 1)
+
+-- These are the bytes that are told, where any are.
+abbrev pub Tells : Option (List ℕ) → List ℕ → Type 0
+Tells None bytes = Unit {0}
+Tells (Some told) bytes = told ≡ bytes
+
+-- These bytes are the first n of some text, of the told one where any is.
+abbrev pub IsFrontOf : Option (List ℕ) → ℕ → List ℕ → Type 0
+IsFrontOf told n bytes = (text : List ℕ) × Tells told text × (bytes ≡ take n text)
 
 -- A pull took the first n bytes of those left, one at the least; or there were none left; or it failed, and they all are still there.
 abbrev pub Pulls : Option (List ℕ) → Option (List ℕ) → List ℕ → Pull → Type 0

@@ -1,7 +1,7 @@
 //! Reads a source, or a file, whole.
 
-ghost use Rattle.std.specs.Prelude.{◌≡◌, ◌≤◌, ◌<◌, ◌+◌, ◌^◌, take, length, IfOk, IfSome, IsErrOf};
-ghost use Rattle.okws_outer.specs.Streams.{Rose};
+ghost use Rattle.std.specs.Prelude.{◌≡◌, ◌≤◌, ◌<◌, ◌+◌, ◌^◌, ℕ, List, take, length, IfOk, IfSome, IsErrOf};
+ghost use Rattle.okws_outer.specs.Streams.{Rose, IsFrontOf, counted};
 ghost use Rattle.okws_outer.specs.declared.reading.ReadError.TheVariants.{NoMemory};
 
 use crate::files::Files;
@@ -28,9 +28,8 @@ impl From<AllocError> for ReadError {
 /// Bytes that are asked for at a time.
 const PIECE: usize = 4096;
 
-/// Reads a source to its end, or to one byte above the limit, by which the caller sees that there is
-/// more than the limit. The limit is in bytes and below 2^32.
-pub fn read_whole<S: Source>(
+/// Takes bytes from a source up to its end, or to one byte above the limit.
+fn take_up_to<S: Source>(
     alloc: Global,
     source: &mut S,
     limit: usize,
@@ -54,6 +53,22 @@ pub fn read_whole<S: Source>(
     Ok(bytes)
 }
 
+/// Reads a source to its end, or to one byte above the limit, by which the caller sees that there is
+/// more than the limit. The limit is in bytes and below 2^32. What was read is the front of some text,
+/// of the one that is left where the source tells.
+pub fn read_whole<S: Source>(
+    alloc: Global,
+    source: &mut S,
+    limit: usize,
+) -> Result<Vec<u8>, ReadError>
+    requires { limit < 2 ^ 32 }
+    ensures bytes { IfOk result (λ bytes. IsFrontOf (S.left source.old) (limit + 1) bytes.items) }
+    ensures faults { S.faults source.old ≤ S.faults source.new }
+    ensures failed { IsErrOf result ReadError.Failed → Rose (S.faults source.old) (S.faults source.new) }
+{
+    take_up_to(alloc, source, limit)
+}
+
 /// Reads the file at a path to its end, or to one byte above the limit, which is in bytes and below
 /// 2^32. A file that can't be opened is a fault.
 pub fn read_file<F: Files>(
@@ -63,9 +78,9 @@ pub fn read_file<F: Files>(
     limit: usize,
 ) -> Result<Vec<u8>, ReadError>
     requires { limit < 2 ^ 32 }
-    ensures bytes { IfSome (F.held files.old path.now) (λ all. IfOk result (λ bytes. bytes.items ≡ take (limit + 1) all)) }
-    ensures size { IfOk result (λ bytes. length bytes.items ≤ limit + 1) }
+    ensures bytes { IfOk result (λ bytes. IsFrontOf (F.held files.old path.now) (limit + 1) bytes.items) }
     ensures held { F.held files.new ≡ F.held files.old }
+    ensures opened { F.opened files.new ≡ counted (F.opened files.old) 1 }
     ensures faults { F.faults files.old ≤ F.faults files.new }
     ensures failed { IsErrOf result ReadError.Failed → Rose (F.faults files.old) (F.faults files.new) }
 {

@@ -23,6 +23,7 @@ pub struct Entry<'a> {
 pub struct MemoryFiles<'a> {
     entries: &'a [Entry<'a>],
     piece: usize,
+    opened: u64,
     failing: Failing<'a>,
 }
 
@@ -37,11 +38,13 @@ impl<'a> MemoryFiles<'a> {
     /// Files of these entries; the pulls, counted over all files, of the numbers in `failing` fail.
     pub fn new(entries: &'a [Entry<'a>], piece: usize, failing: &'a [u64]) -> Self
         ensures held { ⟦<MemoryFiles<'a> as Files>⟧.held result ≡ held_at entries.now }
+        ensures opened { ⟦<MemoryFiles<'a> as Files>⟧.opened result ≡ 0 }
         ensures faults { ⟦<MemoryFiles<'a> as Files>⟧.faults result ≡ 0 }
     {
         MemoryFiles {
             entries,
             piece,
+            opened: 0,
             failing: Failing::at(failing),
         }
     }
@@ -81,7 +84,10 @@ impl<'a> Files for MemoryFiles<'a> {
 
     ghost faults = { λ s. s.failing.faults };
 
+    ghost opened = { λ s. s.opened };
+
     fn open(&mut self, path: &str) -> MemoryFile<'a> {
+        self.opened = self.opened.saturating_add(1);
         let found = find(self.entries, path);
         MemoryFile {
             source: MemorySource::with(found.unwrap_or(b""), self.piece, self.failing),

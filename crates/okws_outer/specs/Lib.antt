@@ -4,3 +4,4 @@ pub mod Printing
 pub mod Entries
 pub mod Keeping
 pub mod Optional
+pub mod Shelf

@@ -1,7 +1,8 @@
 //! Reads a source, or a file, whole.
 
-ghost use Rattle.std.specs.Prelude.{◌≡◌, ◌≤◌, ◌<◌, ◌+◌, ◌^◌, ℕ, List, take, length, IfOk, IfSome, IsErrOf};
-ghost use Rattle.okws_outer.specs.Streams.{Rose, IsFrontOf, counted};
+ghost use Rattle.std.specs.Prelude.{◌≡◌, ◌≤◌, ◌<◌, ◌+◌, ◌^◌, take, length, IfOk, IfSome, IsErrOf};
+ghost use Rattle.okws_outer.specs.Streams.{Rose, IsFrontOf};
+ghost use Rattle.okws_outer.specs.Shelf.{Reads};
 ghost use Rattle.okws_outer.specs.declared.reading.ReadError.TheVariants.{NoMemory};
 
 use crate::files::Files;
@@ -78,11 +79,8 @@ pub fn read_file<F: Files>(
     limit: usize,
 ) -> Result<Vec<u8>, ReadError>
     requires { limit < 2 ^ 32 }
-    ensures bytes { IfOk result (λ bytes. IsFrontOf (F.held files.old path.now) (limit + 1) bytes.items) }
-    ensures held { F.held files.new ≡ F.held files.old }
-    ensures opened { F.opened files.new ≡ counted (F.opened files.old) 1 }
-    ensures faults { F.faults files.old ≤ F.faults files.new }
-    ensures failed { IsErrOf result ReadError.Failed → Rose (F.faults files.old) (F.faults files.new) }
+    ensures bytes { IfOk result (λ bytes. IsFrontOf ((F.shelf files.old).held path.now) (limit + 1) bytes.items) }
+    ensures shelf { Reads (F.shelf files.old) (F.shelf files.new) 1 (IsErrOf result ReadError.Failed) }
 {
     let mut file = files.open(path);
     let read = read_whole(alloc, &mut file, limit);

@@ -37,9 +37,7 @@ pub struct MemoryFile<'a> {
 impl<'a> MemoryFiles<'a> {
     /// Files of these entries; the pulls, counted over all files, of the numbers in `failing` fail.
     pub fn new(entries: &'a [Entry<'a>], piece: usize, failing: &'a [u64]) -> Self
-        ensures held { ⟦<MemoryFiles<'a> as Files>⟧.held result ≡ held_at entries.now }
-        ensures opened { ⟦<MemoryFiles<'a> as Files>⟧.opened result ≡ 0 }
-        ensures faults { ⟦<MemoryFiles<'a> as Files>⟧.faults result ≡ 0 }
+        ensures { ⟦<MemoryFiles<'a> as Files>⟧.shelf result ≡ record { held = held_at entries.now; opened = 0; faults = 0 } }
     {
         MemoryFiles {
             entries,
@@ -80,11 +78,7 @@ impl<'a> Source for MemoryFile<'a> {
 impl<'a> Files for MemoryFiles<'a> {
     type File = MemoryFile<'a>;
 
-    ghost held = { λ s path. held_at s.entries.now path };
-
-    ghost faults = { λ s. s.failing.faults };
-
-    ghost opened = { λ s. s.opened };
+    ghost shelf = { λ s. record { held = held_at s.entries.now; opened = s.opened; faults = s.failing.faults } };
 
     fn open(&mut self, path: &str) -> MemoryFile<'a> {
         self.opened = self.opened.saturating_add(1);

@@ -1,0 +1,16 @@
+-- Files by their paths, as contracts see them.
+use Rattle.std.specs.Prelude.{◌≡◌, ℕ, List}
+use Rattle.std.specs.declared.option.Option.{Option}
+use Rattle.okws_outer.specs.Streams.{Counts, counted}
+
+-- What stands at each path, where the files tell; how many files were opened; and how many calls failed.
+pub record Shelf : Type 0 where
+  pub held : List ℕ → Option (List ℕ)
+  pub opened : ℕ
+  pub faults : ℕ
+
+-- Nothing changed but that files were opened, so many of them, and that calls may have failed: at least one where this fault came.
+pub record Reads (before after : Shelf) (files : ℕ) (fault : Type 0) : Type 0 where
+  pub held : after.held ≡ before.held
+  pub opened : after.opened ≡ counted before.opened files
+  pub faults : Counts before.faults after.faults fault

@@ -36,24 +36,28 @@ impl<F: Read> Source for RealFile<F> {
 #[derive(Drop)]
 pub struct RealFiles<'r, R> {
     rt: &'r R,
+    opened: u64,
     faults: u64,
 }
 
 impl<'r, R: std::rt::Files> RealFiles<'r, R> {
-    /// The files, with no fault counted yet.
+    /// The files, none of them opened and no fault counted yet.
     pub fn new(rt: &'r R) -> Self {
-        RealFiles { rt, faults: 0 }
+        RealFiles {
+            rt,
+            opened: 0,
+            faults: 0,
+        }
     }
 }
 
 impl<'r, R: std::rt::Files> Files for RealFiles<'r, R> {
     type File = RealFile<R::File>;
 
-    ghost held = { λ s path. None };
-
-    ghost faults = { λ s. s.faults };
+    ghost shelf = { λ s. record { held = λ path. None; opened = s.opened; faults = s.faults } };
 
     fn open(&mut self, path: &str) -> RealFile<R::File> {
+        self.opened = self.opened.saturating_add(1);
         RealFile {
             inner: fs::open(self.rt, path).ok(),
             faults: self.faults,

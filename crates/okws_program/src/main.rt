@@ -6,8 +6,7 @@ mod output;
 
 use files::RealFiles;
 use okws_outer::world::{Held, Outside};
-use okws_server::okws;
-use okws_server::status::Status;
+use okws_server::{answer_no_memory, answer_usage, okws};
 use output::Writing;
 use std::process::ExitCode;
 use std::rt::Env;
@@ -16,7 +15,7 @@ use std::{env, io};
 /// The seed of the tokens of a run whose interleaving is listed.
 const SEED: [u8; 32] = [0; 32];
 
-/// The words after the program's name.
+/// The words after the program's name; a word that is no UTF-8 is an error.
 fn words_of<R: Env + AllocGlobal>(rt: &R) -> io::Result<Vec<String>> {
     let mut words = Vec::new(rt.alloc());
     for word in env::args(rt)?.skip(1) {
@@ -26,18 +25,20 @@ fn words_of<R: Env + AllocGlobal>(rt: &R) -> io::Result<Vec<String>> {
 }
 
 fn main(rt: HostRuntime) -> ExitCode {
-    let mut world = Held {
-        objects: Some(Outside {
-            files: RealFiles::new(&rt),
-            out: Writing::new(io::writer(&rt)),
-            seed: SEED,
-        }),
-    };
-    match words_of(&rt) {
+    let mut out = Writing::new(io::writer(&rt));
+    let status = match words_of(&rt) {
         Ok(words) => {
-            let (status, _) = okws(&rt, rt.alloc(), &words, &mut world);
-            ExitCode::from(status.number())
+            let mut world = Held {
+                objects: Some(Outside {
+                    files: RealFiles::new(&rt),
+                    out,
+                    seed: SEED,
+                }),
+            };
+            okws(&rt, rt.alloc(), &words, &mut world).0
         }
-        Err(_) => ExitCode::from(Status::Usage.number()),
-    }
+        Err(error) if error.kind() == io::ErrorKind::OutOfMemory => answer_no_memory(&mut out),
+        Err(_) => answer_usage(&mut out),
+    };
+    ExitCode::from(status.number())
 }

@@ -1,5 +1,5 @@
 -- A file that was read to one byte above its limit is judged as the whole file.
-use Rattle.std.proofs.Common.{◌≡◌, ◌∙◌, ℕ, ◌+◌, ◌≤◌, ◌<◌, List, length, take, refl, sym, arith, Bool, true, false, nat_lt, IfSome, Some, None}
+use Rattle.std.proofs.Common.{◌≡◌, ◌∙◌, ℕ, ◌+◌, ◌≤◌, ◌<◌, List, length, take, refl, sym, arith, Bool, true, false, nat_lt, Some, ap, min, ◌^◌}
 use Rattle.std.proofs.lemmas.Bool.{ltb-true, ltb-false}
 use Rattle.std.proofs.lemmas.List.{take_all, length-take-le}
 use Rattle.std.specs.declared.option.Option.{Option}
@@ -11,6 +11,8 @@ use Rattle.config_reader.specs.declared.error.Refusal.{Refusal}
 use Rattle.config_reader.specs.declared.error.ConfigError.{ConfigError}
 use Rattle.config_reader.specs.declared.error.ConfigError.TheVariants as config_error
 use Rattle.config_reader.specs.Answers.{Fails}
+use Rattle.okws_outer.specs.Streams.{IsFrontOf, Rose, counted}
+use Rattle.okws_outer.specs.Shelf.{Shelf, Reads}
 use Rattle.okws_server.specs.Ran.{stop_of, ReadsConfig}
 use Rattle.okws_server.specs.declared.preparing.ConfigStop.{ConfigStop}
 use Rattle.okws_server.specs.declared.preparing.ConfigStop.TheVariants as config_stop
@@ -48,24 +50,31 @@ meaning_front all text e = by (nat_lt LONGEST_CONFIGURATION (length all)) refl
         let front : nat_lt LONGEST_CONFIGURATION (length text) ≡ true = rw size refl in
         rw front (rw t refl)
 
--- the configuration of what was read is the file's
-pub reads_config : (told : Option (List ℕ)) (text : List ℕ) (C : Config) → IfSome told (λ all. text ≡ take (LONGEST_CONFIGURATION + 1) all) → meaning text ≡ Ok C → IfSome told (λ all. meaning all ≡ Ok C)
-reads_config None text C e m = tt
-reads_config (Some all) text C e m = sym (meaning_front all text e) ∙ m
-
--- the refusal of what was read is the file's
-pub reads_refusal : (told : Option (List ℕ)) (text : List ℕ) (refusal : Refusal) → IfSome told (λ all. text ≡ take (LONGEST_CONFIGURATION + 1) all) → meaning text ≡ Err refusal → IfSome told (λ all. meaning all ≡ Err refusal)
-reads_refusal None text refusal e m = tt
-reads_refusal (Some all) text refusal e m = sym (meaning_front all text e) ∙ m
-
 -- what a reader answers is what was read gives
-pub reads_stop : (text : List ℕ) (e : ConfigError) → Fails e (meaning text) → ReadsConfig (Some text) ⊥ (Err (stop_of e))
-reads_stop text (config_error.Refused refusal) m = m
+pub reads_stop : (text : List ℕ) (e : ConfigError) → Fails e (meaning text) → ReadsConfig (Some text) (Err (stop_of e))
+reads_stop text (config_error.Refused refusal) m = (text, refl, m)
 reads_stop text config_error.NoMemory m = tt
 
+-- a reader finds no fault of a file
+pub judged_stop : (e : ConfigError) → stop_of e ≡ config_stop.ReadFault → ⊥
+judged_stop (config_error.Refused refusal) is = cc
+judged_stop config_error.NoMemory is = cc
+
 -- what was read gives what the file gives
-pub reads_whole : (told : Option (List ℕ)) (text : List ℕ) (rose : Type 0) (r : Result Config ConfigStop) → IfSome told (λ all. text ≡ take (LONGEST_CONFIGURATION + 1) all) → ReadsConfig (Some text) ⊥ r → ReadsConfig told rose r
-reads_whole told text rose (Ok C) same m = reads_config told text C same m
-reads_whole told text rose (Err config_stop.ReadFault) same m = absurd m
-reads_whole told text rose (Err (config_stop.Refused refusal)) same m = reads_refusal told text refusal same m
-reads_whole told text rose (Err config_stop.NoMemory) same m = tt
+pub reads_whole : (told : Option (List ℕ)) (text : List ℕ) (r : Result Config ConfigStop) → IsFrontOf told (LONGEST_CONFIGURATION + 1) text → ReadsConfig (Some text) r → ReadsConfig told r
+reads_whole told text (Ok C) front m = (front.0, front.1, sym (meaning_front front.0 text front.2) ∙ ap meaning m.1 ∙ m.2)
+reads_whole told text (Err config_stop.ReadFault) front m = tt
+reads_whole told text (Err (config_stop.Refused refusal)) front m = (front.0, front.1, sym (meaning_front front.0 text front.2) ∙ ap meaning m.1 ∙ m.2)
+reads_whole told text (Err config_stop.NoMemory) front m = tt
+
+-- ---- one file and another
+
+pub reads_as : (a b : Shelf) (n : ℕ) (f h : Type 0) → Reads a b n f → (h → f) → Reads a b n h
+reads_as a b n f h reads is = record { held = reads.held; opened = reads.opened; faults = record { later = reads.faults.later; cause = λ x. reads.faults.cause (is x) } }
+
+pub reads_two : (a b c : Shelf) (f g h : Type 0) → Reads a b 1 f → Reads b c 1 g → (h → g) → Reads a c 2 h
+reads_two a b c f g h first second is = record {
+  held = second.held ∙ first.held;
+  opened = second.opened ∙ ap (λ n. counted n 1) first.opened ∙ omega arith;
+  faults = record { later = omega (arith, first.faults.later, second.faults.later); cause = λ x. omega (arith, first.faults.later, second.faults.cause (is x)) };
+}

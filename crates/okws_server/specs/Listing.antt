@@ -1,5 +1,5 @@
 -- What `check` prints of a configuration.
-use Rattle.std.specs.Prelude.{ℕ, List, [], ◌∷◌, ◌++◌, fold, flat_map, decimal, nat_lt, insert}
+use Rattle.std.specs.Prelude.{◌≡◌, ℕ, List, [], ◌∷◌, ◌++◌, fold, flat_map, decimal, nat_lt, insert}
 use Rattle.std.specs.List.{position_or_len}
 use Rattle.okws_plan.specs.declared.configuration.Config.{Config}
 use Rattle.okws_plan.specs.declared.configuration.ProxyPlan.{ProxyPlan}
@@ -29,3 +29,7 @@ proxy_listing plan = flat_map (query_line plan) (by_number plan.queries)
 -- A line for each query, by proxies in the order of their declaration.
 abbrev pub listing : Config → List ℕ
 listing C = flat_map proxy_listing C.proxies
+
+-- These bytes are a front of the listing.
+abbrev pub BeginsListing : Config → List ℕ → Type 0
+BeginsListing C front = (rest : List ℕ) × (listing C ≡ front ++ rest)

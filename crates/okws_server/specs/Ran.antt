@@ -1,10 +1,11 @@
 -- What a run answers, and what it gives to out.
-use Rattle.std.specs.Prelude.{◌≡◌, ◌⊎◌, ⊤, ℕ, ◌+◌, Bool, List, [], ◌∷◌, ◌++◌, Result, Ok, Err, Some, None, IfSome, replicate, take, if◌then◌else◌}
+use Rattle.std.specs.Prelude.{◌≡◌, ◌⊎◌, ⊤, ℕ, ◌+◌, Bool, List, [], ◌∷◌, ◌++◌, Result, Ok, Err, Some, None, replicate, if◌then◌else◌}
 use Rattle.std.specs.declared.alloc.AllocError.{AllocError}
 use Rattle.std.specs.Io.KnownBytes.{Appends}
 use Rattle.std.specs.declared.option.Option.{Option}
 use Rattle.okws_base.specs.declared.limit.TheConstants.{LONGEST_SCRIPT}
-use Rattle.okws_outer.specs.Streams.{AppendsPrefix}
+use Rattle.okws_outer.specs.Streams.{AppendsPrefix, Tells, IsFrontOf}
+use Rattle.okws_outer.specs.Shelf.{Shelf, Reads}
 use Rattle.okws_plan.specs.declared.configuration.Config.{Config}
 use Rattle.config_reader.specs.Meaning.{meaning}
 use Rattle.config_reader.specs.RuleNumber.{rule_number}
@@ -14,9 +15,9 @@ use Rattle.config_reader.specs.declared.error.ConfigError.TheVariants as config_
 use Rattle.monitor_model.specs.declared.record.Record.{Record}
 use Rattle.play_script.specs.Refusal.{config_refused, script_refused}
 use Rattle.play_script.specs.Rule.{script_rule_number}
-use Rattle.okws_server.specs.Ending.{Told, read_fault_line}
-use Rattle.okws_server.specs.Headline.{IsWholeRun, IsRefused, IsEmptyRecord, Leaves}
-use Rattle.okws_server.specs.Listing.{listing}
+use Rattle.okws_server.specs.Ending.{Told, read_fault_line, no_memory_line}
+use Rattle.okws_server.specs.Headline.{IsWholeRun, IsRefused, IsEmptyRecord, Leaves, BeginsPrinting}
+use Rattle.okws_server.specs.Listing.{listing, BeginsListing}
 use Rattle.okws_server.specs.declared.script_run.Outcome.{Outcome}
 use Rattle.okws_server.specs.declared.preparing.ConfigStop.{ConfigStop}
 use Rattle.okws_server.specs.declared.preparing.ConfigStop.TheVariants as config_stop
@@ -31,74 +32,92 @@ use Rattle.okws_server.specs.declared.status.Status.TheVariants as status
 abbrev pub zero_seed : List ℕ
 zero_seed = replicate 32 0
 
+-- How a run ends that printed all that was due, unless out has stopped.
+abbrev pub out_status : Bool → Status
+out_status stopped = if stopped then status.OutFault else status.Ok
+
+-- ---- the configuration
+
+-- Some text gives this configuration, the told one where the file tells.
+abbrev pub GivesConfig : Option (List ℕ) → Config → Type 0
+GivesConfig told C = (text : List ℕ) × Tells told text × (meaning text ≡ Ok C)
+
+-- Some text is refused so, the told one where the file tells.
+abbrev pub IsRefusedBy : Option (List ℕ) → Refusal → Type 0
+IsRefusedBy told refusal = (text : List ℕ) × Tells told text × (meaning text ≡ Err refusal)
+
 -- The configuration is refused, and the last line says where.
-abbrev pub RefusesConfig : List ℕ → Option (List ℕ) → Option (List ℕ) → Type 0 → Type 0
-RefusesConfig text old new out_rose =
-    (refusal : Refusal) × (meaning text ≡ Err refusal) × Told old new (config_refused refusal.line (rule_number refusal.rule)) out_rose
+abbrev pub RefusesConfig : Option (List ℕ) → Option (List ℕ) → Option (List ℕ) → Type 0 → Type 0
+RefusesConfig told old new out_rose =
+    (refusal : Refusal) × IsRefusedBy told refusal × Told old new (config_refused refusal.line (rule_number refusal.rule)) out_rose
+
+-- What telling where a configuration is refused answers and gives.
+abbrev pub TellsRefusal : Refusal → Option (List ℕ) → Option (List ℕ) → Type 0 → Status → Type 0
+TellsRefusal refusal old new out_rose status.ConfigRefused = Told old new (config_refused refusal.line (rule_number refusal.rule)) out_rose
+TellsRefusal refusal old new out_rose status.NoMemory = Told old new no_memory_line out_rose
+TellsRefusal refusal old new out_rose _ = ⊥
 
 -- Why a file that was read gave no configuration.
 abbrev pub stop_of : ConfigError → ConfigStop
 stop_of (config_error.Refused refusal) = config_stop.Refused refusal
 stop_of config_error.NoMemory = config_stop.NoMemory
 
--- How a run ends that printed all that was due, unless out has stopped.
-abbrev pub out_status : Bool → Status
-out_status stopped = if stopped then status.OutFault else status.Ok
+-- What reading a configuration answers, from what is told of its text.
+abbrev pub ReadsConfig : Option (List ℕ) → Result Config ConfigStop → Type 0
+ReadsConfig told (Ok C) = GivesConfig told C
+ReadsConfig told (Err config_stop.ReadFault) = ⊤
+ReadsConfig told (Err (config_stop.Refused refusal)) = IsRefusedBy told refusal
+ReadsConfig told (Err config_stop.NoMemory) = ⊤
 
--- What reading a configuration answers, where the file tells its text: `rose` says that the count of files rose.
-abbrev pub ReadsConfig : Option (List ℕ) → Type 0 → Result Config ConfigStop → Type 0
-ReadsConfig told rose (Ok C) = IfSome told (λ text. meaning text ≡ Ok C)
-ReadsConfig told rose (Err config_stop.ReadFault) = rose
-ReadsConfig told rose (Err (config_stop.Refused refusal)) = IfSome told (λ text. meaning text ≡ Err refusal)
-ReadsConfig told rose (Err config_stop.NoMemory) = ⊤
+-- ---- the files in their order
 
--- What is known before a script is played, where the files tell these texts.
-abbrev pub IsPrepared : Option (List ℕ) → Option (List ℕ) → Type 0 → Result Prepared Stop → Type 0
-IsPrepared config script rose (Ok both) =
-    IfSome config (λ text. meaning text ≡ Ok both.config) × IfSome script (λ text. both.script.items ≡ take (LONGEST_SCRIPT + 1) text)
-IsPrepared config script rose (Err stop.ReadFault) = rose
-IsPrepared config script rose (Err (stop.Refused refusal)) = IfSome config (λ text. meaning text ≡ Err refusal)
-IsPrepared config script rose (Err stop.NoMemory) = ⊤
+-- The first file alone was opened, or, where it gives a configuration, the second one too; and this fault is counted.
+abbrev pub ReadsInOrder : Shelf → Shelf → List ℕ → Type 0 → Type 0
+ReadsInOrder before after config fault = Reads before after 1 fault ⊎ (((C : Config) × GivesConfig (before.held config) C) × Reads before after 2 fault)
+
+-- What is known before a script is played.
+abbrev pub IsPrepared : Shelf → Shelf → List ℕ → List ℕ → Result Prepared Stop → Type 0
+IsPrepared before after config script (Ok both) =
+    GivesConfig (before.held config) both.config × IsFrontOf (before.held script) (LONGEST_SCRIPT + 1) both.script.items × Reads before after 2 ⊥
+IsPrepared before after config script (Err stop.ReadFault) = ReadsInOrder before after config ⊤
+IsPrepared before after config script (Err (stop.Refused refusal)) = IsRefusedBy (before.held config) refusal × Reads before after 1 ⊥
+IsPrepared before after config script (Err stop.NoMemory) = ReadsInOrder before after config ⊥
+
+-- ---- check
 
 -- What listing a configuration's queries answers and gives.
 abbrev pub Lists : Config → Option (List ℕ) → Option (List ℕ) → Type 0 → Status → Type 0
 Lists C old new out_rose status.Ok = Appends old new (listing C)
 Lists C old new out_rose status.OutFault = out_rose × AppendsPrefix old new (listing C)
-Lists C old new out_rose status.NoMemory = ⊤
-Lists C old new out_rose status.Usage = ⊥
-Lists C old new out_rose status.ReadFault = ⊥
-Lists C old new out_rose status.ConfigRefused = ⊥
-Lists C old new out_rose status.NetFault = ⊥
-Lists C old new out_rose status.StoreFault = ⊥
-Lists C old new out_rose status.LogFault = ⊥
-Lists C old new out_rose status.ScriptRefused = ⊥
-Lists C old new out_rose status.ConsoleFault = ⊥
+Lists C old new out_rose status.NoMemory = (front : List ℕ) × BeginsListing C front × Told old new (front ++ no_memory_line) out_rose
+Lists C old new out_rose _ = ⊥
 
--- What `check` answers and gives, where the file tells this text: `read_rose` and `out_rose` say that the counts of files and out rose.
-abbrev pub Checked : Option (List ℕ) → Option (List ℕ) → Option (List ℕ) → Type 0 → Type 0 → Status → Type 0
-Checked file old new read_rose out_rose status.Ok = IfSome file (λ text. (C : Config) × (meaning text ≡ Ok C) × Appends old new (listing C))
-Checked file old new read_rose out_rose status.OutFault =
-    out_rose × IfSome file (λ text. (C : Config) × (meaning text ≡ Ok C) × AppendsPrefix old new (listing C))
-Checked file old new read_rose out_rose status.ConfigRefused = IfSome file (λ text. RefusesConfig text old new out_rose)
-Checked file old new read_rose out_rose status.ReadFault = read_rose × Told old new read_fault_line out_rose
-Checked file old new read_rose out_rose status.NoMemory = ⊤
-Checked file old new read_rose out_rose status.Usage = ⊥
-Checked file old new read_rose out_rose status.NetFault = ⊥
-Checked file old new read_rose out_rose status.StoreFault = ⊥
-Checked file old new read_rose out_rose status.LogFault = ⊥
-Checked file old new read_rose out_rose status.ScriptRefused = ⊥
-Checked file old new read_rose out_rose status.ConsoleFault = ⊥
+-- A configuration that the file gives is listed.
+abbrev pub ListsFile : Shelf → Shelf → List ℕ → Option (List ℕ) → Option (List ℕ) → Type 0 → Status → Type 0
+ListsFile before after path old new out_rose how = (C : Config) × GivesConfig (before.held path) C × Reads before after 1 ⊥ × Lists C old new out_rose how
 
--- What playing a script leaves and prints, unless memory was refused.
+-- What `check` answers and gives: `old` and `new` were given to out before and after, and `out_rose` says that its count of faults rose.
+abbrev pub Checked : Shelf → Shelf → List ℕ → Option (List ℕ) → Option (List ℕ) → Type 0 → Status → Type 0
+Checked before after path old new out_rose status.Ok = ListsFile before after path old new out_rose status.Ok
+Checked before after path old new out_rose status.OutFault = ListsFile before after path old new out_rose status.OutFault
+Checked before after path old new out_rose status.ConfigRefused = Reads before after 1 ⊥ × RefusesConfig (before.held path) old new out_rose
+Checked before after path old new out_rose status.ReadFault = Reads before after 1 ⊤ × Told old new read_fault_line out_rose
+Checked before after path old new out_rose status.NoMemory =
+    (Reads before after 1 ⊥ × Told old new no_memory_line out_rose) ⊎ ListsFile before after path old new out_rose status.NoMemory
+Checked before after path old new out_rose _ = ⊥
+
+-- ---- play
+
+-- What playing a script leaves and prints; where memory was refused, something was printed.
 abbrev pub PlaysText : Config → List ℕ → (List ℕ → Type 0) → Result Outcome AllocError → Type 0
 PlaysText C text prints (Ok outcome) = (printed : List ℕ) × Leaves C zero_seed text outcome.broken outcome.record printed × prints printed
-PlaysText C text prints (Err e) = ⊤
+PlaysText C text prints (Err e) = (printed : List ℕ) × BeginsPrinting C text printed × prints printed
 
--- How a run ends: where the script is broken nowhere by whether out has stopped; else with the last line that says where.
+-- How a run ends whose script was played: where it is broken nowhere by whether out has stopped; else with the last line that says where, or that memory was refused.
 abbrev pub Ends : Option Broken → (List ℕ → Type 0) → Bool → Status → Type 0
 Ends None prints stopped how = prints [] × (how ≡ out_status stopped)
 Ends (Some found) prints stopped how =
-    ((how ≡ status.ScriptRefused) × prints (script_refused found.line (script_rule_number found.rule))) ⊎ (how ≡ status.NoMemory)
+    ((how ≡ status.ScriptRefused) × prints (script_refused found.line (script_rule_number found.rule))) ⊎ ((how ≡ status.NoMemory) × prints no_memory_line)
 
 -- What playing a script of this text answers and gives, and the record that it leaves.
 abbrev pub Plays : Config → List ℕ → Option (List ℕ) → Option (List ℕ) → Type 0 → Record → Status → Type 0
@@ -106,30 +125,22 @@ Plays C text old new out_rose R status.Ok = (printed : List ℕ) × IsWholeRun C
 Plays C text old new out_rose R status.OutFault = out_rose × (printed : List ℕ) × IsWholeRun C zero_seed text R printed × AppendsPrefix old new printed
 Plays C text old new out_rose R status.ScriptRefused =
     (printed : List ℕ) × (line rule : ℕ) × IsRefused C zero_seed text R printed line rule × Told old new (printed ++ script_refused line rule) out_rose
-Plays C text old new out_rose R status.NoMemory = ⊤
-Plays C text old new out_rose R status.Usage = ⊥
-Plays C text old new out_rose R status.ReadFault = ⊥
-Plays C text old new out_rose R status.ConfigRefused = ⊥
-Plays C text old new out_rose R status.NetFault = ⊥
-Plays C text old new out_rose R status.StoreFault = ⊥
-Plays C text old new out_rose R status.LogFault = ⊥
-Plays C text old new out_rose R status.ConsoleFault = ⊥
+Plays C text old new out_rose R status.NoMemory =
+    IsEmptyRecord R × (printed : List ℕ) × BeginsPrinting C text printed × Told old new (printed ++ no_memory_line) out_rose
+Plays C text old new out_rose R _ = ⊥
 
--- A script is played by a lawful configuration, where the files tell these texts.
-abbrev pub PlaysBoth : Option (List ℕ) → Option (List ℕ) → Option (List ℕ) → Option (List ℕ) → Type 0 → Record → Status → Type 0
-PlaysBoth config script old new out_rose R how =
-    IfSome config (λ file. (C : Config) × (meaning file ≡ Ok C) × IfSome script (λ text. Plays C text old new out_rose R how))
+-- A script that its file gives is played by the configuration that its file gives.
+abbrev pub PlaysFiles : Shelf → Shelf → List ℕ → List ℕ → Option (List ℕ) → Option (List ℕ) → Type 0 → Record → Status → Type 0
+PlaysFiles before after config script old new out_rose R how =
+    (C : Config) × GivesConfig (before.held config) C × (text : List ℕ) × Tells (before.held script) text × Reads before after 2 ⊥ × Plays C text old new out_rose R how
 
--- What `play` answers and gives, and the record that it leaves, where the files tell these texts.
-abbrev pub Played : Option (List ℕ) → Option (List ℕ) → Option (List ℕ) → Option (List ℕ) → Type 0 → Type 0 → Record → Status → Type 0
-Played config script old new read_rose out_rose R status.Ok = PlaysBoth config script old new out_rose R status.Ok
-Played config script old new read_rose out_rose R status.OutFault = out_rose × PlaysBoth config script old new out_rose R status.OutFault
-Played config script old new read_rose out_rose R status.ScriptRefused = PlaysBoth config script old new out_rose R status.ScriptRefused
-Played config script old new read_rose out_rose R status.ConfigRefused = IsEmptyRecord R × IfSome config (λ text. RefusesConfig text old new out_rose)
-Played config script old new read_rose out_rose R status.ReadFault = IsEmptyRecord R × read_rose × Told old new read_fault_line out_rose
-Played config script old new read_rose out_rose R status.NoMemory = ⊤
-Played config script old new read_rose out_rose R status.Usage = ⊥
-Played config script old new read_rose out_rose R status.NetFault = ⊥
-Played config script old new read_rose out_rose R status.StoreFault = ⊥
-Played config script old new read_rose out_rose R status.LogFault = ⊥
-Played config script old new read_rose out_rose R status.ConsoleFault = ⊥
+-- What `play` answers and gives, and the record that it leaves: `old` and `new` were given to out before and after, and `out_rose` says that its count of faults rose.
+abbrev pub Played : Shelf → Shelf → List ℕ → List ℕ → Option (List ℕ) → Option (List ℕ) → Type 0 → Record → Status → Type 0
+Played before after config script old new out_rose R status.Ok = PlaysFiles before after config script old new out_rose R status.Ok
+Played before after config script old new out_rose R status.OutFault = PlaysFiles before after config script old new out_rose R status.OutFault
+Played before after config script old new out_rose R status.ScriptRefused = PlaysFiles before after config script old new out_rose R status.ScriptRefused
+Played before after config script old new out_rose R status.ConfigRefused = IsEmptyRecord R × Reads before after 1 ⊥ × RefusesConfig (before.held config) old new out_rose
+Played before after config script old new out_rose R status.ReadFault = IsEmptyRecord R × ReadsInOrder before after config ⊤ × Told old new read_fault_line out_rose
+Played before after config script old new out_rose R status.NoMemory =
+    (IsEmptyRecord R × ReadsInOrder before after config ⊥ × Told old new no_memory_line out_rose) ⊎ PlaysFiles before after config script old new out_rose R status.NoMemory
+Played before after config script old new out_rose R _ = ⊥

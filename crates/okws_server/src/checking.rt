@@ -3,11 +3,14 @@
 ghost use Rattle.okws_outer.specs.Streams.{Rose};
 ghost use Rattle.okws_server.specs.Ran.{Checked, Lists};
 
-use crate::ending::{out_status, print_config_refusal, print_no_memory, print_read_fault};
+use crate::ending::{
+    NO_MEMORY, out_status, print_config_refusal, print_no_memory, print_read_fault,
+};
 use crate::listing::print_listing;
 use crate::preparing::{ConfigStop, read_config};
 use crate::status::Status;
 use okws_outer::files::Files;
+use okws_outer::printing::print;
 use okws_outer::stream::Sink;
 use okws_plan::configuration::Config;
 use std::alloc::Global;
@@ -20,9 +23,7 @@ fn list<O: Sink>(alloc: Global, out: &mut O, config: &Config) -> Status
     match print_listing(alloc, out, &mut stopped, config) {
         Ok(()) => out_status(stopped),
         Err(_) => {
-            if !stopped {
-                print_no_memory(out);
-            }
+            print(out, &mut stopped, NO_MEMORY);
             Status::NoMemory
         }
     }
@@ -30,7 +31,7 @@ fn list<O: Sink>(alloc: Global, out: &mut O, config: &Config) -> Status
 
 /// Reads a configuration, and prints a line for each of its queries, or where it is refused.
 pub fn check<F: Files, O: Sink>(alloc: Global, files: &mut F, out: &mut O, path: &str) -> Status
-    ensures { Checked (F.held files.old path.now) (O.given out.old) (O.given out.new) (Rose (F.faults files.old) (F.faults files.new)) (Rose (O.faults out.old) (O.faults out.new)) result }
+    ensures { Checked (F.shelf files.old) (F.shelf files.new) path.now (O.given out.old) (O.given out.new) (Rose (O.faults out.old) (O.faults out.new)) result }
 {
     match read_config(alloc, files, path) {
         Ok(config) => list(alloc, out, &config),

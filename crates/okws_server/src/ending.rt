@@ -1,13 +1,12 @@
 //! The last lines of runs that end early.
 
-ghost use Rattle.std.specs.Prelude.{◌≡◌, ◌⊎◌, OnOk};
+ghost use Rattle.std.specs.Prelude.{◌≡◌, OnOk, OnErr, []};
 ghost use Rattle.okws_outer.specs.Printing.{Prints, CountsOn};
-ghost use Rattle.play_script.specs.Refusal.{config_refused, script_refused};
+ghost use Rattle.play_script.specs.Refusal.{script_refused};
 ghost use Rattle.play_script.specs.Rule.{script_rule_number};
-ghost use Rattle.config_reader.specs.RuleNumber.{rule_number};
 ghost use Rattle.okws_server.specs.Ending.{Told, read_fault_line, no_memory_line};
 ghost use Rattle.okws_outer.specs.Streams.{Rose};
-ghost use Rattle.okws_server.specs.Ran.{out_status};
+ghost use Rattle.okws_server.specs.Ran.{out_status, TellsRefusal};
 
 use crate::script::Broken;
 use crate::status::Status;
@@ -36,6 +35,9 @@ fn print_last<O: Sink>(out: &mut O, line: &[u8])
     print(out, &mut stopped, line);
 }
 
+/// The last line of a run where memory was refused.
+pub const NO_MEMORY: &[u8] = b"no memory\n";
+
 /// Prints that a file could not be read.
 pub fn print_read_fault<O: Sink>(out: &mut O)
     ensures { Told (O.given out.old) (O.given out.new) read_fault_line (Rose (O.faults out.old) (O.faults out.new)) }
@@ -47,13 +49,12 @@ pub fn print_read_fault<O: Sink>(out: &mut O)
 pub fn print_no_memory<O: Sink>(out: &mut O)
     ensures { Told (O.given out.old) (O.given out.new) no_memory_line (Rose (O.faults out.old) (O.faults out.new)) }
 {
-    print_last(out, b"no memory\n");
+    print_last(out, NO_MEMORY);
 }
 
 /// Prints where a configuration is refused, and answers how the run ends.
 pub fn print_config_refusal<O: Sink>(alloc: Global, out: &mut O, refusal: Refusal) -> Status
-    ensures status { result ≡ Status.ConfigRefused ⊎ result ≡ Status.NoMemory }
-    ensures told { result ≡ Status.ConfigRefused → Told (O.given out.old) (O.given out.new) (config_refused refusal.line (rule_number refusal.rule)) (Rose (O.faults out.old) (O.faults out.new)) }
+    ensures { TellsRefusal refusal (O.given out.old) (O.given out.new) (Rose (O.faults out.old) (O.faults out.new)) result }
 {
     match config_refused(alloc, refusal.line as usize, refusal.rule.number()) {
         Ok(line) => {
@@ -67,14 +68,15 @@ pub fn print_config_refusal<O: Sink>(alloc: Global, out: &mut O, refusal: Refusa
     }
 }
 
-/// Prints where a script is refused, behind what was printed before.
+/// Prints where a script is refused, behind what was printed before; nothing where memory is refused.
 pub fn print_script_refusal<O: Sink>(
     alloc: Global,
     out: &mut O,
     stopped: &mut bool,
     found: Broken,
 ) -> Result<(), AllocError>
-    ensures printed { OnOk result (Prints (O.given out.old) stopped.old (O.given out.new) stopped.new (script_refused found.line (script_rule_number found.rule))) }
+    ensures ok { OnOk result (Prints (O.given out.old) stopped.old (O.given out.new) stopped.new (script_refused found.line (script_rule_number found.rule))) }
+    ensures err { OnErr result (Prints (O.given out.old) stopped.old (O.given out.new) stopped.new []) }
     ensures counted { CountsOn (O.faults out.old) stopped.old (O.faults out.new) stopped.new }
 {
     let line = script_refused(alloc, found.line, found.rule.number())?;

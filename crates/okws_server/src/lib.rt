@@ -13,4 +13,4 @@ pub mod status;
 mod tests;
 mod top;
 
-pub use top::okws;
+pub use top::{answer_no_memory, answer_usage, okws};

@@ -1,8 +1,8 @@
 //! The files of a run, read and judged before anything of them is done.
 
-ghost use Rattle.std.specs.Prelude.{◌≡◌, ◌≤◌, IfOk, Some};
+ghost use Rattle.std.specs.Prelude.{◌≡◌, IfOk, IsErrOf, Some};
 ghost use Rattle.okws_plan.specs.Sound.{IsSound};
-ghost use Rattle.okws_outer.specs.Streams.{Rose};
+ghost use Rattle.okws_outer.specs.Shelf.{Reads};
 ghost use Rattle.config_reader.specs.Ruled.{AreRuled};
 ghost use Rattle.okws_server.specs.Ran.{stop_of, ReadsConfig, IsPrepared};
 
@@ -36,7 +36,8 @@ fn stop_of(error: ConfigError) -> ConfigStop
 
 /// The configuration that bytes give.
 fn config_of(alloc: Global, bytes: &[u8]) -> Result<Config, ConfigStop>
-    ensures is { ReadsConfig (Some bytes.now) ⊥ result }
+    ensures is { ReadsConfig (Some bytes.now) result }
+    ensures judged { IsErrOf result ConfigStop.ReadFault → ⊥ }
     ensures sound { IfOk result IsSound }
     ensures rules { IfOk result AreRuled }
 {
@@ -48,11 +49,10 @@ fn config_of(alloc: Global, bytes: &[u8]) -> Result<Config, ConfigStop>
 
 /// Reads the file at a path whole, and the configuration that it gives.
 pub fn read_config<F: Files>(alloc: Global, files: &mut F, path: &str) -> Result<Config, ConfigStop>
-    ensures reads { ReadsConfig (F.held files.old path.now) (Rose (F.faults files.old) (F.faults files.new)) result }
+    ensures is { ReadsConfig ((F.shelf files.old).held path.now) result }
     ensures sound { IfOk result IsSound }
     ensures rules { IfOk result AreRuled }
-    ensures held { F.held files.new ≡ F.held files.old }
-    ensures faults { F.faults files.old ≤ F.faults files.new }
+    ensures reads { Reads (F.shelf files.old) (F.shelf files.new) 1 (IsErrOf result ConfigStop.ReadFault) }
 {
     match read_file(alloc, files, path, LONGEST_CONFIGURATION) {
         Err(ReadError::NoMemory) => Err(ConfigStop::NoMemory),
@@ -79,14 +79,14 @@ pub enum Stop {
     NoMemory,
 }
 
-/// Reads a configuration, judges it, and then reads a script.
+/// Reads a configuration, judges it, and then reads a script, whose file isn't opened before.
 pub fn prepare<F: Files>(
     alloc: Global,
     files: &mut F,
     config: &str,
     script: &str,
 ) -> Result<Prepared, Stop>
-    ensures prepared { IsPrepared (F.held files.old config.now) (F.held files.old script.now) (Rose (F.faults files.old) (F.faults files.new)) result }
+    ensures prepared { IsPrepared (F.shelf files.old) (F.shelf files.new) config.now script.now result }
     ensures sound { IfOk result (λ both. IsSound both.config) }
     ensures rules { IfOk result (λ both. AreRuled both.config) }
 {

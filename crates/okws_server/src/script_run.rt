@@ -1,6 +1,6 @@
 //! A run of a script, from its bytes to its record.
 
-ghost use Rattle.std.specs.Prelude.{◌≤◌, length};
+ghost use Rattle.std.specs.Prelude.{◌≡◌, ◌≤◌, length};
 ghost use Rattle.std.specs.Arc.{arc_value};
 ghost use Rattle.okws_plan.specs.Sound.{IsSound};
 ghost use Rattle.okws_outer.specs.Printing.{Prints, CountsOn};
@@ -9,7 +9,7 @@ ghost use Rattle.config_reader.specs.Ruled.{AreRuled};
 ghost use Rattle.okws_server.specs.Headline.{IsEmptyRecord};
 ghost use Rattle.okws_server.specs.Ran.{Plays, PlaysText, Ends};
 
-use crate::ending::{out_status, print_no_memory, print_script_refusal};
+use crate::ending::{NO_MEMORY, out_status, print_script_refusal};
 use crate::preparing::Prepared;
 use crate::script::{Broken, play_lines};
 use crate::status::Status;
@@ -21,6 +21,7 @@ use monitor_model::record::Record;
 use okws_base::items::Items;
 use okws_base::journal::Past;
 use okws_base::limit::LONGEST_SCRIPT;
+use okws_outer::printing::print;
 use okws_outer::stream::Sink;
 use okws_plan::configuration::Config;
 use okws_play::Play;
@@ -120,13 +121,27 @@ fn ending_of<O: Sink>(
         None => out_status(*stopped),
         Some(found) => match print_script_refusal(alloc, out, stopped, found) {
             Ok(()) => Status::ScriptRefused,
-            Err(_) => Status::NoMemory,
+            Err(_) => {
+                print(out, stopped, NO_MEMORY);
+                Status::NoMemory
+            }
         },
     }
 }
 
+/// The record that is given with a status: where memory was refused, the empty one.
+fn record_with(alloc: Global, status: Status, record: Record) -> Record
+    ensures given { (status ≡ Status.NoMemory → ⊥) → result ≡ record }
+    ensures empty { status ≡ Status.NoMemory → IsEmptyRecord result }
+{
+    match status {
+        Status::NoMemory => empty_record(alloc),
+        _ => record,
+    }
+}
+
 /// Plays a script and prints what it prints, and the last line of one that is refused. Where memory
-/// is refused, the record is empty.
+/// is refused, the record is empty, and the last line says so.
 fn play_to_end<O: Sink>(alloc: Global, config: Config, text: &[u8], out: &mut O) -> (Status, Record)
     requires sound { IsSound config }
     requires rules { AreRuled config }
@@ -137,12 +152,10 @@ fn play_to_end<O: Sink>(alloc: Global, config: Config, text: &[u8], out: &mut O)
         Ok(outcome) => {
             let Outcome { broken, record } = outcome;
             let status = ending_of(alloc, out, &mut stopped, broken);
-            (status, record)
+            (status, record_with(alloc, status, record))
         }
         Err(_) => {
-            if !stopped {
-                print_no_memory(out);
-            }
+            print(out, &mut stopped, NO_MEMORY);
             (Status::NoMemory, empty_record(alloc))
         }
     }

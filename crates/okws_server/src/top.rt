@@ -4,6 +4,7 @@ ghost use Rattle.std.specs.Prelude.{◌≡◌, ◌⊎◌, Some, IsSome, List, �
 ghost use Rattle.okws_outer.specs.Streams.{Rose};
 ghost use Rattle.okws_outer.specs.declared.world.Outside.{Outside};
 ghost use Rattle.okws_server.specs.Command.{IsCheck, IsPlay};
+ghost use Rattle.okws_server.specs.Ending.{Told, no_memory_line};
 ghost use Rattle.okws_server.specs.Headline.{IsEmptyRecord};
 ghost use Rattle.okws_server.specs.Ran.{Checked, Played};
 
@@ -28,7 +29,7 @@ fn play<F: Files, O: Sink>(
     config: &str,
     script: &str,
 ) -> (Status, Record)
-    ensures { Played (F.held files.old config.now) (F.held files.old script.now) (O.given out.old) (O.given out.new) (Rose (F.faults files.old) (F.faults files.new)) (Rose (O.faults out.old) (O.faults out.new)) result.1 result.0 }
+    ensures { Played (F.shelf files.old) (F.shelf files.new) config.now script.now (O.given out.old) (O.given out.new) (Rose (O.faults out.old) (O.faults out.new)) result.1 result.0 }
 {
     match prepare(alloc, files, config, script) {
         Ok(prepared) => play_prepared(alloc, prepared, out),
@@ -51,10 +52,22 @@ fn play<F: Files, O: Sink>(
 const USAGE: &[u8] =
     b"usage: okws check CONFIG\n       okws play CONFIG SCRIPT\n\ncheck  reads a configuration, and lists its queries\nplay   plays a script of a site by its configuration\n";
 
-/// Prints how the program is called.
-fn print_usage<O: Sink>(out: &mut O) {
+/// Prints how the program is called, as for words that are no command. Takes no memory.
+pub fn answer_usage<O: Sink>(out: &mut O) -> Status
+    ensures { result ≡ Status.Usage }
+{
     let mut stopped = false;
     print(out, &mut stopped, USAGE);
+    Status::Usage
+}
+
+/// Prints that memory was refused, as where it was refused before the words were there. Takes no memory.
+pub fn answer_no_memory<O: Sink>(out: &mut O) -> Status
+    ensures status { result ≡ Status.NoMemory }
+    ensures told { Told (O.given out.old) (O.given out.new) no_memory_line (Rose (O.faults out.old) (O.faults out.new)) }
+{
+    print_no_memory(out);
+    Status::NoMemory
 }
 
 /// What the words say is done with the objects of a run.
@@ -65,11 +78,12 @@ fn run<F: Files, O: Sink>(
     out: &mut O,
 ) -> (Status, Record)
     ensures usage { result.0 ≡ Status.Usage → ((config script : List ℕ) → IsPlay words.now config script → ⊥) × ((config : List ℕ) → IsCheck words.now config → ⊥) }
+    ensures empty { result.0 ≡ Status.Usage → IsEmptyRecord result.1 }
     ensures command { (result.0 ≡ Status.Usage) ⊎ ((config : List ℕ) × (script : List ℕ) × IsPlay words.now config script) ⊎ ((config : List ℕ) × IsCheck words.now config) }
     ensures play { (config script : List ℕ) → IsPlay words.now config script →
-        Played (F.held files.old config) (F.held files.old script) (O.given out.old) (O.given out.new) (Rose (F.faults files.old) (F.faults files.new)) (Rose (O.faults out.old) (O.faults out.new)) result.1 result.0 }
+        Played (F.shelf files.old) (F.shelf files.new) config script (O.given out.old) (O.given out.new) (Rose (O.faults out.old) (O.faults out.new)) result.1 result.0 }
     ensures check { (config : List ℕ) → IsCheck words.now config → IsEmptyRecord result.1 ×
-        Checked (F.held files.old config) (O.given out.old) (O.given out.new) (Rose (F.faults files.old) (F.faults files.new)) (Rose (O.faults out.old) (O.faults out.new)) result.0 }
+        Checked (F.shelf files.old) (F.shelf files.new) config (O.given out.old) (O.given out.new) (Rose (O.faults out.old) (O.faults out.new)) result.0 }
 {
     if let Some((config, script)) = play_of(words) {
         return play(alloc, files, out, config, script);
@@ -78,8 +92,7 @@ fn run<F: Files, O: Sink>(
         let status = check(alloc, files, out, config);
         return (status, empty_record(alloc));
     }
-    print_usage(out);
-    (Status::Usage, empty_record(alloc))
+    (answer_usage(out), empty_record(alloc))
 }
 
 /// A run of the program by its words, over the objects of its world: how it ended, and what it left.
@@ -97,13 +110,14 @@ pub fn okws<R, W: World>(
     requires { IsSome (W.objects world.old) }
     ensures whole { IsSome (W.objects world.new) }
     ensures usage { result.0 ≡ Status.Usage → ((config script : List ℕ) → IsPlay words.now config script → ⊥) × ((config : List ℕ) → IsCheck words.now config → ⊥) }
+    ensures empty { result.0 ≡ Status.Usage → IsEmptyRecord result.1 }
     ensures command { (result.0 ≡ Status.Usage) ⊎ ((config : List ℕ) × (script : List ℕ) × IsPlay words.now config script) ⊎ ((config : List ℕ) × IsCheck words.now config) }
     ensures play { (config script : List ℕ) (before after : Outside W.Files W.Out) → IsPlay words.now config script →
         W.objects world.old ≡ Some before → W.objects world.new ≡ Some after →
-        Played (W.Files.held before.files config) (W.Files.held before.files script) (W.Out.given before.out) (W.Out.given after.out) (Rose (W.Files.faults before.files) (W.Files.faults after.files)) (Rose (W.Out.faults before.out) (W.Out.faults after.out)) result.1 result.0 }
+        Played (W.Files.shelf before.files) (W.Files.shelf after.files) config script (W.Out.given before.out) (W.Out.given after.out) (Rose (W.Out.faults before.out) (W.Out.faults after.out)) result.1 result.0 }
     ensures check { (config : List ℕ) (before after : Outside W.Files W.Out) → IsCheck words.now config →
         W.objects world.old ≡ Some before → W.objects world.new ≡ Some after → IsEmptyRecord result.1 ×
-        Checked (W.Files.held before.files config) (W.Out.given before.out) (W.Out.given after.out) (Rose (W.Files.faults before.files) (W.Files.faults after.files)) (Rose (W.Out.faults before.out) (W.Out.faults after.out)) result.0 }
+        Checked (W.Files.shelf before.files) (W.Files.shelf after.files) config (W.Out.given before.out) (W.Out.given after.out) (Rose (W.Out.faults before.out) (W.Out.faults after.out)) result.0 }
 {
     let Outside {
         mut files,

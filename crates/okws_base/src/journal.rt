@@ -141,6 +141,7 @@ impl<T: Drop> Journal<T> {
         ensures ok { OnOk result (self.new.past ≡ P.item parts.now ∷ self.old.past) }
         ensures err { OnErr result (self.new.past ≡ self.old.past) }
         ensures keeps { self.new.keeps ≡ self.old.keeps }
+        ensures room { self.old.room ≤ self.new.room + 1 }
     {
         if self.keeps {
             let item = parts.make(alloc)?;

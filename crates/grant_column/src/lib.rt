@@ -4,5 +4,7 @@
 #![tactic(auto)]
 
 mod grants;
+mod head;
 
 pub use grants::Grants;
+pub use head::{Granting, Head};

@@ -1,13 +1,14 @@
 -- The column of okd as contracts see it.
-use Rattle.std.specs.Prelude.{ℕ, List, ◌∷◌}
+use Rattle.std.specs.Prelude.{ℕ, Bool, List, ◌∷◌}
 use Rattle.okws_base.specs.declared.journal.Entry.{Entry}
 use Rattle.okws_plan.specs.declared.configuration.Config.{Config}
 use Rattle.okws_plan.specs.declared.event.OkdEvent.{OkdEvent}
 
--- The site's configuration, the entries of the column, the newest first, and the number that new entries name.
+-- The site's configuration, the entries of the column, the newest first, whether they are kept in memory, and the number that new entries name.
 pub record Seen : Type 0 where
   pub config : Config
   pub past : List (Entry OkdEvent)
+  pub keeps : Bool
   pub holder : ℕ
 
 -- The same with one entry more.

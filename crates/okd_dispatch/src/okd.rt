@@ -7,6 +7,7 @@ ghost use Rattle.okws_plan.specs.Configuration.{owner};
 ghost use Rattle.okws_plan.specs.declared.event.OkdEvent.TheVariants as event;
 ghost use Rattle.monitor_model.specs.Standing.{up_at_okd};
 ghost use Rattle.monitor_model.specs.Okd.{accept_verdict};
+ghost use Rattle.monitor_model.specs.Columns.{OkdLaw};
 ghost use Rattle.std.specs.Arc.{arc_value};
 ghost use Rattle.okd_dispatch.specs.Seen.{entered};
 ghost use Rattle.okd_dispatch.specs.Tied.{places};
@@ -39,22 +40,22 @@ impl Model for Okd {
 
     ghost Value = { Seen };
 
-    ghost view = { λ a. record { config = arc_value a.config; past = a.journal.past; holder = a.holder } };
+    ghost view = { λ a. record { config = arc_value a.config; past = a.journal.past; keeps = a.journal.keeps; holder = a.holder } };
 
     ghost invariant = { λ a. Tied (arc_value a.config) a.journal.past a.journal.room a.ups.items };
 }
 
 impl Okd {
-    /// The column of a site of at most 64 services, with an empty journal. New entries name number 0
-    /// until `hold`.
-    pub fn new(alloc: Global, config: Arc<Config, Global>) -> Result<Self, AllocError>
+    /// The column of a site of at most 64 services, with an empty journal, which keeps its entries in
+    /// memory or not. New entries name number 0 until `hold`.
+    pub fn new(alloc: Global, config: Arc<Config, Global>, keeps: bool) -> Result<Self, AllocError>
         requires { length (arc_value config).services ≤ MOST_SERVICES }
-        ensures { IfOk result (λ o. o ≡ record { config = arc_value config; past = []; holder = 0 }) }
+        ensures { IfOk result (λ o. o ≡ record { config = arc_value config; past = []; keeps = keeps; holder = 0 }) }
     {
         let ups = vec![in alloc; None; config.services.as_slice().len()]?;
         Ok(Okd {
             config,
-            journal: Journal::new(alloc),
+            journal: Journal::new(alloc, keeps),
             ups,
             holder: 0,
         })
@@ -68,9 +69,10 @@ impl Okd {
     }
 
     /// Has the incarnation be up, in the place of the one that was, and keeps the place of its `down`.
-    /// Where memory is refused, all is as before.
+    /// Incarnations count from 1. Where memory is refused, all is as before.
     pub fn up(&mut self, service: u16, incarnation: u32) -> Result<(), AllocError>
-        requires { service < length self.old.config.services }
+        requires service { service < length self.old.config.services }
+        requires counted { 0 < incarnation }
         ensures ok { OnOk result (self.new ≡ entered self.old (event.Up service incarnation)) }
         ensures err { OnErr result (self.new ≡ self.old) }
     {
@@ -144,9 +146,10 @@ impl Okd {
         Ok(way)
     }
 
-    /// What was entered.
+    /// What was entered: each entry fits the entries before it.
     pub fn close(self) -> Past<Entry<OkdEvent>>
-        ensures { result ≡ self.past }
+        ensures past { result ≡ self.past }
+        ensures law { OkdLaw result }
     {
         self.journal.into_past()
     }

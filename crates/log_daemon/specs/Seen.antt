@@ -4,10 +4,11 @@ use Rattle.okws_base.specs.declared.journal.Entry.{Entry}
 use Rattle.okws_plan.specs.declared.configuration.Config.{Config}
 use Rattle.okws_plan.specs.declared.event.LogEvent.{LogEvent}
 
--- The site's configuration, the entries of the column, the newest first, what the sink was given where it tells, the count of its faults, that a write has failed, and the number that new entries name.
+-- The site's configuration, the entries of the column, the newest first, whether they are kept in memory, what the sink was given where it tells, the count of its faults, that a write has failed, and the number that new entries name.
 pub record Seen : Type 0 where
   pub config : Config
   pub past : List (Entry LogEvent)
+  pub keeps : Bool
   pub given : Option (List ℕ)
   pub faults : ℕ
   pub stopped : Bool

@@ -1,11 +1,10 @@
 -- What the log column keeps is what its past says.
-use Rattle.std.specs.Prelude.{◌≡◌, ℕ, ◌≤◌, Bool, true, false, List, ◌++◌, Option, IfSome, length}
-use Rattle.okws_base.specs.Past.{standing_by, last_by}
+use Rattle.std.specs.Prelude.{◌≡◌, ℕ, Bool, true, false, List, ◌++◌, Option, IfSome, length}
 use Rattle.okws_base.specs.declared.journal.Entry.{Entry}
 use Rattle.okws_plan.specs.declared.configuration.Config.{Config}
 use Rattle.okws_plan.specs.declared.event.LogEvent.{LogEvent}
-use Rattle.grant_column.specs.Granted.{Granted, service_count, stands, last, places}
-use Rattle.monitor_model.specs.Standing.{log_grant}
+use Rattle.grant_column.specs.Granted.{Granted, service_count}
+use Rattle.monitor_model.specs.Columns.{LogLaw}
 use Rattle.monitor_model.specs.Logd.{log_text}
 use Rattle.log_daemon.specs.Seen.{IsFront}
 
@@ -14,11 +13,8 @@ abbrev pub Owes : Bool → List ℕ → List ℕ → List ℕ → Type 0
 Owes false given due text = given ++ due ≡ text
 Owes true given due text = IsFront given text
 
--- What the log column keeps beside its journal is what its past says, what its sink was given and what is due are as owed, and a place is kept for each revocation.
-pub record Tied (C : Config) (J : List (Entry LogEvent)) (room : ℕ) (g : Granted) (given : Option (List ℕ)) (due : List ℕ) (stopped : Bool) : Type 0 where
+-- What the log column keeps beside its head is what its past says, each entry fits those before it, and what its sink was given and what is due are as owed.
+pub record Tied (C : Config) (J : List (Entry LogEvent)) (g : Granted) (given : Option (List ℕ)) (due : List ℕ) (stopped : Bool) : Type 0 where
   pub services : service_count g ≡ length C.services
-  pub standing_is : (s : ℕ) → stands g s ≡ standing_by log_grant J s
-  pub last_is : (s : ℕ) → last g s ≡ last_by log_grant J s
-  -- a place is kept for each revocation
-  pub places_are : places g ≤ room
+  pub law : LogLaw J
   pub owes : IfSome given (λ text. Owes stopped text due (log_text C J))

@@ -8,17 +8,18 @@ ghost use Rattle.okws_base.specs.declared.limit.TheConstants.{MOST_SERVICES};
 ghost use Rattle.okws_plan.specs.declared.event.LogEvent.TheVariants as event;
 ghost use Rattle.okws_outer.specs.Streams.{Rose};
 ghost use Rattle.monitor_model.specs.Standing.{log_grant, live_at_log};
+ghost use Rattle.monitor_model.specs.Columns.{LogLaw};
 ghost use Rattle.monitor_model.specs.Logd.{log_verdict, log_text, log_line, line_if};
 ghost use Rattle.okws_plan.specs.Configuration.{service_name};
 ghost use Rattle.log_daemon.specs.Seen.{entered, IsFront};
 ghost use Rattle.log_daemon.specs.Stopped.{is_stopped};
 
 use crate::line::{may_log, with_line};
-use grant_column::Grants;
+use grant_column::{Granting, Head};
 use monitor_model::verdict::Noted;
 use okws_base::denial::Rule;
 use okws_base::items::Items;
-use okws_base::journal::{Entry, Journal, Past};
+use okws_base::journal::{Entry, Past};
 use okws_base::limit::LONGEST_LOG;
 use okws_outer::stream::{Put, Sink};
 use okws_plan::configuration::{Config, name_of};
@@ -27,6 +28,16 @@ use std::alloc::{AllocError, Global};
 use std::marker::Model;
 use std::sync::Arc;
 use turn_lock::Journaled;
+
+// The log column, as one that grants.
+#[derive(Drop)]
+pub struct LogColumn;
+
+impl Granting for LogColumn {
+    type Event = LogEvent;
+
+    ghost grant = { log_grant };
+}
 
 /// What writing out comes to.
 #[derive(Clone, Copy, Debug, PartialEq, Eq)]
@@ -44,13 +55,11 @@ pub enum WriteOut {
 pub struct LogDaemon<S: Sink> {
     alloc: Global,
     config: Arc<Config, Global>,
-    journal: Journal<Entry<LogEvent>>,
-    grants: Grants,
+    head: Head<LogColumn>,
     sink: S,
     // The end of the log's text that the sink wasn't given yet.
     due: Vec<u8>,
     stopped: bool,
-    holder: u16,
 }
 
 impl<S: Sink> Model for LogDaemon<S> {
@@ -60,43 +69,44 @@ impl<S: Sink> Model for LogDaemon<S> {
 
     ghost Value = { Seen };
 
-    ghost view = { λ a. record { config = arc_value a.config; past = a.journal.past; given = S.given a.sink; faults = S.faults a.sink; stopped = a.stopped; holder = a.holder } };
+    ghost view = { λ a. record { config = arc_value a.config; past = a.head.past; keeps = a.head.keeps; given = S.given a.sink; faults = S.faults a.sink; stopped = a.stopped; holder = a.head.holder } };
 
-    ghost invariant = { λ a. Tied (arc_value a.config) a.journal.past a.journal.room a.grants (S.given a.sink) a.due.items a.stopped };
+    ghost invariant = { λ a. Tied (arc_value a.config) a.head.past a.head.granted (S.given a.sink) a.due.items a.stopped };
 }
 
 impl<S: Sink> LogDaemon<S> {
-    /// The column of a site, with an empty journal, over a sink that was given nothing yet. New
-    /// entries name number 0 until `hold`. Where memory is refused, the sink is handed back.
-    pub fn new(alloc: Global, config: Arc<Config, Global>, sink: S) -> Result<Self, S>
+    /// The column of a site, with an empty journal, which keeps its entries in memory or not, over a
+    /// sink that was given nothing yet. New entries name number 0 until `hold`. Where memory is
+    /// refused, the sink is handed back.
+    pub fn new(alloc: Global, config: Arc<Config, Global>, sink: S, keeps: bool) -> Result<Self, S>
         requires services { length (arc_value config).services ≤ MOST_SERVICES }
         requires fresh { IfSome (S.given sink) (λ given. given ≡ []) }
-        ensures ok { IfOk result (λ d. d ≡ record { config = arc_value config; past = []; given = S.given sink; faults = S.faults sink; stopped = false; holder = 0 }) }
+        ensures ok { IfOk result (λ d. d ≡ record { config = arc_value config; past = []; keeps = keeps; given = S.given sink; faults = S.faults sink; stopped = false; holder = 0 }) }
         ensures err { IfErr result (λ s. s ≡ sink) }
     {
         let services = config.services.as_slice().len() as u16;
-        match Grants::new(alloc, services) {
+        match Head::new(alloc, services, keeps) {
             Err(_) => Err(sink),
-            Ok(grants) => Ok(LogDaemon {
+            Ok(head) => Ok(LogDaemon {
                 alloc,
                 config,
-                journal: Journal::new(alloc),
-                grants,
+                head,
                 sink,
                 due: Vec::new(alloc),
                 stopped: false,
-                holder: 0,
             }),
         }
     }
 
-    /// What was entered, and the sink. What is still due isn't written any more.
+    /// What was entered, where each entry fits the entries before it, and the sink. What is still due
+    /// isn't written any more.
     pub fn close(self) -> (Past<Entry<LogEvent>>, S)
         ensures past { result.0 ≡ self.past }
+        ensures law { LogLaw result.0 }
         ensures given { S.given result.1 ≡ self.given }
         ensures faults { S.faults result.1 ≡ self.faults }
     {
-        (self.journal.into_past(), self.sink)
+        (self.head.close(), self.sink)
     }
 
     /// The incarnation of the service that stands.
@@ -104,7 +114,7 @@ impl<S: Sink> LogDaemon<S> {
         requires { service < length self.now.config.services }
         ensures { result ≡ standing_by log_grant self.now.past service }
     {
-        self.grants.standing(service)
+        self.head.standing(service)
     }
 
     /// The greatest incarnation of the service that was installed, 0 for none.
@@ -112,7 +122,7 @@ impl<S: Sink> LogDaemon<S> {
         requires { service < length self.now.config.services }
         ensures { result ≡ last_by log_grant self.now.past service }
     {
-        self.grants.last(service)
+        self.head.last(service)
     }
 
     /// Has the incarnation stand, and keeps the place of its revocation. Where memory is refused, all
@@ -123,16 +133,11 @@ impl<S: Sink> LogDaemon<S> {
         ensures ok { OnOk result (self.new ≡ entered self.old (event.Install service incarnation)) }
         ensures err { OnErr result (self.new ≡ self.old) }
     {
-        self.journal.make_room(self.grants.places() + 2)?;
-        self.grants.install(service, incarnation, None)?;
-        self.journal.enter(Entry {
-            worker: self.holder,
-            event: LogEvent::Install {
-                service,
-                incarnation,
-            },
-        });
-        Ok(())
+        let event = LogEvent::Install {
+            service,
+            incarnation,
+        };
+        self.head.install(service, incarnation, None, event)
     }
 
     /// Has the incarnation stand no longer. Where it doesn't stand, nothing changes. Takes no memory.
@@ -140,16 +145,11 @@ impl<S: Sink> LogDaemon<S> {
         requires { service < length self.old.config.services }
         ensures { self.new ≡ (if live_at_log self.old.past service incarnation then entered self.old (event.Revoke service incarnation) else self.old) }
     {
-        if self.grants.standing(service) == Some(incarnation) {
-            self.grants.revoke(service, incarnation);
-            self.journal.enter(Entry {
-                worker: self.holder,
-                event: LogEvent::Revoke {
-                    service,
-                    incarnation,
-                },
-            });
-        }
+        let event = LogEvent::Revoke {
+            service,
+            incarnation,
+        };
+        self.head.revoke(service, incarnation, event);
     }
 
     /// Decides a text that an incarnation logs. The line of one that is logged becomes due at the
@@ -165,7 +165,7 @@ impl<S: Sink> LogDaemon<S> {
         ensures ok { OnOk result (self.new ≡ entered self.old (event.Log service incarnation text)) }
         ensures err { OnErr result (self.new ≡ self.old) }
     {
-        self.journal.make_room(self.grants.places() + 1)?;
+        self.head.make_room()?;
         let noted = self.noted(service, incarnation, text.as_slice());
         if noted == Noted::Logged && !self.stopped {
             let name = name_of(&self.config, service);
@@ -177,13 +177,10 @@ impl<S: Sink> LogDaemon<S> {
                 text.as_slice(),
             )?;
         }
-        self.journal.enter(Entry {
-            worker: self.holder,
-            event: LogEvent::Log {
-                service,
-                incarnation,
-                text,
-            },
+        self.head.enter(LogEvent::Log {
+            service,
+            incarnation,
+            text,
         });
         Ok(noted)
     }
@@ -192,7 +189,7 @@ impl<S: Sink> LogDaemon<S> {
         requires { service < length self.now.config.services }
         ensures { result ≡ log_verdict self.now.config self.now.past service incarnation text.now }
     {
-        if self.grants.standing(service) != Some(incarnation) {
+        if self.head.standing(service) != Some(incarnation) {
             Noted::Denied(Rule::StaleAtLog)
         } else if !may_log(self.config.loggers.as_slice(), service) {
             Noted::Denied(Rule::LogNotGranted)
@@ -263,10 +260,10 @@ impl<S: Sink> Journaled for LogDaemon<S> {
         ensures holder { self.new.holder ≡ number }
         ensures all { self.new ≡ record self.old { holder = number } }
     {
-        self.holder = number;
+        self.head.hold(number);
     }
 
     fn holder(&self) -> u16 {
-        self.holder
+        self.head.holder()
     }
 }

@@ -63,7 +63,7 @@ fn fresh<'a>(alloc: Global, failing: &'a [u64]) -> Result<LogDaemon<MemorySink<'
 {
     let config = Arc::new(alloc, site(alloc)?)?;
     let sink = MemorySink::new(alloc, 1024, failing)?;
-    match LogDaemon::new(alloc, config, sink) {
+    match LogDaemon::new(alloc, config, sink, true) {
         Err(_) => Err(Fail::from("memory")),
         Ok(daemon) => Ok(daemon),
     }
@@ -127,7 +127,7 @@ fn lines_are_written_once(rt: HostRuntime) -> Result<(), Fail> {
     assert_eq!(rt; daemon.write_out(), WriteOut::Written);
     assert_eq!(rt; daemon.write_out(), WriteOut::Written);
     let (past, sink) = daemon.close();
-    assert_eq!(rt; past.as_slice().len(), 5);
+    assert_eq!(rt; past.as_slice().map(|entries| entries.len()), Some(5));
     assert_eq!(rt;
         sink.given(),
         b"guest 1 hi\nguest 1 a\\x0a\\x5c\n".as_slice()

@@ -7,9 +7,7 @@ invariant_of-self g c =
     let before = c.self.invariant in
     record {
       services = before.services;
-      standing_is = before.standing_is;
-      last_is = before.last_is;
-      places_are = before.places_are;
+      law = before.law;
       owes = owes_nothing _ _ _ _ c.if-self.false c.clear.ensures.items (whole_given _ _ _ _ _ _ c.if-self.false c.deref.ensures.value c.in-Done.ensures.untold before.owes c.in-Done.ensures.bytes);
     }
 
@@ -18,9 +16,7 @@ invariant_of-self-in-Stopped g c =
     let before = c.self.invariant in
     record {
       services = before.services;
-      standing_is = before.standing_is;
-      last_is = before.last_is;
-      places_are = before.places_are;
+      law = before.law;
       owes = front_given _ _ _ _ _ c.in-Stopped.field-0 _ c.if-self.false c.deref.ensures.value c.in-Stopped.ensures.untold before.owes c.in-Stopped.ensures.bytes.1;
     }
 

@@ -11,15 +11,18 @@ ghost use Rattle.okws_plan.specs.declared.event.ProxyEvent.TheVariants as event;
 ghost use Rattle.okws_plan.specs.declared.statement.Answer.{Answer};
 ghost use Rattle.okws_outer.specs.Streams.{Rose};
 ghost use Rattle.monitor_model.specs.Standing.{proxy_grant, live_at_proxy};
+ghost use Rattle.monitor_model.specs.Columns.{ProxyLaw};
+ghost use Rattle.token_core.specs.Token.{token_of};
 ghost use Rattle.monitor_model.specs.Proxy.{open_verdict, call_answer, call_verdict, call_denial, rows};
 ghost use Rattle.monitor_model.specs.declared.verdict.Verdict.{Verdict};
 ghost use Rattle.db_proxy.specs.Seen.{entered};
 
 use crate::answering::within;
 use crate::granting::{allowed, denial};
-use grant_column::Grants;
+use grant_column::{Granting, Head};
 use monitor_model::verdict::Verdict;
-use okws_base::journal::{Entry, Journal, Past};
+use okws_base::journal::{Entry, Past};
+use okws_base::told::{Told, Whole};
 use okws_base::value::Token;
 use okws_outer::keeper::{Keeper, RunError};
 use okws_plan::configuration::Config;
@@ -27,7 +30,18 @@ use okws_plan::event::{Call, Mark, ProxyEvent};
 use std::alloc::{AllocError, Global};
 use std::marker::Model;
 use std::sync::Arc;
+use token_core::Seed;
 use turn_lock::Journaled;
+
+// A proxy's column, as one that grants.
+#[derive(Drop)]
+pub struct ProxyColumn;
+
+impl Granting for ProxyColumn {
+    type Event = ProxyEvent;
+
+    ghost grant = { proxy_grant };
+}
 
 /// The column of a database proxy: a value that stands for its journal.
 #[derive(Drop)]
@@ -35,66 +49,70 @@ pub struct Proxy<K: Keeper> {
     alloc: Global,
     config: Arc<Config, Global>,
     number: u16,
-    journal: Journal<Entry<ProxyEvent>>,
-    grants: Grants,
+    head: Head<ProxyColumn>,
     keeper: K,
-    holder: u16,
+    // The seed of the tokens that are issued, which proofs alone know.
+    seed: Told<Seed>,
 }
 
 impl<K: Keeper> Model for Proxy<K> {
-    ghost use Rattle.db_proxy.specs.Seen.{Seen};
+    ghost use Rattle.db_proxy.specs.Seen.{Seen, seed_in};
     ghost use Rattle.db_proxy.specs.Tied.{Tied};
     ghost use Rattle.std.specs.Arc.{arc_value};
 
     ghost Value = { Seen };
 
-    ghost view = { λ a. record { config = arc_value a.config; number = a.number; past = a.journal.past; told = K.told a.keeper; faults = K.faults a.keeper; steady = K.steady a.keeper; holder = a.holder } };
+    ghost view = { λ a. record { config = arc_value a.config; number = a.number; seed = seed_in a.seed.past; past = a.head.past; keeps = a.head.keeps; told = K.told a.keeper; faults = K.faults a.keeper; steady = K.steady a.keeper; holder = a.head.holder } };
 
-    ghost invariant = { λ a. Tied (arc_value a.config) a.number a.journal.past a.journal.room a.grants (K.tables a.keeper) (K.told a.keeper) };
+    ghost invariant = { λ a. Tied (arc_value a.config) a.number (seed_in a.seed.past) a.head.past a.head.granted (K.tables a.keeper) (K.told a.keeper) };
 }
 
 impl<K: Keeper> Proxy<K> {
-    /// The column of the proxy of this number, with an empty journal, over a keeper that was made
-    /// for its tables. New entries name number 0 until `hold`. Where memory is refused, the keeper is
-    /// handed back.
+    /// The column of the proxy of this number, with an empty journal, which keeps its entries in
+    /// memory or not, over a keeper that was made for its tables. The tokens that are issued are those
+    /// of the seed, which the column doesn't keep. New entries name number 0 until `hold`. Where memory
+    /// is refused, the keeper is handed back.
     pub fn new(
         alloc: Global,
         config: Arc<Config, Global>,
         number: u16,
+        seed: &Seed,
         keeper: K,
+        keeps: bool,
     ) -> Result<Self, K>
         requires declared { number < length (arc_value config).proxies }
         requires services { length (arc_value config).services ≤ MOST_SERVICES }
         requires rules { QueriesKeepRules (arc_value config) number }
         requires tables { K.tables keeper ≡ tables (arc_value config) number }
         requires first { IfSome (K.told keeper) (λ T. T ≡ first_rows (arc_value config) number) }
-        ensures ok { IfOk result (λ p. p ≡ record { config = arc_value config; number = number; past = []; told = K.told keeper; faults = K.faults keeper; steady = K.steady keeper; holder = 0 }) }
+        ensures ok { IfOk result (λ p. p ≡ record { config = arc_value config; number = number; seed = seed.now; past = []; keeps = keeps; told = K.told keeper; faults = K.faults keeper; steady = K.steady keeper; holder = 0 }) }
         ensures err { IfErr result (λ k. k ≡ keeper) }
     {
         let services = config.services.as_slice().len() as u16;
-        match Grants::new(alloc, services) {
+        match Head::new(alloc, services, keeps) {
             Err(_) => Err(keeper),
-            Ok(grants) => Ok(Proxy {
+            Ok(head) => Ok(Proxy {
                 alloc,
                 config,
                 number,
-                journal: Journal::new(alloc),
-                grants,
+                head,
                 keeper,
-                holder: 0,
+                seed: Told::new().and(&Whole { item: *seed }),
             }),
         }
     }
 
-    /// What was entered, and the keeper, which is as the column showed it.
+    /// What was entered, where each entry fits the entries before it, and the keeper, which is as the
+    /// column showed it.
     pub fn close(self) -> (Past<Entry<ProxyEvent>>, K)
         ensures past { result.0 ≡ self.past }
+        ensures law { ProxyLaw self.config self.seed self.number result.0 }
         ensures told { K.told result.1 ≡ self.told }
         ensures faults { K.faults result.1 ≡ self.faults }
         ensures steady { K.steady result.1 ≡ self.steady }
         ensures tables { K.tables result.1 ≡ tables self.config self.number }
     {
-        (self.journal.into_past(), self.keeper)
+        (self.head.close(), self.keeper)
     }
 
     /// The incarnation of the service that stands.
@@ -102,7 +120,7 @@ impl<K: Keeper> Proxy<K> {
         requires { service < length self.now.config.services }
         ensures { result ≡ standing_by proxy_grant self.now.past service }
     {
-        self.grants.standing(service)
+        self.head.standing(service)
     }
 
     /// The greatest incarnation of the service that was installed, 0 for none.
@@ -110,11 +128,11 @@ impl<K: Keeper> Proxy<K> {
         requires { service < length self.now.config.services }
         ensures { result ≡ last_by proxy_grant self.now.past service }
     {
-        self.grants.last(service)
+        self.head.last(service)
     }
 
-    /// Has the incarnation stand with the token that is issued to it, and keeps the place of its
-    /// revocation. Where memory is refused, all is as before.
+    /// Has the incarnation stand with the token that is issued to it, which is the one of the seed for
+    /// it here, and keeps the place of its revocation. Where memory is refused, all is as before.
     pub fn install(
         &mut self,
         service: u16,
@@ -123,20 +141,16 @@ impl<K: Keeper> Proxy<K> {
     ) -> Result<(), AllocError>
         requires service { service < length self.old.config.services }
         requires later { last_by proxy_grant self.old.past service < incarnation }
+        requires token { token ≡ token_of self.old.seed service incarnation self.old.number }
         ensures ok { OnOk result (self.new ≡ entered self.old (event.Install service incarnation token)) }
         ensures err { OnErr result (self.new ≡ self.old) }
     {
-        self.journal.make_room(self.grants.places() + 2)?;
-        self.grants.install(service, incarnation, Some(token))?;
-        self.journal.enter(Entry {
-            worker: self.holder,
-            event: ProxyEvent::Install {
-                service,
-                incarnation,
-                token,
-            },
-        });
-        Ok(())
+        let event = ProxyEvent::Install {
+            service,
+            incarnation,
+            token,
+        };
+        self.head.install(service, incarnation, Some(token), event)
     }
 
     /// Has the incarnation stand no longer. Where it doesn't stand, nothing changes. Takes no memory.
@@ -144,16 +158,11 @@ impl<K: Keeper> Proxy<K> {
         requires { service < length self.old.config.services }
         ensures { self.new ≡ (if live_at_proxy self.old.past service incarnation then entered self.old (event.Revoke service incarnation) else self.old) }
     {
-        if self.grants.standing(service) == Some(incarnation) {
-            self.grants.revoke(service, incarnation);
-            self.journal.enter(Entry {
-                worker: self.holder,
-                event: ProxyEvent::Revoke {
-                    service,
-                    incarnation,
-                },
-            });
-        }
+        let event = ProxyEvent::Revoke {
+            service,
+            incarnation,
+        };
+        self.head.revoke(service, incarnation, event);
     }
 
     /// Opens a session for the incarnation that shows this token, or says which rule that breaks.
@@ -169,21 +178,18 @@ impl<K: Keeper> Proxy<K> {
         ensures ok { OnOk result (self.new ≡ entered self.old (event.Open service incarnation shown)) }
         ensures err { OnErr result (self.new ≡ self.old) }
     {
-        self.journal.make_room(self.grants.places() + 1)?;
-        let issued = self.grants.issued(service, &shown);
-        let is_live = self.grants.standing(service) == Some(incarnation);
-        let opened = self.grants.opened(service, incarnation);
+        self.head.make_room()?;
+        let issued = self.head.issued(service, &shown);
+        let is_live = self.head.standing(service) == Some(incarnation);
+        let opened = self.head.opened(service, incarnation);
         let verdict = match denial(issued, incarnation, is_live, opened) {
             Some(rule) => Verdict::Denied(rule),
-            None => Verdict::Opened(self.grants.admit(service, incarnation)),
+            None => Verdict::Opened(self.head.admit(service, incarnation)),
         };
-        self.journal.enter(Entry {
-            worker: self.holder,
-            event: ProxyEvent::Open {
-                service,
-                incarnation,
-                shown,
-            },
+        self.head.enter(ProxyEvent::Open {
+            service,
+            incarnation,
+            shown,
         });
         Ok(verdict)
     }
@@ -204,9 +210,9 @@ impl<K: Keeper> Proxy<K> {
         ensures denied { IsSome (call_denial self.old.config self.old.number self.old.past call) → self.new.faults ≡ self.old.faults }
         ensures err { OnErr result (self.new ≡ self.old) }
     {
-        self.journal.make_room(self.grants.places() + 1)?;
-        let is_live = self.grants.standing(call.service) == Some(call.incarnation);
-        let opened = self.grants.opened(call.service, call.incarnation);
+        self.head.make_room()?;
+        let is_live = self.head.standing(call.service) == Some(call.incarnation);
+        let opened = self.head.opened(call.service, call.incarnation);
         let (mark, verdict) = match allowed(&self.config, self.number, &call, is_live, opened) {
             Err(rule) => (Mark::Done, Verdict::Denied(rule)),
             Ok(query) => match self
@@ -218,10 +224,7 @@ impl<K: Keeper> Proxy<K> {
                 Err(RunError::NoMemory) => return Err(AllocError),
             },
         };
-        self.journal.enter(Entry {
-            worker: self.holder,
-            event: ProxyEvent::Call(call, mark),
-        });
+        self.head.enter(ProxyEvent::Call(call, mark));
         Ok(verdict)
     }
 }
@@ -240,10 +243,10 @@ impl<K: Keeper> Journaled for Proxy<K> {
         ensures holder { self.new.holder ≡ number }
         ensures all { self.new ≡ record self.old { holder = number } }
     {
-        self.holder = number;
+        self.head.hold(number);
     }
 
     fn holder(&self) -> u16 {
-        self.holder
+        self.head.holder()
     }
 }

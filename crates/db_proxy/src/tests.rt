@@ -4,6 +4,8 @@ ghost use Rattle.std.specs.Prelude.{◌≡◌, ◌<◌, IfOk, OnOk, length};
 ghost use Rattle.okws_base.specs.Past.{last_by};
 ghost use Rattle.okws_plan.specs.declared.event.ProxyEvent.TheVariants as event;
 ghost use Rattle.monitor_model.specs.Standing.{proxy_grant};
+ghost use Rattle.token_core.specs.Token.{token_of};
+ghost use Rattle.db_proxy.specs.declared.tests.site.TheConstants.{SEED};
 ghost use Rattle.db_proxy.specs.Seen.{entered};
 
 mod site;
@@ -16,15 +18,20 @@ use okws_base::limit::MOST_SESSIONS;
 use okws_base::value::{Token, Value};
 use okws_plan::event::Call;
 use row_keeper::ListKeeper;
-use site::{GUEST, OTHER, bytes, column, none};
+use site::{GUEST, OTHER, SEED, bytes, column, none};
 use std::alloc::{AllocError, Global};
 use std::test::Fail;
+use token_core::token;
 
-const FIRST: Token = Token { bytes: [1; 20] };
+// A token that is issued to nobody.
+const UNKNOWN: Token = Token { bytes: [2; 20] };
 
-const SECOND: Token = Token { bytes: [2; 20] };
-
-const FOREIGN: Token = Token { bytes: [3; 20] };
+// The token of the first incarnation of a service.
+fn first(service: u16) -> Token
+    ensures { result ≡ token_of SEED service 1 0 }
+{
+    token(&SEED, service, 1, 0)
+}
 
 // A call of guest's first incarnation.
 fn call(session: u32, query: u16, args: Items<Value>) -> Call
@@ -45,12 +52,13 @@ fn row(alloc: Global, value: &[u8]) -> Result<Items<Value>, AllocError> {
     Ok(Items::of(row))
 }
 
-fn install(proxy: &mut Proxy<ListKeeper>, service: u16, token: Token) -> Result<(), AllocError>
+fn install(proxy: &mut Proxy<ListKeeper>, service: u16) -> Result<(), AllocError>
     requires service { service < length proxy.old.config.services }
     requires none { last_by proxy_grant proxy.old.past service ≡ 0 }
-    ensures { OnOk result (proxy.new ≡ entered proxy.old (event.Install service 1 token)) }
+    requires seed { (proxy.old.seed ≡ SEED) × (proxy.old.number ≡ 0) }
+    ensures { OnOk result (proxy.new ≡ entered proxy.old (event.Install service 1 (token_of SEED service 1 0))) }
 {
-    proxy.install(service, 1, token)
+    proxy.install(service, 1, first(service))
 }
 
 // The column with guest's first incarnation, which has opened a session, and with other's.
@@ -58,9 +66,9 @@ fn opened(alloc: Global, failing: &[u64]) -> Result<Proxy<ListKeeper>, Fail>
     ensures { IfOk result (λ p. length p.config.services ≡ 2) }
 {
     let mut proxy = column(alloc, failing)?;
-    install(&mut proxy, GUEST, FIRST)?;
-    install(&mut proxy, OTHER, FOREIGN)?;
-    proxy.open_session(GUEST, 1, FIRST)?;
+    install(&mut proxy, GUEST)?;
+    install(&mut proxy, OTHER)?;
+    proxy.open_session(GUEST, 1, first(GUEST))?;
     Ok(proxy)
 }
 
@@ -95,14 +103,14 @@ fn inserted(
 fn opens_are_denied(rt: HostRuntime) -> Result<(), Fail> {
     let alloc = rt.alloc();
     let mut proxy = opened(alloc, &[])?;
-    assert!(rt; proxy.open_session(GUEST, 1, FIRST)? == Verdict::Opened(1));
-    assert!(rt; proxy.open_session(GUEST, 1, SECOND)? == Verdict::Denied(Rule::UnknownToken));
-    assert!(rt; proxy.open_session(GUEST, 1, FOREIGN)? == Verdict::Denied(Rule::UnknownToken));
-    assert!(rt; proxy.open_session(GUEST, 2, FIRST)? == Verdict::Denied(Rule::StaleToken));
+    assert!(rt; proxy.open_session(GUEST, 1, first(GUEST))? == Verdict::Opened(1));
+    assert!(rt; proxy.open_session(GUEST, 1, UNKNOWN)? == Verdict::Denied(Rule::UnknownToken));
+    assert!(rt; proxy.open_session(GUEST, 1, first(OTHER))? == Verdict::Denied(Rule::UnknownToken));
+    assert!(rt; proxy.open_session(GUEST, 2, first(GUEST))? == Verdict::Denied(Rule::StaleToken));
     assert_eq!(rt; proxy.standing(GUEST), Some(1));
     assert_eq!(rt; proxy.last(GUEST), 1);
     revoke(&mut proxy);
-    assert!(rt; proxy.open_session(GUEST, 1, FIRST)? == Verdict::Denied(Rule::StaleToken));
+    assert!(rt; proxy.open_session(GUEST, 1, first(GUEST))? == Verdict::Denied(Rule::StaleToken));
     Ok(())
 }
 
@@ -111,7 +119,7 @@ fn open_many(proxy: &mut Proxy<ListKeeper>, count: u32) -> Result<(), AllocError
     ensures { OnOk result (proxy.new.config ≡ proxy.old.config) }
 {
     for _ in 0..count {
-        proxy.open_session(GUEST, 1, FIRST)?;
+        proxy.open_session(GUEST, 1, first(GUEST))?;
     }
     Ok(())
 }
@@ -121,7 +129,9 @@ fn sessions_are_limited(rt: HostRuntime) -> Result<(), Fail> {
     let alloc = rt.alloc();
     let mut proxy = opened(alloc, &[])?;
     open_many(&mut proxy, MOST_SESSIONS - 1)?;
-    assert!(rt; proxy.open_session(GUEST, 1, FIRST)? == Verdict::Denied(Rule::TooManySessions));
+    assert!(rt;
+        proxy.open_session(GUEST, 1, first(GUEST))? == Verdict::Denied(Rule::TooManySessions)
+    );
     Ok(())
 }
 
@@ -150,7 +160,7 @@ fn a_call_that_failed_may_be_made_again(rt: HostRuntime) -> Result<(), Fail> {
     assert!(rt; inserted(alloc, &mut proxy, b"b")? == Verdict::Failed);
     assert!(rt; inserted(alloc, &mut proxy, b"b")? == Verdict::Changed(1));
     let (past, keeper) = proxy.close();
-    assert_eq!(rt; past.as_slice().len(), 6);
+    assert_eq!(rt; past.as_slice().map(|entries| entries.len()), Some(6));
     assert_eq!(rt; keeper.faults(), 1);
     Ok(())
 }

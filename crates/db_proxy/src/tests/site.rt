@@ -2,6 +2,7 @@
 
 ghost use Rattle.std.specs.Prelude.{◌≡◌, IfOk, length, [], ◌∷◌};
 ghost use Rattle.okws_base.specs.declared.value.Value.TheVariants as value;
+ghost use Rattle.db_proxy.specs.declared.tests.site.TheConstants.{SEED};
 ghost use Rattle.db_proxy.specs.Example.{site, table, queries};
 
 use crate::Proxy;
@@ -14,10 +15,14 @@ use row_keeper::ListKeeper;
 use std::alloc::{AllocError, Global};
 use std::sync::Arc;
 use std::test::Fail;
+use token_core::Seed;
 
 pub(super) const GUEST: u16 = 0;
 
 pub(super) const OTHER: u16 = 1;
+
+/// The seed of the tokens.
+pub(super) const SEED: Seed = [7; 32];
 
 pub(super) fn bytes(alloc: Global, bytes: &[u8]) -> Result<Items<u8>, AllocError>
     ensures { IfOk result (λ v. v ≡ bytes.now) }
@@ -164,13 +169,13 @@ fn made_site(alloc: Global) -> Result<Config, Fail>
 /// The column of the site's proxy, over a keeper whose calls of these numbers fail.
 #[tactic(auto, using(crate::proofs::Lawful::lawful))]
 pub(super) fn column(alloc: Global, failing: &[u64]) -> Result<Proxy<ListKeeper>, Fail>
-    ensures { IfOk result (λ p. (length p.config.services ≡ 2) × (p.past ≡ [])) }
+    ensures { IfOk result (λ p. (length p.config.services ≡ 2) × ((p.past ≡ []) × ((p.seed ≡ SEED) × (p.number ≡ 0)))) }
 {
     let tables = one(alloc, made_table(alloc)?)?;
     let failing = failing.to_vec(alloc)?;
     let keeper = ListKeeper::new(alloc, tables.as_slice(), failing)?;
     let config = Arc::new(alloc, made_site(alloc)?)?;
-    match Proxy::new(alloc, config, 0, keeper) {
+    match Proxy::new(alloc, config, 0, &SEED, keeper, true) {
         Err(_) => Err(Fail::from("memory")),
         Ok(proxy) => Ok(proxy),
     }

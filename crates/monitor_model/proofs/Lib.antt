@@ -1,2 +1,3 @@
 pub mod Private
+pub mod Complete
 pub mod Lawful

@@ -22,5 +22,6 @@ pub mod Entered
 pub mod Replied
 pub mod Played
 pub mod Own
+pub mod Complete
 pub mod Example
 pub mod Journals

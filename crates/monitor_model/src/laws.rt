@@ -24,6 +24,7 @@ ghost use Rattle.frame_codec.specs.Spelling.{server_spelling};
 ghost use Rattle.monitor_model.specs.Columns.{ProxyLaw, PubdLaw, LogLaw, OkdLaw, faults, WithinCount};
 ghost use Rattle.monitor_model.specs.Worker.{Lives, nothing_seen};
 ghost use Rattle.monitor_model.specs.Own.{OpenIsPrivate, RevokedIsNotAllowed, HeardGrows};
+ghost use Rattle.monitor_model.specs.Complete.{LiveTokensAreOpened, LawfulCallsAreAnswered, FittingRowsAreTold, FailedIsMarked};
 ghost use Rattle.monitor_model.specs.Stage.{first_stage};
 ghost use Rattle.monitor_model.specs.Script.{PlaysAll, IsRefusedAt};
 ghost use Rattle.monitor_model.specs.Played.{IsPlayed, IsStopped, record_of, RunsAreLawful, RunsArePlayed, RunsAreUnharmed, RunsTellAll, RunsAreAnswered, RunsTakeAll, RunsEnterAll, RunsAnswerOnce};
@@ -84,6 +85,19 @@ pub fn open_is_private()
 /// After its service was revoked, a Call isn't allowed.
 pub fn revoked_is_not_allowed()
     ensures { RevokedIsNotAllowed }
+{}
+
+/// In a lawful journal an Open of a live incarnation with its own token is Opened below the limit.
+pub fn live_tokens_are_opened()
+    ensures { LiveTokensAreOpened }
+{}
+
+/// A Call that breaks no rule is answered by what its statement means, where this fits a frame; it is
+/// Failed over the mark of a fault alone.
+pub fn lawful_calls_are_answered()
+    ensures answered { LawfulCallsAreAnswered }
+    ensures told { FittingRowsAreTold }
+    ensures failed { FailedIsMarked }
 {}
 
 /// What an incarnation heard grows, at each of its dialogs, by what the dialog heard.

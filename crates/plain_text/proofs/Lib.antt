@@ -1,0 +1,5 @@
+pub mod Parted
+pub mod FirstWord
+pub mod Digits
+pub mod HexDigits
+pub mod Utf8

@@ -1,15 +1,10 @@
 -- The values of Content-Length fields (RFC 9110, section 8.6).
-use Rattle.std.specs.Prelude.{ℕ, Bool, ◌&&◌, ◌||◌, ◌==◌, nat_le, List, [], ◌∷◌, length, reverse, if◌then◌else◌}
-use Rattle.std.specs.List.{list_all}
-use Rattle.std.specs.Char.{is_ascii_digit}
-use Rattle.std.specs.Str.Parse.{digits_value}
+use Rattle.std.specs.Prelude.{ℕ, nat_le, List, [], ◌∷◌, reverse, if◌then◌else◌}
 use Rattle.okws_base.specs.declared.limit.TheConstants.{LONGEST_CONTENT}
+use Rattle.plain_text.specs.Words.{is_blank}
+use Rattle.plain_text.specs.Decimals.{is_numeral, decimal_value}
 use Rattle.http_text.specs.declared.length.ContentLength.{ContentLength}
 use Rattle.http_text.specs.declared.length.ContentLength.TheVariants.{Length, TooLarge, NotDigits}
-
--- A space or a tab.
-abbrev pub is_blank : ℕ → Bool
-is_blank b = (b == 32) || (b == 9)
 
 -- A text without the spaces and tabs that it begins with.
 abbrev pub without_leading_blanks : List ℕ → List ℕ
@@ -19,10 +14,6 @@ without_leading_blanks (b ∷ more) = if is_blank b then without_leading_blanks 
 -- A text without the spaces and tabs that it ends with.
 abbrev pub without_trailing_blanks : List ℕ → List ℕ
 without_trailing_blanks text = reverse (without_leading_blanks (reverse text))
-
--- One or more decimal digits, and nothing else.
-abbrev pub is_numeral : List ℕ → Bool
-is_numeral text = nat_le 1 (length text) && list_all is_ascii_digit text
 
 -- A number is a length where it is at most 262,144, and else too large.
 abbrev pub length_within : ℕ → ContentLength
@@ -36,4 +27,4 @@ without_blanks value = without_trailing_blanks (without_leading_blanks value)
 abbrev pub length_of : List ℕ → ContentLength
 length_of value =
     let digits = without_blanks value in
-    if is_numeral digits then length_within (digits_value 10 digits) else NotDigits
+    if is_numeral digits then length_within (decimal_value digits) else NotDigits

@@ -1,12 +1,11 @@
 //! The values of Content-Length fields (RFC 9110, section 8.6).
 
-ghost use Rattle.std.specs.Prelude.{◌≡◌, ◌+◌, IsTrue, min};
-ghost use Rattle.std.specs.List.{list_all};
-ghost use Rattle.std.specs.Char.{is_ascii_digit};
-ghost use Rattle.std.specs.Str.Parse.{digits_value};
-ghost use Rattle.http_text.specs.Length.{is_blank, without_leading_blanks, without_trailing_blanks, without_blanks, is_numeral, length_of};
+ghost use Rattle.std.specs.Prelude.{◌≡◌};
+ghost use Rattle.http_text.specs.Length.{without_leading_blanks, without_trailing_blanks, without_blanks, length_of};
 
 use okws_base::limit::LONGEST_CONTENT;
+use plain_text::decimals::{capped_decimal, is_a_numeral};
+use plain_text::words::is_blank_byte;
 
 /// What the value of a Content-Length field says.
 #[derive(Clone, Copy, Debug, PartialEq, Eq)]
@@ -26,28 +25,22 @@ pub fn length_of(value: &[u8]) -> ContentLength
     ensures { result ≡ length_of value.now }
 {
     let digits = without_blanks(value);
-    if !is_numeral(digits) {
+    if !is_a_numeral(digits) {
         return ContentLength::NotDigits;
     }
-    let number = number_capped(digits);
-    if number <= LONGEST_CONTENT {
-        ContentLength::Length(number)
+    let number = capped_decimal(digits);
+    if number <= LONGEST_CONTENT as u64 {
+        ContentLength::Length(number as usize)
     } else {
         ContentLength::TooLarge
     }
-}
-
-fn is_blank(byte: u8) -> bool
-    ensures { result ≡ is_blank byte }
-{
-    byte == b' ' || byte == b'\t'
 }
 
 fn without_leading_blanks(mut text: &[u8]) -> &[u8]
     ensures { result.now ≡ without_leading_blanks text.entry.now }
 {
     while let [first, rest @ ..] = text {
-        if !is_blank(*first) {
+        if !is_blank_byte(*first) {
             break;
         }
         text = rest;
@@ -59,7 +52,7 @@ fn without_trailing_blanks(mut text: &[u8]) -> &[u8]
     ensures { result.now ≡ without_trailing_blanks text.entry.now }
 {
     while let [rest @ .., last] = text {
-        if !is_blank(*last) {
+        if !is_blank_byte(*last) {
             break;
         }
         text = rest;
@@ -71,30 +64,6 @@ fn without_blanks(value: &[u8]) -> &[u8]
     ensures { result.now ≡ without_blanks value.now }
 {
     without_trailing_blanks(without_leading_blanks(value))
-}
-
-fn is_numeral(text: &[u8]) -> bool
-    ensures { result ≡ is_numeral text.now }
-{
-    1 <= text.len() && are_digits(text)
-}
-
-fn are_digits(text: &[u8]) -> bool
-    ensures { result ≡ list_all is_ascii_digit text.now }
-{
-    text.iter().all(|byte| byte.is_ascii_digit())
-}
-
-/// The number that decimal digits write, or one above the greatest length where theirs is greater.
-fn number_capped(digits: &[u8]) -> usize
-    requires { IsTrue (list_all is_ascii_digit digits.now) }
-    ensures { result ≡ min (digits_value 10 digits.now) (LONGEST_CONTENT + 1) }
-{
-    let mut number = 0;
-    for digit in digits {
-        number = (number * 10 + (*digit - b'0') as usize).min(LONGEST_CONTENT + 1);
-    }
-    number
 }
 
 #[cfg(test)]

@@ -6,6 +6,7 @@ ghost use Rattle.http_text.specs.Status.{phrase, phrase_text, status_text};
 ghost use Rattle.http_text.specs.Response.{crlf, is_head, location_line, response, own_response};
 
 use crate::status::phrase;
+use plain_text::decimals::push_decimal;
 use std::alloc::{AllocError, Global};
 
 /// The text of a response with this status, content type, location and content to a request of
@@ -45,13 +46,6 @@ pub fn own_response(alloc: Global, status: u16, method: &[u8]) -> Result<Vec<u8>
     push_status(alloc, &mut content, status)?;
     content.push(b'\n')?;
     response(alloc, status, b"text/plain", b"", &content, method)
-}
-
-fn push_decimal(alloc: Global, text: &mut Vec<u8>, n: usize) -> Result<(), AllocError>
-    ensures { OnOk result (text.new.items ≡ text.old.items ++ decimal n) }
-{
-    let digits = format!(in alloc; "{n}")?;
-    text.extend_from_slice(digits.as_bytes())
 }
 
 /// The phrase of a status, or an empty one.
@@ -104,7 +98,7 @@ fn push_content_length(alloc: Global, text: &mut Vec<u8>, n: usize) -> Result<()
     ensures { OnOk result (text.new.items ≡ text.old.items ++ codes "Content-Length: " ++ decimal n ++ crlf) }
 {
     text.extend_from_slice(b"Content-Length: ")?;
-    push_decimal(alloc, text, n)?;
+    push_decimal(alloc, text, n as u64)?;
     text.extend_from_slice(b"\r\n")
 }
 

@@ -5,6 +5,7 @@ ghost use Rattle.std.specs.List.{list_all, before_first};
 ghost use Rattle.http_text.specs.Target.{is_target_byte, is_question_mark, ends_authority, begins_with_slash, begins_with_scheme, authority, after_scheme, after_authority, is_target, path_after_authority, path, path_of};
 
 use okws_base::name::are_same_word;
+use plain_text::parts::before_byte;
 
 /// What the absolute form of a target begins with, in any case of its letters.
 const SCHEME: &[u8] = b"HTTP://";
@@ -40,7 +41,8 @@ fn target_byte(byte: u8) -> bool
     byte >= 33 && byte <= 126 && byte != b'#'
 }
 
-fn are_target_bytes(target: &[u8]) -> bool
+/// Whether each byte is one of 33 to 126 without `#`.
+pub fn are_target_bytes(target: &[u8]) -> bool
     ensures { result ≡ list_all is_target_byte target.now }
 {
     target.iter().all(|byte| target_byte(*byte))
@@ -70,14 +72,8 @@ fn authority_end(text: &[u8]) -> Option<usize>
     text.iter().position(|byte| *byte == b'/' || *byte == b'?')
 }
 
-fn question_mark(text: &[u8]) -> Option<usize>
-    ensures { result ≡ position is_question_mark text.now }
-{
-    text.iter().position(|byte| *byte == b'?')
-}
-
 /// What stands between `HTTP://` and the first `/` or `?`.
-#[tactic(auto, using(crate::proofs::First::before_some, crate::proofs::First::before_none))]
+#[tactic(auto, using(plain_text::proofs::Parted::before_some, plain_text::proofs::Parted::before_none))]
 fn authority(target: &[u8]) -> &[u8]
     ensures { result.now ≡ authority target.now }
 {
@@ -88,14 +84,11 @@ fn authority(target: &[u8]) -> &[u8]
     }
 }
 
-#[tactic(auto, using(crate::proofs::First::before_some, crate::proofs::First::before_none))]
-fn before_query(text: &[u8]) -> &[u8]
+/// What stands before the first `?` of a target, or all of it.
+pub fn before_query(text: &[u8]) -> &[u8]
     ensures { result.now ≡ before_first is_question_mark text.now }
 {
-    match question_mark(text) {
-        Some(end) => &text[..end],
-        None => text,
-    }
+    before_byte(b'?', text)
 }
 
 fn after_authority(target: &[u8]) -> &[u8]

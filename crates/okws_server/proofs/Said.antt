@@ -12,10 +12,13 @@ use Rattle.okws_plan.specs.declared.script.Line.{Line}
 use Rattle.okws_plan.specs.declared.script.Line.TheVariants as line
 use Rattle.okws_plan.specs.declared.script.Method.{Method}
 use Rattle.okws_plan.specs.declared.script.Place.{Place}
+use Rattle.plain_text.specs.Decimals.{number}
+use Rattle.plain_text.specs.Hexadecimal.{hex_bytes}
+use Rattle.plain_text.specs.Words.{words, one_word, two_words}
 use Rattle.http_text.specs.Target.{is_target_byte}
 use Rattle.play_script.specs.Directive.{directive_named, step_line, change_line, method_named}
-use Rattle.play_script.specs.Lines.{script_lines, words, one_word, two_words, two_or_three_words}
-use Rattle.play_script.specs.Reading.{line_of, words_read, directive_read, step_read, change_read, changed, accept_read, request_of, dialog_read, dialog_of, number, bytes_read, bytes_of, hex_bytes, publish_read, edition_of, declared, bad_line, begins_comment, is_target, is_query, target_path, script_reads}
+use Rattle.play_script.specs.Lines.{script_lines, two_or_three_words}
+use Rattle.play_script.specs.Reading.{line_of, words_read, directive_read, step_read, change_read, changed, accept_read, request_of, dialog_read, dialog_of, bytes_read, bytes_of, publish_read, edition_of, declared, bad_line, begins_comment, is_target, is_query, target_path, script_reads}
 use Rattle.play_script.specs.declared.directive.Change.{Change}
 use Rattle.play_script.specs.declared.directive.Change.TheVariants as change
 use Rattle.play_script.specs.declared.directive.Directive.{Directive}

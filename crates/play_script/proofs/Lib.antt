@@ -1,8 +1,3 @@
-pub mod Places
-pub mod Lines
-pub mod Words
-pub mod Texts
-pub mod Digits
 pub mod Targets
 pub mod Plain
 pub mod Named

@@ -7,7 +7,7 @@ use Rattle.std.specs.Int.{IsInRange}
 use Rattle.std.specs.Str.{is_utf8, IsAscii}
 use Rattle.std.specs.Str.Lines.{lines_of_parts, strip_carriage_return}
 use Rattle.std.specs.Str.Parse.{AllDigits}
-use Rattle.std.proofs.lemmas.Bool.{and_parts, and_from, lt-ltb, leb-true}
+use Rattle.std.proofs.lemmas.Bool.{and_parts, and_from, leb-true}
 use Rattle.std.proofs.lemmas.Bool.Decides.{nat_tests}
 use Rattle.std.proofs.lemmas.Grind.{common_steps}
 use Rattle.std.proofs.lemmas.List.Sums.{AllPass-from_list_all, list_all-from_AllPass}
@@ -19,8 +19,11 @@ use Rattle.hex.proofs.HexLemmas.{decode_of-ok, decode_of-encode_lower}
 use Rattle.okws_base.specs.Names.{is_name, is_name_byte}
 use Rattle.okws_base.specs.declared.limit.TheConstants.{LONGEST_NAME}
 use Rattle.http_text.specs.Target as http
-use Rattle.play_script.specs.Lines.{words, is_blank, is_word, is_line_end, script_lines}
-use Rattle.play_script.proofs.Lines.{before_others, has_part}
+use Rattle.plain_text.specs.Parts.{is_byte}
+use Rattle.plain_text.specs.Words.{words, is_blank, is_word}
+use Rattle.plain_text.proofs.FirstWord.{word_first}
+use Rattle.plain_text.proofs.Parted.{before_others, has_part}
+use Rattle.play_script.specs.Lines.{script_lines}
 use Rattle.play_script.proofs.Targets.{list_all-map, list_all-both}
 
 -- A byte 33 to 126.
@@ -47,9 +50,6 @@ shown b h = grind (arith, nat_tests)
 
 no_blanks : (word : List ℕ) → list_all is_graphic word ≡ true → All (λ b. is_blank b ≡ false) word
 no_blanks word h = let pass = AllPass-from_list_all is_graphic word h in λ k d below. no_blank (get_or word k d) (pass k d below)
-
-word_first : (word : List ℕ) (pieces : List (List ℕ)) → 0 < length word → filter is_word (word ∷ pieces) ≡ word ∷ filter is_word pieces
-word_first word pieces some = rw (lt-ltb 0 (length word) some) refl
 
 -- the words of a line of plain words are these
 pub words_joined : (word : List ℕ) (more : List (List ℕ)) → IsPlain word → AllPlain more → words (join_with_byte 32 (word ∷ more)) ≡ word ∷ more
@@ -81,7 +81,7 @@ ascii (b ∷ more) h (suc i) = ascii more ((and_parts (is_shown b) (list_all is_
 pub text_joined : (ws : List (List ℕ)) → AllPlain ws → is_utf8 (join_with_byte 32 ws) ≡ true
 text_joined ws h = let line = join_with_byte 32 ws in is_utf8-from_IsUtf8 line (IsUtf8-from_ascii line (ascii line (shown_joined ws h)))
 
-no_end : (b : ℕ) → is_shown b ≡ true → is_line_end b ≡ false
+no_end : (b : ℕ) → is_shown b ≡ true → is_byte 10 b ≡ false
 no_end b h = grind (arith, nat_tests)
 
 no_return : (b : ℕ) → is_shown b ≡ true → (b == 13) ≡ false
@@ -98,8 +98,8 @@ kept (b ∷ more) h =
 pub shown_line : (bytes rest : List ℕ) → list_all is_shown bytes ≡ true → script_lines (bytes ++ 10 ∷ rest) ≡ bytes ∷ script_lines rest
 shown_line bytes rest h =
     let pass = AllPass-from_list_all is_shown bytes h in
-    let split = slice_split_at is_line_end bytes 10 rest (λ k d below. no_end (get_or bytes k d) (pass k d below)) refl in
-    ap (λ parts. lines_of_parts parts) split ∙ before_others bytes (slice_split is_line_end rest) (has_part rest) ∙ ap (λ (line : List ℕ). line ∷ script_lines rest) (kept bytes h)
+    let split = slice_split_at (is_byte 10) bytes 10 rest (λ k d below. no_end (get_or bytes k d) (pass k d below)) refl in
+    ap (λ parts. lines_of_parts parts) split ∙ before_others bytes (slice_split (is_byte 10) rest) (has_part rest) ∙ ap (λ (line : List ℕ). line ∷ script_lines rest) (kept bytes h)
 
 name_byte : (b : ℕ) → is_name_byte b ≡ true → is_graphic b ≡ true
 name_byte b h = grind (arith, nat_tests)

@@ -20,9 +20,12 @@ use Rattle.okws_plan.specs.declared.script.Method.{Method}
 use Rattle.okws_plan.specs.declared.script.Method.TheVariants as method
 use Rattle.okws_plan.specs.declared.script.Place.{Place}
 use Rattle.okws_plan.specs.declared.script.Place.TheVariants.{Proxy, Pubd, Oklogd}
-use Rattle.play_script.specs.Lines.{words, script_lines}
+use Rattle.plain_text.specs.Decimals.{is_number, number}
+use Rattle.plain_text.specs.Hexadecimal.{hex_bytes}
+use Rattle.plain_text.specs.Words.{words}
+use Rattle.play_script.specs.Lines.{script_lines}
 use Rattle.play_script.specs.Directive.{directive_named, method_named}
-use Rattle.play_script.specs.Reading.{line_of, words_read, hex_bytes, is_number, number}
+use Rattle.play_script.specs.Reading.{line_of, words_read}
 use Rattle.play_script.specs.Spelling.{SpelledLinesAreRead, SpelledScriptsAreRead, IsNamed, CanBeSaid, spelled_words, spelling, script_text, name_at, place_word, method_word, is_taken}
 use Rattle.play_script.specs.declared.reading.LineRead.{LineRead}
 use Rattle.play_script.specs.declared.reading.LineRead.TheVariants.{Says}

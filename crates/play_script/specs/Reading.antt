@@ -1,11 +1,7 @@
 -- What a line of a script says under a configuration.
 use Rattle.std.specs.Prelude.{◌≡◌, ◌≤◌, ℕ, Bool, true, ◌&&◌, ◌==◌, nat_le, nat_eq, List, [], ◌∷◌, length, drop, codes, Option, Some, None, map, option_map, ⊤, if◌then◌else◌}
 use Rattle.std.specs.List.{list_all, before_first, starts_with}
-use Rattle.std.specs.Result.{result_ok}
-use Rattle.std.specs.Char.{is_ascii_digit}
 use Rattle.std.specs.Str.{is_utf8}
-use Rattle.std.specs.Str.Parse.{digits_value}
-use Rattle.hex.specs.Hex.{decode_of}
 use Rattle.okws_base.specs.Names.{is_path}
 use Rattle.okws_base.specs.declared.limit.TheConstants.{LONGEST_CONTENT, LONGEST_PATH}
 use Rattle.okws_plan.specs.Configuration.{template_named}
@@ -15,8 +11,11 @@ use Rattle.okws_plan.specs.declared.script.Line.{Line}
 use Rattle.okws_plan.specs.declared.script.Line.TheVariants as line
 use Rattle.okws_plan.specs.declared.script.Method.{Method}
 use Rattle.okws_plan.specs.declared.script.Place.{Place}
+use Rattle.plain_text.specs.Words.{words, one_word, two_words}
+use Rattle.plain_text.specs.Decimals.{number}
+use Rattle.plain_text.specs.Hexadecimal.{hex_bytes}
 use Rattle.http_text.specs.Target.{is_target_byte, is_question_mark, path_of}
-use Rattle.play_script.specs.Lines.{script_lines, words, one_word, two_words, two_or_three_words}
+use Rattle.play_script.specs.Lines.{script_lines, two_or_three_words}
 use Rattle.play_script.specs.Directive.{directive_named, step_line, change_line, method_named}
 use Rattle.play_script.specs.declared.directive.Step.{Step}
 use Rattle.play_script.specs.declared.directive.Change.{Change}
@@ -34,18 +33,6 @@ bad_line = read.Broken BadLine
 abbrev pub declared : Option Line → LineRead
 declared None = read.Broken Undeclared
 declared (Some line) = read.Says line
-
--- The bytes that pairs of hexadecimal digits write, in either case; none where a digit has no other or isn't one.
-abbrev pub hex_bytes : List ℕ → Option (List ℕ)
-hex_bytes word = result_ok (decode_of word)
-
--- A number has 1 to 9 decimal digits.
-abbrev pub is_number : List ℕ → Bool
-is_number word = nat_le 1 (length word) && (nat_le (length word) 9 && list_all is_ascii_digit word)
-
--- The number of a word that is one.
-abbrev pub number : List ℕ → Option ℕ
-number word = if is_number word then Some (digits_value 10 word) else None
 
 -- What may follow a target's path: nothing, or `?` and at most 1,024 bytes 33 to 126 without `#`.
 abbrev pub is_query : List ℕ → Bool

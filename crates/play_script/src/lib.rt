@@ -8,6 +8,4 @@ pub mod names;
 pub mod reading;
 pub mod refusal;
 pub mod rule;
-#[cfg(test)]
-mod tests;
 pub mod text;

@@ -1,26 +1,27 @@
 //! What a line of a script says.
 
-ghost use Rattle.std.specs.Prelude.{◌≡◌, ◌≤◌, ◌<◌, ◌∷◌, length, position, option_map, IfOk, IsTrue};
-ghost use Rattle.std.specs.List.{list_all};
-ghost use Rattle.std.specs.Char.{is_ascii_digit};
-ghost use Rattle.std.specs.Str.{is_utf8};
-ghost use Rattle.std.specs.Str.Parse.{digits_value};
+ghost use Rattle.std.specs.Prelude.{◌≡◌, ◌≤◌, ◌<◌, ◌∷◌, length, IfOk};
 ghost use Rattle.okws_base.specs.declared.limit.TheConstants.{MOST_PROXIES, MOST_SERVICES, MOST_TEMPLATES};
 ghost use Rattle.okws_plan.specs.declared.configuration.Config.{Config};
-ghost use Rattle.http_text.specs.Target.{is_target_byte, is_question_mark};
-ghost use Rattle.play_script.specs.Lines.{words, one_word, two_words, two_or_three_words};
-ghost use Rattle.play_script.specs.Reading.{hex_bytes, is_number, number, is_query, target_path, is_target, ReadFits, ReadKeeps, step_read, change_read, accept_read, dialog_read, bytes_read, publish_read, directive_read, line_of, script_reads};
+ghost use Rattle.plain_text.specs.Words.{words, one_word, two_words};
+ghost use Rattle.play_script.specs.Lines.{two_or_three_words};
+ghost use Rattle.play_script.specs.Reading.{is_query, is_target, ReadFits, ReadKeeps, step_read, change_read, accept_read, dialog_read, bytes_read, publish_read, directive_read, line_of, script_reads};
 
 use crate::directive::{Change, Directive, Step, directive_of, method_of};
 use crate::names::{place_of, service_of, template_of};
 use crate::rule::ScriptRule;
-use crate::text::{first_line, first_word, one_word, two_or_three_words, two_words};
-use hex::FromHexError;
+use crate::text::two_or_three_words;
+use http_text::target::{are_target_bytes, before_query};
 use okws_base::items::Items;
 use okws_base::limit::{LONGEST_CONTENT, LONGEST_PATH};
 use okws_base::name::is_a_path;
 use okws_plan::configuration::Config;
 use okws_plan::script::Line;
+use plain_text::decimals::number_of;
+use plain_text::hexadecimal::hex_bytes_of;
+use plain_text::lines::first_line;
+use plain_text::parts::is_text;
+use plain_text::words::{first_word, one_word, two_words};
 use std::alloc::{AllocError, Global};
 
 /// What a line of a script is.
@@ -34,94 +35,21 @@ pub enum LineRead {
     Says(Line),
 }
 
-/// Decimal digits that the number of a request may have.
-const MOST_DIGITS: usize = 9;
-
-fn hex_bytes_of(alloc: Global, word: &[u8]) -> Result<Option<Vec<u8>>, AllocError>
-    ensures { IfOk result (λ found. option_map (λ bytes. bytes.items) found ≡ hex_bytes word.now) }
-{
-    match hex::decode(alloc, word) {
-        Ok(bytes) => Ok(Some(bytes)),
-        Err(FromHexError::OutOfMemory) => Err(AllocError),
-        Err(_) => Ok(None),
-    }
-}
-
-fn are_digits(word: &[u8]) -> bool
-    ensures { result ≡ list_all is_ascii_digit word.now }
-{
-    word.iter().all(|byte| byte.is_ascii_digit())
-}
-
-fn is_number(word: &[u8]) -> bool
-    ensures { result ≡ is_number word.now }
-{
-    1 <= word.len() && word.len() <= MOST_DIGITS && are_digits(word)
-}
-
-fn decimal_of(digits: &[u8]) -> u32
-    requires { IsTrue (is_number digits.now) }
-    ensures { result ≡ digits_value 10 digits.now }
-{
-    let mut number = 0;
-    for digit in digits {
-        number = number * 10 + u32::from(*digit - b'0');
-    }
-    number
-}
-
-fn number_of(word: &[u8]) -> Option<u32>
-    ensures { result ≡ number word.now }
-{
-    if is_number(word) {
-        Some(decimal_of(word))
-    } else {
-        None
-    }
-}
-
-fn query_byte(byte: u8) -> bool
-    ensures { result ≡ is_target_byte byte }
-{
-    byte >= 33 && byte <= 126 && byte != b'#'
-}
-
-fn are_query_bytes(bytes: &[u8]) -> bool
-    ensures { result ≡ list_all is_target_byte bytes.now }
-{
-    bytes.iter().all(|byte| query_byte(*byte))
-}
-
 fn is_query(rest: &[u8]) -> bool
     ensures { result ≡ is_query rest.now }
 {
     match rest {
         [] => true,
         [first, query @ ..] => {
-            *first == b'?' && query.len() <= LONGEST_PATH && are_query_bytes(query)
+            *first == b'?' && query.len() <= LONGEST_PATH && are_target_bytes(query)
         }
-    }
-}
-
-fn question_mark(target: &[u8]) -> Option<usize>
-    ensures { result ≡ position is_question_mark target.now }
-{
-    target.iter().position(|byte| *byte == b'?')
-}
-
-fn target_path(target: &[u8]) -> &[u8]
-    ensures { result.now ≡ target_path target.now }
-{
-    match question_mark(target) {
-        Some(end) => &target[..end],
-        None => target,
     }
 }
 
 fn is_target(target: &[u8]) -> bool
     ensures { result ≡ is_target target.now }
 {
-    let path = target_path(target);
+    let path = before_query(target);
     is_a_path(path) && is_query(&target[path.len()..])
 }
 
@@ -254,12 +182,6 @@ fn read_directive(
         Directive::Bytes => read_bytes(alloc, config, rest),
         Directive::Publish => read_publish(alloc, config, rest),
     }
-}
-
-fn is_text(line: &[u8]) -> bool
-    ensures { result ≡ is_utf8 line.now }
-{
-    str::from_utf8(line).is_ok()
 }
 
 /// What a line says under a configuration.

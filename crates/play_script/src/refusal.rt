@@ -3,21 +3,15 @@
 ghost use Rattle.std.specs.Prelude.{◌≡◌, ◌++◌, ◌∷◌, [], codes, decimal, IfOk, OnOk};
 ghost use Rattle.play_script.specs.Refusal.{config_refused, script_refused};
 
+use plain_text::decimals::push_decimal;
 use std::alloc::{AllocError, Global};
-
-fn push_decimal(alloc: Global, text: &mut Vec<u8>, n: usize) -> Result<(), AllocError>
-    ensures { OnOk result (text.new.items ≡ text.old.items ++ decimal n) }
-{
-    let digits = format!(in alloc; "{n}")?;
-    text.extend_from_slice(digits.as_bytes())
-}
 
 fn push_place(alloc: Global, text: &mut Vec<u8>, line: usize, rule: u8) -> Result<(), AllocError>
     ensures { OnOk result (text.new.items ≡ text.old.items ++ decimal line ++ codes " rule " ++ decimal rule ++ 10 ∷ []) }
 {
-    push_decimal(alloc, text, line)?;
+    push_decimal(alloc, text, line as u64)?;
     text.extend_from_slice(b" rule ")?;
-    push_decimal(alloc, text, usize::from(rule))?;
+    push_decimal(alloc, text, u64::from(rule))?;
     text.push(b'\n')?;
     Ok(())
 }

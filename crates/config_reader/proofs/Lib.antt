@@ -1,6 +1,4 @@
 mod Fits
-mod FirstWord
-mod FirstLine
 mod Plans
 mod ByteSets
 mod Kept

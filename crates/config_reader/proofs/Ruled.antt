@@ -14,10 +14,10 @@ use Rattle.okws_plan.specs.declared.configuration.Query.{Query}
 use Rattle.okws_plan.specs.declared.configuration.Table.{Table}
 use Rattle.okws_plan.specs.declared.statement.Statement.{Statement}
 use Rattle.okws_plan.proofs.Rules.{all_keep_rules}
+use Rattle.plain_text.specs.Decimals.{decimal_value}
 use Rattle.statement_core.proofs.KeepsForms.{compiled_keeps}
 use Rattle.statement_core.specs.Compiled.{compiled}
 use Rattle.statement_core.specs.declared.error.Refusal.{Refusal}
-use Rattle.statement_core.specs.Tokens.{decimal}
 use Rattle.config_reader.specs.Above.{Above, proxy_number, plan_of, tables_at, table_number}
 use Rattle.config_reader.specs.After.{after, with_plan, with_table, with_row, with_row_in, with_query, table_of, changed_at}
 use Rattle.config_reader.specs.Broken.{row_values, statement_at}
@@ -100,7 +100,7 @@ pub ruled_query : (above : Above) (p number text : List ℕ) → are_ruled above
 unfolding statement_at
 ruled_query above p number text h =
     let C : Config = above.config in
-    ruled_change above p (with_query (decimal number) (statement_at C p text)) h (λ plan is r.
-    query_ruled (decimal number) (statement_at C p text) plan (λ st e.
+    ruled_change above p (with_query (decimal_value number) (statement_at C p text)) h (λ plan is r.
+    query_ruled (decimal_value number) (statement_at C p text) plan (λ st e.
     let same : tables_at C p ≡ plan.tables = ap tables_of is in
     rw same at (compiled_keeps (tables_at C p) text st (compiled_as (compiled (tables_at C p) text) st e))) r)

@@ -14,8 +14,7 @@ use Rattle.okws_plan.specs.declared.configuration.ServicePlan.{ServicePlan}
 use Rattle.okws_plan.specs.declared.configuration.Owned.{Owned}
 use Rattle.okws_plan.specs.declared.configuration.Query.{Query}
 use Rattle.okws_plan.specs.declared.configuration.Readable.{Readable}
-use Rattle.statement_core.specs.Tokens.{decimal, is_digit}
-use Rattle.config_reader.specs.declared.words.TheConstants.{LONGEST_NUMBER}
+use Rattle.plain_text.specs.Decimals.{is_number, decimal_value}
 use Rattle.config_reader.specs.Above.{Above, proxy_number, service_number, template_number}
 use Rattle.config_reader.specs.After.{after}
 use Rattle.config_reader.specs.Broken.{is_reserved, found}
@@ -100,15 +99,12 @@ after_template above n s u =
       plans = s.plans;
     }
 
-four : (a b c d : Bool) → (a && (b && (c && d))) ≡ true → d ≡ true
-four a b c d h = (and_parts c d (and_parts b (c && d) (and_parts a (b && (c && d)) h).1).1).1
-
 pub after_retry : (above : Above) (number : List ℕ) → IsSound above.config → IsUnbroken above (Retry number) → IsSound (after above (Retry number)).config
 after_retry above number s u = record {
   few_proxies = s.few_proxies;
   few_services = s.few_services;
   few_templates = s.few_templates;
-  low_retry = leb-true _ _ (four (nat_le 1 (length number)) (nat_le (length number) LONGEST_NUMBER) (list_all is_digit number) (nat_le (decimal number) GREATEST_RETRY) (not-false _ u.numbers));
+  low_retry = leb-true _ _ ((and_parts (is_number number) (nat_le (decimal_value number) GREATEST_RETRY) (not-false _ u.numbers)).1);
   proxy_names = s.proxy_names;
   service_names = s.service_names;
   template_names = s.template_names;

@@ -4,15 +4,16 @@ use Rattle.std.specs.Prelude.{IfOk}
 use Rattle.okws_base.specs.declared.limit.TheConstants.{LONGEST_CONFIGURATION, LONGEST_LINE}
 use Rattle.okws_plan.specs.Sound.{IsSound}
 use Rattle.okws_plan.specs.declared.configuration.Config.{Config}
+use Rattle.plain_text.specs.Words.{words, behind_word}
 use Rattle.config_reader.specs.Above.{Above, nothing_above}
 use Rattle.config_reader.specs.After.{after, after_if, declared, declared_if}
 use Rattle.config_reader.specs.Answers.{Gives}
 use Rattle.config_reader.specs.Broken.{broken}
 use Rattle.config_reader.specs.Declarations.{Declaration, Proxy, Table, Row, Query, Service, Retry, Uri, Grant, Template, Read, Log, declaration_of, directive_of}
-use Rattle.config_reader.specs.Lines.{lines}
+use Rattle.std.specs.Str.Lines.{lines}
 use Rattle.config_reader.specs.Meaning.{begins_comment, are_first_words, directive_judged, word_judged, words_judged, line_judged, first_judged, numbered, read_from, read_lines, meaning}
 use Rattle.config_reader.specs.Ruled.{AreRuled}
-use Rattle.config_reader.specs.Words.{words, behind_word, is_text_line}
+use Rattle.config_reader.specs.Words.{is_text_line}
 use Rattle.config_reader.specs.declared.directive.Directive.{Directive}
 use Rattle.config_reader.specs.declared.error.ConfigRule.{ConfigRule}
 use Rattle.config_reader.specs.declared.error.ConfigError.{ConfigError}

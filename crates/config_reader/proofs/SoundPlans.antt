@@ -20,7 +20,7 @@ use Rattle.okws_plan.specs.declared.configuration.Query.{Query}
 use Rattle.okws_plan.specs.declared.configuration.ServicePlan.{ServicePlan}
 use Rattle.okws_plan.specs.declared.configuration.Table.{Table}
 use Rattle.okws_plan.specs.declared.statement.Statement.{Statement}
-use Rattle.statement_core.specs.Tokens.{decimal}
+use Rattle.plain_text.specs.Decimals.{decimal_value}
 use Rattle.config_reader.specs.Above.{Above, proxy_number, service_number, table_number, plan_of, tables_at, queries_at, table_at, has_query}
 use Rattle.config_reader.specs.After.{after, with_plan, with_table, table_of, column_of, with_row, with_row_in, with_query, granted_of}
 use Rattle.config_reader.specs.Broken.{found, repeats, key_count, takes_table, takes_query, has_too_many_tables, has_too_many_queries, can_hold, is_row_in, is_row_of, row_values, statement_at}
@@ -211,7 +211,7 @@ pub after_query : (above : Above) (p number text : List ℕ) → IsSound above.c
 unfolding takes_query has_too_many_queries
 after_query above p number text s u =
     let C : Config = above.config in
-    let n : ℕ = decimal number in
+    let n : ℕ = decimal_value number in
     let o : Option Statement = statement_at C p text in
     sound_change above p (with_query n o) s (query_name n o) (query_grows n o) (λ plan is h.
     let same : queries_at C p ≡ plan.queries = ap queries_of is in
@@ -235,11 +235,11 @@ at_found C (Some k) h = refl
 pub after_grant : (above : Above) (name p : List ℕ) (numbers : List (List ℕ)) → IsSound above.config → IsUnbroken above (Grant name p numbers) → IsSound (after above (Grant name p numbers)).config
 after_grant above name p numbers s u =
     let C : Config = above.config in
-    let known = or_false (is_none (service_number C name)) (is_none (proxy_number C p) || not (list_all (has_query (queries_at C p)) (map decimal numbers))) u.declared in
-    let rest = or_false (is_none (proxy_number C p)) (not (list_all (has_query (queries_at C p)) (map decimal numbers))) known.1 in
-    let new : List Granted = granted_of (found (service_number C name)) (found (proxy_number C p)) (map decimal numbers) in
+    let known = or_false (is_none (service_number C name)) (is_none (proxy_number C p) || not (list_all (has_query (queries_at C p)) (map decimal_value numbers))) u.declared in
+    let rest = or_false (is_none (proxy_number C p)) (not (list_all (has_query (queries_at C p)) (map decimal_value numbers))) known.1 in
+    let new : List Granted = granted_of (found (service_number C name)) (found (proxy_number C p)) (map decimal_value numbers) in
     let low : nat_lt (found (service_number C name)) (length C.services) ≡ true = found_below (λ (x : ServicePlan). same_bytes x.name name) C.services known.0 in
-    let each : list_all (names_query C) new ≡ true = named C _ _ (queries_at C p) (map decimal numbers) low (ap queries_of (at_found C (proxy_number C p) rest.0)) (not-false _ rest.1) in
+    let each : list_all (names_query C) new ≡ true = named C _ _ (queries_at C p) (map decimal_value numbers) low (ap queries_of (at_found C (proxy_number C p) rest.0)) (not-false _ rest.1) in
     record {
       few_proxies = s.few_proxies;
       few_services = s.few_services;

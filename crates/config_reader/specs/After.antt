@@ -9,7 +9,7 @@ use Rattle.okws_plan.specs.declared.configuration.Granted.{Granted}
 use Rattle.okws_plan.specs.declared.configuration.ProxyPlan.{ProxyPlan}
 use Rattle.okws_plan.specs.declared.configuration.Table.{Table}
 use Rattle.okws_plan.specs.declared.statement.Statement.{Statement}
-use Rattle.statement_core.specs.Tokens.{decimal}
+use Rattle.plain_text.specs.Decimals.{decimal_value}
 use Rattle.config_reader.specs.Above.{Above, proxy_number, service_number, template_number, table_number}
 use Rattle.config_reader.specs.Broken.{broken, found, row_values, statement_at}
 use Rattle.config_reader.specs.Declarations.{Declaration, Proxy, Table as TableLine, Row, Query as QueryLine, Service, Retry, Uri, Grant, Template, Read, Log, ColumnWords}
@@ -69,17 +69,17 @@ after above (Proxy n) =
     record above { config = record above.config { proxies = above.config.proxies ++ record { name = n; tables = []; queries = [] } ∷ [] } }
 after above (TableLine p t columns) = with_plan above p (with_table (table_of t columns))
 after above (Row p t text) = with_plan above p (with_row_in t (row_values text))
-after above (QueryLine p number text) = with_plan above p (with_query (decimal number) (statement_at above.config p text))
+after above (QueryLine p number text) = with_plan above p (with_query (decimal_value number) (statement_at above.config p text))
 after above (Service n words) =
     record above { config = record above.config { services = above.config.services ++ record { name = n; words = words } ∷ [] } }
-after above (Retry number) = record { config = record above.config { retry = decimal number }; has_retry = true }
+after above (Retry number) = record { config = record above.config { retry = decimal_value number }; has_retry = true }
 after above (Uri path s) =
     record above { config = record above.config { paths = above.config.paths ++ record { path = path; service = found (service_number above.config s) } ∷ [] } }
 after above (Grant s p numbers) =
     record above {
       config = record above.config {
         grants = above.config.grants
-            ++ granted_of (found (service_number above.config s)) (found (proxy_number above.config p)) (map decimal numbers);
+            ++ granted_of (found (service_number above.config s)) (found (proxy_number above.config p)) (map decimal_value numbers);
       };
     }
 after above (Template n) = record above { config = record above.config { templates = above.config.templates ++ n ∷ [] } }

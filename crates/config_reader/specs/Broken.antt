@@ -16,8 +16,8 @@ use Rattle.okws_plan.specs.declared.configuration.Owned.{Owned}
 use Rattle.okws_plan.specs.declared.configuration.Table.{Table}
 use Rattle.std.specs.Result.{result_ok}
 use Rattle.okws_plan.specs.declared.statement.Statement.{Statement}
+use Rattle.plain_text.specs.Decimals.{decimal_value}
 use Rattle.statement_core.specs.Compiled.{compiled}
-use Rattle.statement_core.specs.Tokens.{decimal}
 use Rattle.config_reader.specs.Above.{Above, proxy_number, service_number, template_number, table_number, tables_at, queries_at, table_at, has_query}
 use Rattle.config_reader.specs.Declarations.{Declaration, Proxy, Table as TableLine, Row, Query as QueryLine, Service, Retry, Uri, Grant, Template, Read, Log, ColumnWords}
 use Rattle.config_reader.specs.Literals.{literals}
@@ -80,7 +80,7 @@ is_undeclared C (Row p t text) = is_none (proxy_number C p) || is_none (table_nu
 is_undeclared C (QueryLine p number text) = is_none (proxy_number C p)
 is_undeclared C (Uri path s) = is_none (service_number C s)
 is_undeclared C (Grant s p numbers) =
-    is_none (service_number C s) || (is_none (proxy_number C p) || not (list_all (has_query (queries_at C p)) (map decimal numbers)))
+    is_none (service_number C s) || (is_none (proxy_number C p) || not (list_all (has_query (queries_at C p)) (map decimal_value numbers)))
 is_undeclared C (Read s t) = is_none (service_number C s) || is_none (template_number C t)
 is_undeclared C (Log s) = is_none (service_number C s)
 is_undeclared C _ = false
@@ -120,11 +120,11 @@ abbrev pub is_taken_above : Above → Declaration → Bool
 is_taken_above above (Proxy n) = is_reserved n || is_some (proxy_number above.config n)
 is_taken_above above (TableLine p t columns) = takes_table above.config p t columns
 is_taken_above above (Row p t text) = false
-is_taken_above above (QueryLine p number text) = takes_query above.config p (decimal number)
+is_taken_above above (QueryLine p number text) = takes_query above.config p (decimal_value number)
 is_taken_above above (Service n words) = is_some (service_number above.config n)
 is_taken_above above (Retry number) = above.has_retry
 is_taken_above above (Uri path s) = list_any (λ (o : Owned). same_bytes o.path path) above.config.paths
-is_taken_above above (Grant s p numbers) = regrants above.config.grants (found (service_number above.config s)) (found (proxy_number above.config p)) (map decimal numbers)
+is_taken_above above (Grant s p numbers) = regrants above.config.grants (found (service_number above.config s)) (found (proxy_number above.config p)) (map decimal_value numbers)
 is_taken_above above (Template n) = is_some (template_number above.config n)
 is_taken_above above (Read s t) = reads above.config (found (service_number above.config s)) (found (template_number above.config t))
 is_taken_above above (Log s) = logs above.config (found (service_number above.config s))

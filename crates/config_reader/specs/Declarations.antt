@@ -1,7 +1,8 @@
 -- What a line declares, as it is written.
 use Rattle.std.specs.Prelude.{ℕ, Bool, true, false, if◌then◌else◌, List, [], ◌∷◌, Option, Some, None, option_map, codes}
 use Rattle.okws_base.specs.Value.{same_bytes}
-use Rattle.config_reader.specs.Words.{words, from_word, behind_word, one_word, two_words, two_and_text, one_and_more, two_and_more}
+use Rattle.plain_text.specs.Words.{words, from_word, behind_word, one_word, two_words}
+use Rattle.config_reader.specs.Words.{two_and_text, one_and_more, two_and_more}
 use Rattle.config_reader.specs.declared.directive.Directive.{Directive}
 use Rattle.config_reader.specs.declared.directive.Directive.TheVariants as directive
 

@@ -1,6 +1,5 @@
 pub mod RuleNumber
 pub mod Answers
-pub mod Lines
 pub mod Words
 pub mod Declarations
 pub mod Literals

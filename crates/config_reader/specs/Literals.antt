@@ -1,12 +1,13 @@
 -- The literals of a row.
 use Rattle.std.specs.Prelude.{ℕ, ◌-◌, Bool, true, ◌==◌, if◌then◌else◌, List, [], ◌∷◌, slice_index, Option, Some, None, option_map, Result, Ok, Err}
 use Rattle.okws_base.specs.declared.value.Value.{Value}
+use Rattle.plain_text.specs.Words.{is_blank}
 use Rattle.statement_core.specs.declared.error.Refusal.{Refusal}
 use Rattle.statement_core.specs.declared.token.Token.{Token}
 use Rattle.statement_core.specs.declared.token.Token.TheVariants as token
 use Rattle.statement_core.specs.declared.token.Placed.{Placed}
 use Rattle.statement_core.specs.declared.token.Fixed.TheVariants as fixed
-use Rattle.statement_core.specs.Tokens.{tokens, is_blank, same_fixed}
+use Rattle.statement_core.specs.Tokens.{tokens, same_fixed}
 
 -- A place of a text is its start, or stands behind a blank.
 abbrev pub is_apart : List ℕ → ℕ → Bool

@@ -3,11 +3,12 @@ use Rattle.std.specs.Prelude.{ℕ, ◌+◌, Bool, false, ◌&&◌, ◌==◌, not
 use Rattle.okws_base.specs.Value.{same_bytes}
 use Rattle.okws_base.specs.declared.limit.TheConstants.{LONGEST_CONFIGURATION, LONGEST_LINE}
 use Rattle.okws_plan.specs.declared.configuration.Config.{Config}
+use Rattle.plain_text.specs.Words.{words, behind_word}
 use Rattle.config_reader.specs.Above.{Above, nothing_above}
 use Rattle.config_reader.specs.Declarations.{directive_of, declaration_of}
 use Rattle.config_reader.specs.After.{declared_if}
-use Rattle.config_reader.specs.Lines.{lines}
-use Rattle.config_reader.specs.Words.{words, is_text_line, behind_word}
+use Rattle.std.specs.Str.Lines.{lines}
+use Rattle.config_reader.specs.Words.{is_text_line}
 use Rattle.config_reader.specs.declared.directive.Directive.{Directive}
 use Rattle.config_reader.specs.declared.error.ConfigRule.{ConfigRule}
 use Rattle.config_reader.specs.declared.error.ConfigRule.TheVariants as rule

@@ -4,16 +4,17 @@ ghost use Rattle.std.specs.Prelude.{◌≡◌, ◌≤◌, ◌∷◌, ℕ, List, 
 ghost use Rattle.std.specs.List.{list_all, list_any};
 ghost use Rattle.okws_base.specs.Names.{is_identifier};
 ghost use Rattle.okws_base.specs.Value.{same_bytes};
-ghost use Rattle.config_reader.specs.Words.{words};
+ghost use Rattle.plain_text.specs.Words.{words};
 ghost use Rattle.config_reader.specs.Declarations.{columns_from, AtName, AtKey, with_column, table_words, TableWords as Written};
 ghost use Rattle.config_reader.specs.Broken.{is_kind, repeats, key_count};
 ghost use Rattle.config_reader.specs.After.{kind_named, column_of};
 
-use crate::words::{is_same, split_word};
 use okws_base::items::Items;
 use okws_base::name::{Identifier, is_an_identifier};
 use okws_base::value::Kind;
 use okws_plan::configuration::Column;
+use plain_text::parts::is_same;
+use plain_text::words::first_word;
 use std::alloc::{AllocError, Global};
 use std::marker::Model;
 
@@ -39,7 +40,7 @@ fn key_mark(bytes: &[u8]) -> (bool, &[u8])
     ensures is { (name kind : List ℕ) → columns_from (AtKey name kind) (words bytes.now) ≡ with_column (record { name = name; kind = kind; key = result.0 }) (columns_from AtName (words result.1.now)) }
     ensures shorter { length result.1.now ≤ length bytes.now }
 {
-    match split_word(bytes) {
+    match first_word(bytes) {
         None => (false, bytes),
         Some((word, behind)) => {
             if is_same(word, b"KEY") {
@@ -57,8 +58,8 @@ pub fn columns_of(alloc: Global, bytes: &[u8]) -> Result<Option<Vec<ColumnWords<
 {
     let mut out = Vec::new(alloc);
     let mut rest = bytes;
-    while let Some((name, behind)) = split_word(rest) {
-        let Some((kind, behind)) = split_word(behind) else {
+    while let Some((name, behind)) = first_word(rest) {
+        let Some((kind, behind)) = first_word(behind) else {
             return Ok(None);
         };
         let (key, behind) = key_mark(behind);
@@ -88,10 +89,10 @@ impl<'a> Model for TableWords<'a> {
 pub fn table_words_of(alloc: Global, bytes: &[u8]) -> Result<Option<TableWords<'_>>, AllocError>
     ensures { IfOk result (λ found. found ≡ table_words (words bytes.now)) }
 {
-    let Some((proxy, rest)) = split_word(bytes) else {
+    let Some((proxy, rest)) = first_word(bytes) else {
         return Ok(None);
     };
-    let Some((name, rest)) = split_word(rest) else {
+    let Some((name, rest)) = first_word(rest) else {
         return Ok(None);
     };
     match columns_of(alloc, rest)? {

@@ -1,8 +1,9 @@
 //! From the words of a line to what it declares.
 
 ghost use Rattle.std.specs.Prelude.{◌≡◌, IfOk, Err, option_map};
+ghost use Rattle.plain_text.specs.Words.{words};
 ghost use Rattle.config_reader.specs.Answers.{GivesLine};
-ghost use Rattle.config_reader.specs.Words.{words, one_and_more, two_and_more};
+ghost use Rattle.config_reader.specs.Words.{one_and_more, two_and_more};
 ghost use Rattle.config_reader.specs.Declarations.{declaration_of};
 ghost use Rattle.config_reader.specs.After.{declared_if};
 
@@ -10,8 +11,9 @@ use crate::column::table_words_of;
 use crate::directive::Directive;
 use crate::draft::Draft;
 use crate::error::{ConfigRule, LineError};
-use crate::words::{both_words, only_word, split_word, words_and_text, words_of};
+use crate::words::words_and_text;
 use okws_base::items::Items;
+use plain_text::words::{first_word, one_word, two_words, words_of};
 use std::alloc::{AllocError, Global};
 
 fn miscounted() -> Result<(), LineError>
@@ -27,7 +29,7 @@ fn word_and_words(
 ) -> Result<Option<(&[u8], Vec<Items<u8>>)>, AllocError>
     ensures { IfOk result (λ found. option_map (λ w. (w.0.now, w.1.items)) found ≡ one_and_more (words bytes.now)) }
 {
-    let Some((one, rest)) = split_word(bytes) else {
+    let Some((one, rest)) = first_word(bytes) else {
         return Ok(None);
     };
     let more = words_of(alloc, rest)?;
@@ -45,10 +47,10 @@ fn two_words_and_words(
 ) -> Result<Option<(&[u8], &[u8], Vec<Items<u8>>)>, AllocError>
     ensures { IfOk result (λ found. option_map (λ w. (w.0.now, w.1.now, w.2.items)) found ≡ two_and_more (words bytes.now)) }
 {
-    let Some((one, rest)) = split_word(bytes) else {
+    let Some((one, rest)) = first_word(bytes) else {
         return Ok(None);
     };
-    let Some((other, rest)) = split_word(rest) else {
+    let Some((other, rest)) = first_word(rest) else {
         return Ok(None);
     };
     let more = words_of(alloc, rest)?;
@@ -62,7 +64,7 @@ fn two_words_and_words(
 fn proxy_line(draft: &mut Draft, alloc: Global, rest: &[u8]) -> Result<(), LineError>
     ensures { GivesLine (λ _. draft.new) result (declared_if draft.old (declaration_of Directive.Proxy rest.now)) }
 {
-    match only_word(rest) {
+    match one_word(rest) {
         None => miscounted(),
         Some(name) => draft.declare_proxy(alloc, name),
     }
@@ -107,7 +109,7 @@ fn service_line(draft: &mut Draft, alloc: Global, rest: &[u8]) -> Result<(), Lin
 fn retry_line(draft: &mut Draft, rest: &[u8]) -> Result<(), LineError>
     ensures { GivesLine (λ _. draft.new) result (declared_if draft.old (declaration_of Directive.Retry rest.now)) }
 {
-    match only_word(rest) {
+    match one_word(rest) {
         None => miscounted(),
         Some(number) => draft.declare_retry(number),
     }
@@ -116,7 +118,7 @@ fn retry_line(draft: &mut Draft, rest: &[u8]) -> Result<(), LineError>
 fn uri_line(draft: &mut Draft, alloc: Global, rest: &[u8]) -> Result<(), LineError>
     ensures { GivesLine (λ _. draft.new) result (declared_if draft.old (declaration_of Directive.Uri rest.now)) }
 {
-    match both_words(rest) {
+    match two_words(rest) {
         None => miscounted(),
         Some((path, service)) => draft.declare_uri(alloc, path, service),
     }
@@ -134,7 +136,7 @@ fn grant_line(draft: &mut Draft, alloc: Global, rest: &[u8]) -> Result<(), LineE
 fn template_line(draft: &mut Draft, alloc: Global, rest: &[u8]) -> Result<(), LineError>
     ensures { GivesLine (λ _. draft.new) result (declared_if draft.old (declaration_of Directive.Template rest.now)) }
 {
-    match only_word(rest) {
+    match one_word(rest) {
         None => miscounted(),
         Some(name) => draft.declare_template(alloc, name),
     }
@@ -143,7 +145,7 @@ fn template_line(draft: &mut Draft, alloc: Global, rest: &[u8]) -> Result<(), Li
 fn read_line(draft: &mut Draft, rest: &[u8]) -> Result<(), LineError>
     ensures { GivesLine (λ _. draft.new) result (declared_if draft.old (declaration_of Directive.Read rest.now)) }
 {
-    match both_words(rest) {
+    match two_words(rest) {
         None => miscounted(),
         Some((service, template)) => draft.declare_read(service, template),
     }
@@ -152,7 +154,7 @@ fn read_line(draft: &mut Draft, rest: &[u8]) -> Result<(), LineError>
 fn log_line(draft: &mut Draft, rest: &[u8]) -> Result<(), LineError>
     ensures { GivesLine (λ _. draft.new) result (declared_if draft.old (declaration_of Directive.Log rest.now)) }
 {
-    match only_word(rest) {
+    match one_word(rest) {
         None => miscounted(),
         Some(service) => draft.declare_log(service),
     }

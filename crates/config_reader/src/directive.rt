@@ -3,7 +3,7 @@
 ghost use Rattle.std.specs.Prelude.{◌≡◌};
 ghost use Rattle.config_reader.specs.Declarations.{directive_of};
 
-use crate::words::is_same;
+use plain_text::parts::is_same;
 
 /// What a line declares, by its first word.
 #[derive(Clone, Copy, PartialEq, Eq)]

@@ -21,7 +21,7 @@ use crate::grants::Grants;
 use crate::literal::literals_of;
 use crate::paths::Paths;
 use crate::plan::ProxyDraft;
-use crate::words::{is_same, number_to, query_numbers};
+use crate::words::{number_to, query_numbers};
 use okws_base::items::Items;
 use okws_base::limit::{
     DEFAULT_RETRY, GREATEST_QUERY, GREATEST_RETRY, MOST_COLUMNS, MOST_PROXIES, MOST_QUERIES,
@@ -31,6 +31,7 @@ use okws_base::name::{Name, Path, is_a_name, is_a_path, is_an_identifier};
 use okws_base::value::Value;
 use okws_plan::configuration::{Config, ProxyPlan, Readable, ServicePlan, Table};
 use okws_plan::statement::Statement;
+use plain_text::parts::is_same;
 use statement_core::{CompileError, compile};
 use std::alloc::{AllocError, Global};
 use std::marker::Model;

@@ -10,7 +10,6 @@ mod draft;
 mod error;
 mod grants;
 mod keys;
-mod lines;
 mod literal;
 mod paths;
 mod plan;
@@ -20,6 +19,3 @@ mod words;
 
 pub use error::{ConfigError, ConfigRule, Refusal};
 pub use reader::read;
-
-#[cfg(test)]
-mod tests;

@@ -3,9 +3,9 @@
 ghost use Rattle.std.specs.Prelude.{◌≡◌, IfOk, option_map};
 ghost use Rattle.config_reader.specs.Literals.{is_apart, values_of, literals};
 
-use crate::words::is_blank_byte;
 use okws_base::items::Exact;
 use okws_base::value::Value;
+use plain_text::words::is_blank_byte;
 use statement_core::{CompileError, Fixed, Placed, Token, tokens_of};
 use std::alloc::{AllocError, Global};
 

@@ -10,12 +10,12 @@ ghost use Rattle.config_reader.specs.After.{table_of, with_table, with_row_in, w
 
 use crate::column::{ColumnWords, declared_columns, identifier_of};
 use crate::tables::Tables;
-use crate::words::is_same;
 use okws_base::items::Items;
 use okws_base::name::Name;
 use okws_base::value::Value;
 use okws_plan::configuration::{ProxyPlan, Query, Table};
 use okws_plan::statement::Statement;
+use plain_text::parts::is_same;
 use std::alloc::{AllocError, Global};
 use std::marker::Model;
 

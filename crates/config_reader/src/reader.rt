@@ -2,20 +2,21 @@
 
 ghost use Rattle.std.specs.Prelude.{◌≡◌, ◌≤◌, ◌+◌, length, IfOk};
 ghost use Rattle.okws_plan.specs.Sound.{IsSound};
+ghost use Rattle.plain_text.specs.Words.{words, behind_word};
 ghost use Rattle.config_reader.specs.Answers.{GivesLine, Gives, refusal_of};
-ghost use Rattle.config_reader.specs.Words.{words};
 ghost use Rattle.config_reader.specs.Meaning.{begins_comment, are_first_words, line_judged, word_judged, first_judged, meaning};
-ghost use Rattle.config_reader.specs.Words.{behind_word};
 ghost use Rattle.config_reader.specs.Ruled.{AreRuled};
 
 use crate::declaring::declare;
 use crate::directive::Directive;
 use crate::draft::Draft;
 use crate::error::{ConfigError, ConfigRule, LineError, Refusal};
-use crate::lines::split_line;
-use crate::words::{both_words, is_a_text_line, is_same, split_word};
+use crate::words::is_a_text_line;
 use okws_base::limit::{LONGEST_CONFIGURATION, LONGEST_LINE};
 use okws_plan::configuration::Config;
+use plain_text::lines::first_line;
+use plain_text::parts::is_same;
+use plain_text::words::{first_word, two_words};
 use std::alloc::Global;
 
 fn is_comment(word: &[u8]) -> bool
@@ -30,14 +31,14 @@ fn is_comment(word: &[u8]) -> bool
 fn is_first_line(line: &[u8]) -> bool
     ensures { result ≡ are_first_words (words line.now) }
 {
-    match both_words(line) {
+    match two_words(line) {
         None => false,
         Some((one, other)) => is_same(one, b"okws") && is_same(other, b"1"),
     }
 }
 
 /// Judges the first line, below which nothing is declared yet.
-fn first_line(alloc: Global, line: &[u8]) -> Result<Draft, LineError>
+fn read_first_line(alloc: Global, line: &[u8]) -> Result<Draft, LineError>
     ensures { GivesLine (λ draft. draft) result (first_judged line.now) }
 {
     if !is_first_line(line) {
@@ -76,7 +77,7 @@ fn word_line(
 fn next_line(draft: &mut Draft, alloc: Global, line: &[u8]) -> Result<(), LineError>
     ensures { GivesLine (λ _. draft.new) result (line_judged draft.old line.now) }
 {
-    match split_word(line) {
+    match first_word(line) {
         None => Ok(()),
         Some((word, rest)) => {
             if is_comment(word) {
@@ -108,14 +109,14 @@ fn read_file(alloc: Global, bytes: &[u8]) -> Result<Config, ConfigError>
     if bytes.is_empty() {
         return Err(refused(1, LineError::Broken(ConfigRule::FirstLine)));
     }
-    let (line, mut rest) = split_line(bytes);
+    let (line, mut rest) = first_line(bytes);
     let mut number: u32 = 1;
-    let mut draft = match first_line(alloc, line) {
+    let mut draft = match read_first_line(alloc, line) {
         Ok(draft) => draft,
         Err(error) => return Err(refused(number, error)),
     };
     while !rest.is_empty() {
-        let (line, behind) = split_line(rest);
+        let (line, behind) = first_line(rest);
         number += 1;
         rest = behind;
         if let Err(error) = next_line(&mut draft, alloc, line) {

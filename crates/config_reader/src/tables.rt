@@ -11,10 +11,10 @@ ghost use Rattle.config_reader.specs.After.{changed_at, with_row};
 ghost use Rattle.config_reader.specs.Kept.{HoldsKeys, has_key_value, keeps_value};
 
 use crate::keys::KeyValues;
-use crate::words::is_same;
 use okws_base::items::Items;
 use okws_base::value::Value;
 use okws_plan::configuration::{Column, Table};
+use plain_text::parts::is_same;
 use std::alloc::{AllocError, Global};
 use std::marker::Model;
 

@@ -1,24 +1,29 @@
 -- The canonical text of tokens has those tokens.
 use Rattle.std.proofs.Common.{◌≡◌, ℕ, suc, ◌-◌, ◌+◌, ◌*◌, ◌/◌, ◌%◌, ◌^◌, ◌≤◌, ◌<◌, Bool, true, false, not, ◌&&◌, ◌||◌, cond, List, [], ◌∷◌, ◌++◌, get_or, ℤ, pos, negsuc, Some, None, Result, Ok, refl, sym, ap, subst, ◌∙◌, ⊎_elim, append_assoc, add-zero, arith, length, codes, fold}
 use Rattle.std.specs.Prelude.{if◌then◌else◌, nat_le, ◌==◌, min}
+use Rattle.std.specs.Char.{is_ascii_digit}
 use Rattle.std.specs.List.{list_all, prefix_len}
 use Rattle.std.specs.Str.{is_utf8}
 use Rattle.std.specs.Fmt as fmt
 use Rattle.std.proofs.lemmas.Bool.{false≢true, and_parts, or_parts, and_left, and_from, or_from, eqb-true, ne_eqb, lt-ltb, le-leb, lt-leb, le-ltb, leb-true, ltb-true, cases_lt, not-true}
 use Rattle.std.proofs.lemmas.List.{take_at, length-append}
-use Rattle.std.proofs.lemmas.Str.Parse.{IsNumeralModel, IsDigitsTest, numerals_by_fold}
+use Rattle.std.proofs.lemmas.Str.Parse.{IsNumeralModel, IsDigitsTest, numerals_by_value}
 use Rattle.std.proofs.lemmas.Fmt.{digits_decimal, digits_value-decimal, decimal_nonempty}
 use Rattle.okws_base.specs.Names.{is_first_byte, is_word_byte, is_letter, is_word, is_keyword, is_clause_word, is_action_word, is_column_word, same_word}
 use Rattle.okws_base.specs.declared.value.Value.{Value}
 use Rattle.okws_base.specs.declared.value.Value.TheVariants as value
+use Rattle.hex.specs.Hex.{hex_digit_value}
+use Rattle.plain_text.specs.Decimals.{decimal_value}
+use Rattle.plain_text.specs.Hexadecimal.{hex, hex_digit}
+use Rattle.plain_text.specs.Words.{is_blank}
 use Rattle.statement_core.specs.declared.error.Refusal.{Refusal}
 use Rattle.statement_core.specs.declared.token.Fixed.{Fixed}
 use Rattle.statement_core.specs.declared.token.Fixed.TheVariants as fixed
 use Rattle.statement_core.specs.declared.token.Token.{Token}
 use Rattle.statement_core.specs.declared.token.Token.TheVariants as token
 use Rattle.statement_core.specs.declared.token.Placed.{Placed}
-use Rattle.statement_core.specs.Tokens.{same_fixed, is_digit, decimal, keyword, clause_keyword, action_keyword, column_keyword, word_token, word_at, positive_at, negative_at, parameter_at, quoted_from, text_at, hex_value, hexadecimal_from, bytes_at, begins_bytes, is_x, word_or_bytes_at, sign_at, token_at, is_blank, placed, with_tokens, tokens_from}
-use Rattle.statement_core.specs.Canonical.{fixed_text, doubled, hex_digit, in_hex, value_text, token_text, opens, closes, joined}
+use Rattle.statement_core.specs.Tokens.{same_fixed, keyword, clause_keyword, action_keyword, column_keyword, word_token, word_at, positive_at, negative_at, parameter_at, quoted_from, text_at, hexadecimal_from, bytes_at, begins_bytes, is_x, word_or_bytes_at, sign_at, token_at, placed, with_tokens, tokens_from}
+use Rattle.statement_core.specs.Canonical.{fixed_text, doubled, value_text, token_text, opens, closes, joined}
 use Rattle.statement_core.specs.Forms.{tokens_in}
 use Rattle.statement_core.specs.Recompiled.{is_spelled, is_held, is_byte, has_64_bits, found_barely, TokensAreReadAgain}
 
@@ -35,7 +40,7 @@ no_word_byte rest (blank more) = refl
 no_word_byte rest (close more) = refl
 no_word_byte rest (comma more) = refl
 
-no_digit : (rest : List ℕ) → Stop rest → prefix_len is_digit rest ≡ 0
+no_digit : (rest : List ℕ) → Stop rest → prefix_len is_ascii_digit rest ≡ 0
 no_digit rest end = refl
 no_digit rest (blank more) = refl
 no_digit rest (close more) = refl
@@ -131,22 +136,20 @@ plain_word w h = rw (no_keyword w h) refl
 
 -- digits
 
-digit_range : (c : ℕ) → is_digit c ≡ true → (48 ≤ c) × (c ≤ 57)
+digit_range : (c : ℕ) → is_ascii_digit c ≡ true → (48 ≤ c) × (c ≤ 57)
 digit_range c h = let both = and_parts (nat_le 48 c) (nat_le c 57) h in (leb-true 48 c both.0, leb-true c 57 both.1)
 
-digits_test : IsDigitsTest (λ (ds : List ℕ). list_all is_digit ds ≡ true)
+digits_test : IsDigitsTest (λ (ds : List ℕ). list_all is_ascii_digit ds ≡ true)
 digits_test = record {
   empty = refl;
-  parts = λ c cs h. (digit_range c (and_parts (is_digit c) (list_all is_digit cs) h).0, (and_parts (is_digit c) (list_all is_digit cs) h).1);
-  more = λ c cs r h. and_from (is_digit c) (list_all is_digit cs) (and_from (nat_le 48 c) (nat_le c 57) (le-leb 48 c r.0) (le-leb c 57 r.1)) h;
+  parts = λ c cs h. (digit_range c (and_parts (is_ascii_digit c) (list_all is_ascii_digit cs) h).0, (and_parts (is_ascii_digit c) (list_all is_ascii_digit cs) h).1);
+  more = λ c cs r h. and_from (is_ascii_digit c) (list_all is_ascii_digit cs) (and_from (nat_le 48 c) (nat_le c 57) (le-leb 48 c r.0) (le-leb c 57 r.1)) h;
 }
 
-own : IsNumeralModel (λ (ds : List ℕ). list_all is_digit ds ≡ true) (λ (ds : List ℕ). decimal ds)
-own =
-    numerals_by_fold (λ (ds : List ℕ). list_all is_digit ds ≡ true) digits_test (λ (n : ℕ) (ds : List ℕ). fold (λ (n d : ℕ). n * 10 + (d - 48)) n ds)
-    (record { empty = λ n. refl; more = λ n c cs r. refl })
+own : IsNumeralModel (λ (ds : List ℕ). list_all is_ascii_digit ds ≡ true) (λ (ds : List ℕ). decimal_value ds)
+own = numerals_by_value (λ (ds : List ℕ). list_all is_ascii_digit ds ≡ true) digits_test
 
-no_first_byte : (d : ℕ) → is_digit d ≡ true → is_first_byte d ≡ false
+no_first_byte : (d : ℕ) → is_ascii_digit d ≡ true → is_first_byte d ≡ false
 no_first_byte d h =
     let range = digit_range d h in
     let lower : (nat_le 97 d && nat_le d 122) ≡ false = and_left (nat_le 97 d) (nat_le d 122) (lt-leb 97 d (omega arith)) in
@@ -156,8 +159,8 @@ no_first_byte d h =
 
 -- digits that write a number
 record Writes (ds : List ℕ) (n : ℕ) : Type 0 where
-  are_digits : list_all is_digit ds ≡ true
-  value : decimal ds ≡ n
+  are_digits : list_all is_ascii_digit ds ≡ true
+  value : decimal_value ds ≡ n
   some : 0 < length ds
 
 written : (n : ℕ) → n < 2 ^ 64 → Writes (fmt.decimal n) n
@@ -165,34 +168,34 @@ written n h = record { are_digits = digits_decimal own n h; value = digits_value
 
 positive_found : (ds rest : List ℕ) (n : ℕ) → Writes ds n → n < 2 ^ 63 → Stop rest → positive_at (ds ++ rest) ≡ Some (token.Literal (value.Int (pos n)), length ds)
 positive_found ds rest n w below s =
-    let count : prefix_len is_digit (ds ++ rest) ≡ length ds = prefix_all is_digit ds rest w.are_digits (no_digit rest s) in
+    let count : prefix_len is_ascii_digit (ds ++ rest) ≡ length ds = prefix_all is_ascii_digit ds rest w.are_digits (no_digit rest s) in
     rw (count, take_at ds rest (length ds) refl, w.value, lt-ltb n (2 ^ 63) below) refl
 
 second_chosen : {A : Type 0} (a b : Bool) (x y z : A) → a ≡ false → b ≡ true → cond a x (cond b y z) ≡ y
 second_chosen a b x y z h k = rw (h, k) refl
 
-digit_begins : (d : ℕ) (more : List ℕ) → is_digit d ≡ true → token_at (d ∷ more) ≡ positive_at (d ∷ more)
+digit_begins : (d : ℕ) (more : List ℕ) → is_ascii_digit d ≡ true → token_at (d ∷ more) ≡ positive_at (d ∷ more)
 unfolding token_at
 digit_begins d more h =
-    second_chosen (is_first_byte d) (is_digit d) (word_or_bytes_at (d ∷ more)) (positive_at (d ∷ more))
+    second_chosen (is_first_byte d) (is_ascii_digit d) (word_or_bytes_at (d ∷ more)) (positive_at (d ∷ more))
     (if d == 45 then negative_at more else if d == 63 then parameter_at more else if d == 39 then text_at more else sign_at d more) (no_first_byte d h) h
 
 positive_again : (ds rest : List ℕ) (n : ℕ) → Writes ds n → n < 2 ^ 63 → Stop rest → token_at (ds ++ rest) ≡ Some (token.Literal (value.Int (pos n)), length ds)
 positive_again [] rest n w below s = absurd (omega (arith, w.some))
 positive_again (d ∷ more) rest n w below s =
-    digit_begins d (more ++ rest) (and_parts (is_digit d) (list_all is_digit more) w.are_digits).0 ∙ positive_found (d ∷ more) rest n w below s
+    digit_begins d (more ++ rest) (and_parts (is_ascii_digit d) (list_all is_ascii_digit more) w.are_digits).0 ∙ positive_found (d ∷ more) rest n w below s
 
 negative_again : (ds rest : List ℕ) (n : ℕ) → Writes ds (suc n) → n < 2 ^ 63 → Stop rest → token_at (45 ∷ (ds ++ rest)) ≡ Some (token.Literal (value.Int (negsuc n)), suc (length ds))
 unfolding token_at
 negative_again ds rest n w below s =
-    let count : prefix_len is_digit (ds ++ rest) ≡ length ds = prefix_all is_digit ds rest w.are_digits (no_digit rest s) in
+    let count : prefix_len is_ascii_digit (ds ++ rest) ≡ length ds = prefix_all is_ascii_digit ds rest w.are_digits (no_digit rest s) in
     let one : 1 + length ds ≡ suc (length ds) = omega arith in
     rw (count, take_at ds rest (length ds) refl, w.value, ne_eqb (length ds) 0 (λ (e : length ds ≡ 0). omega (arith, w.some)), le-leb (suc n) (2 ^ 63) (omega arith), one) refl
 
 parameter_again : (ds rest : List ℕ) (n : ℕ) → Writes ds n → n < 2 ^ 64 → Stop rest → token_at (63 ∷ (ds ++ rest)) ≡ Some (token.Parameter n, suc (length ds))
 unfolding token_at
 parameter_again ds rest n w below s =
-    let count : prefix_len is_digit (ds ++ rest) ≡ length ds = prefix_all is_digit ds rest w.are_digits (no_digit rest s) in
+    let count : prefix_len is_ascii_digit (ds ++ rest) ≡ length ds = prefix_all is_ascii_digit ds rest w.are_digits (no_digit rest s) in
     let one : 1 + length ds ≡ suc (length ds) = omega arith in
     let low : min n (2 ^ 64 - 1) ≡ n = omega arith in
     rw (count, take_at ds rest (length ds) refl, w.value, ne_eqb (length ds) 0 (λ (e : length ds ≡ 0). omega (arith, w.some)), low, one) refl
@@ -226,17 +229,17 @@ text_again t rest h s =
 
 -- bytes
 
-hex_low : (d : ℕ) → d < 10 → hex_value (hex_digit d) ≡ Some d
+hex_low : (d : ℕ) → d < 10 → hex_digit_value (hex_digit d) ≡ Some d
 hex_low d h =
     let value : (48 + d) - 48 ≡ d = omega arith in
-    rw (lt-ltb d 10 h, le-leb 48 (48 + d) (omega arith), le-leb (48 + d) 57 (omega arith), value) refl
+    rw (lt-ltb d 10 h, lt-leb 65 (48 + d) (omega arith), lt-leb 97 (48 + d) (omega arith), le-leb 48 (48 + d) (omega arith), le-leb (48 + d) 57 (omega arith), value) refl
 
-hex_high : (d : ℕ) → d < 16 → 10 ≤ d → hex_value (hex_digit d) ≡ Some d
+hex_high : (d : ℕ) → d < 16 → 10 ≤ d → hex_digit_value (hex_digit d) ≡ Some d
 hex_high d h low =
     let value : (87 + d) - 87 ≡ d = omega arith in
-    rw (le-ltb d 10 low, le-leb 48 (87 + d) (omega arith), lt-leb (87 + d) 57 (omega arith), le-leb 97 (87 + d) (omega arith), le-leb (87 + d) 102 (omega arith), value) refl
+    rw (le-ltb d 10 low, le-leb 65 (87 + d) (omega arith), lt-leb (87 + d) 70 (omega arith), le-leb 97 (87 + d) (omega arith), le-leb (87 + d) 102 (omega arith), value) refl
 
-hex_again : (d : ℕ) → d < 16 → hex_value (hex_digit d) ≡ Some d
+hex_again : (d : ℕ) → d < 16 → hex_digit_value (hex_digit d) ≡ Some d
 hex_again d h = ⊎_elim (hex_low d) (hex_high d h) (cases_lt d 10)
 
 hex_no_quote : (d : ℕ) → (hex_digit d == 39) ≡ false
@@ -248,13 +251,13 @@ hex_no_quote d = ⊎_elim low high (cases_lt d 10)
     high : 10 ≤ d → (hex_digit d == 39) ≡ false
     high h = rw (le-ltb d 10 h) (ne_eqb (87 + d) 39 (λ (e : 87 + d ≡ 39). omega arith))
 
-hexadecimal_again : (b rest : List ℕ) → list_all is_byte b ≡ true → hexadecimal_from None (in_hex b ++ (39 ∷ rest)) ≡ Some (b, length (in_hex b) + 1)
+hexadecimal_again : (b rest : List ℕ) → list_all is_byte b ≡ true → hexadecimal_from None (hex b ++ (39 ∷ rest)) ≡ Some (b, length (hex b) + 1)
 hexadecimal_again [] rest h = refl
 hexadecimal_again (x ∷ more) rest h =
     let both = and_parts (is_byte x) (list_all is_byte more) h in
     let below : x < 256 = ltb-true x 256 both.0 in
     let whole : x / 16 * 16 + x % 16 ≡ x = omega arith in
-    let n : 1 + (1 + (length (in_hex more) + 1)) ≡ suc (suc (length (in_hex more))) + 1 = omega arith in
+    let n : 1 + (1 + (length (hex more) + 1)) ≡ suc (suc (length (hex more))) + 1 = omega arith in
     rw (hex_no_quote (x / 16), hex_again (x / 16) (omega arith), hex_again (x % 16) (omega arith), hexadecimal_again more rest both.1, whole, n) refl
 
 bytes_begin : (more : List ℕ) → token_at (120 ∷ 39 ∷ more) ≡ bytes_at more
@@ -263,9 +266,9 @@ bytes_begin more = rw (le-leb 2 (suc (suc (length more))) (omega arith)) refl
 
 bytes_again : (b rest : List ℕ) → list_all is_byte b ≡ true → token_at (value_text (value.Bytes b) ++ rest) ≡ Some (token.Literal (value.Bytes b), length (value_text (value.Bytes b)))
 bytes_again b rest h =
-    let n : 2 + (length (in_hex b) + 1) ≡ suc (suc (length (in_hex b) + 1)) = omega arith in
-    let found : bytes_at (in_hex b ++ (39 ∷ rest)) ≡ Some (token.Literal (value.Bytes b), suc (suc (length (in_hex b) + 1))) = rw (hexadecimal_again b rest h, n) refl in
-    bytes_begin ((in_hex b ++ 39 ∷ []) ++ rest) ∙ rw (append_assoc (in_hex b) (39 ∷ []) rest, length-append (in_hex b) (39 ∷ [])) found
+    let n : 2 + (length (hex b) + 1) ≡ suc (suc (length (hex b) + 1)) = omega arith in
+    let found : bytes_at (hex b ++ (39 ∷ rest)) ≡ Some (token.Literal (value.Bytes b), suc (suc (length (hex b) + 1))) = rw (hexadecimal_again b rest h, n) refl in
+    bytes_begin ((hex b ++ 39 ∷ []) ++ rest) ∙ rw (append_assoc (hex b) (39 ∷ []) rest, length-append (hex b) (39 ∷ [])) found
 
 -- keywords and signs
 

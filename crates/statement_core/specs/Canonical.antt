@@ -15,6 +15,7 @@ use Rattle.okws_plan.specs.declared.statement.Assignment.{Assignment}
 use Rattle.okws_plan.specs.declared.statement.Action.{Action}
 use Rattle.okws_plan.specs.declared.statement.Action.TheVariants as action
 use Rattle.okws_plan.specs.declared.statement.Statement.{Statement}
+use Rattle.plain_text.specs.Hexadecimal.{hex}
 use Rattle.statement_core.specs.Tokens.{same_fixed}
 use Rattle.statement_core.specs.declared.token.Fixed.{Fixed}
 use Rattle.statement_core.specs.declared.token.Fixed.TheVariants as fixed
@@ -56,20 +57,11 @@ abbrev pub doubled : List ℕ → List ℕ
 doubled [] = []
 doubled (b ∷ more) = (if b == 39 then 39 ∷ 39 ∷ [] else b ∷ []) ++ doubled more
 
--- A hexadecimal digit in lower case.
-abbrev pub hex_digit : ℕ → ℕ
-hex_digit n = if nat_lt n 10 then 48 + n else 87 + n
-
--- Bytes as two hexadecimal digits each.
-abbrev pub in_hex : List ℕ → List ℕ
-in_hex [] = []
-in_hex (b ∷ more) = (hex_digit (b / 16) ∷ hex_digit (b % 16) ∷ []) ++ in_hex more
-
 -- Integers without leading zeros, texts with doubled quotes, bytes as `x'..'`.
 abbrev pub value_text : Value → List ℕ
 value_text (value.Int n) = signed_decimal n
 value_text (value.Text t) = (39 ∷ []) ++ doubled t ++ (39 ∷ [])
-value_text (value.Bytes b) = (120 ∷ 39 ∷ []) ++ in_hex b ++ (39 ∷ [])
+value_text (value.Bytes b) = (120 ∷ 39 ∷ []) ++ hex b ++ (39 ∷ [])
 
 -- How a token is spelled: a word as it is, a parameter behind `?`, without leading zeros.
 abbrev pub token_text : Token → List ℕ

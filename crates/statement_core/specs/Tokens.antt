@@ -1,9 +1,13 @@
 -- Which token begins at a place of a text.
 use Rattle.std.specs.Prelude.{ℕ, ◌+◌, ◌-◌, ◌*◌, ◌^◌, zero, suc, ℤ, pos, negsuc, min, Bool, true, false, List, [], ◌∷◌, ◌++◌, length, take, drop, slice_index, nat_le, nat_lt, ◌&&◌, ◌||◌, ◌==◌, nat_eq, fold, Option, Some, None, option_and_then, Result, Ok, Err, if◌then◌else◌, codes}
+use Rattle.std.specs.Char.{is_ascii_digit}
 use Rattle.std.specs.List.{prefix_len}
 use Rattle.std.specs.Str.{is_utf8}
+use Rattle.hex.specs.Hex.{hex_digit_value}
 use Rattle.okws_base.specs.Names.{is_first_byte, is_word_byte, same_word}
 use Rattle.okws_base.specs.declared.value.Value.TheVariants as value
+use Rattle.plain_text.specs.Decimals.{decimal_value}
+use Rattle.plain_text.specs.Words.{is_blank}
 use Rattle.statement_core.specs.declared.error.Refusal.{Refusal}
 use Rattle.statement_core.specs.declared.error.TextRule.TheVariants.{BadToken}
 use Rattle.statement_core.specs.declared.token.Token.{Token}
@@ -45,14 +49,6 @@ fixed_number fixed.End = 26
 -- Two tokens of one spelling are the same.
 abbrev pub same_fixed : Fixed → Fixed → Bool
 same_fixed a b = nat_eq (fixed_number a) (fixed_number b)
-
--- A byte `0` to `9`.
-abbrev pub is_digit : ℕ → Bool
-is_digit b = nat_le 48 b && nat_le b 57
-
--- The number that digits write in base ten.
-abbrev pub decimal : List ℕ → ℕ
-decimal digits = fold (λ (n d : ℕ). n * 10 + (d - 48)) 0 digits
 
 -- The keywords that begin or join the parts of a statement.
 abbrev pub clause_keyword : List ℕ → Option Fixed
@@ -116,23 +112,23 @@ negated (suc n) = negsuc n
 -- All digits at the front are one integer, of at most 2 ^ 63 - 1.
 abbrev pub positive_at : List ℕ → Option (Token × ℕ)
 positive_at bytes =
-    if nat_lt (decimal (take (prefix_len is_digit bytes) bytes)) (2 ^ 63)
-    then Some (token.Literal (value.Int (pos (decimal (take (prefix_len is_digit bytes) bytes)))), prefix_len is_digit bytes)
+    if nat_lt (decimal_value (take (prefix_len is_ascii_digit bytes) bytes)) (2 ^ 63)
+    then Some (token.Literal (value.Int (pos (decimal_value (take (prefix_len is_ascii_digit bytes) bytes)))), prefix_len is_ascii_digit bytes)
     else None
 
 -- Behind a `-`: at least one digit, and a number of at most 2 ^ 63.
 abbrev pub negative_at : List ℕ → Option (Token × ℕ)
 negative_at bytes =
-    if (prefix_len is_digit bytes) == 0 then None
-    else if nat_le (decimal (take (prefix_len is_digit bytes) bytes)) (2 ^ 63)
-    then Some (token.Literal (value.Int (negated (decimal (take (prefix_len is_digit bytes) bytes)))), 1 + prefix_len is_digit bytes)
+    if (prefix_len is_ascii_digit bytes) == 0 then None
+    else if nat_le (decimal_value (take (prefix_len is_ascii_digit bytes) bytes)) (2 ^ 63)
+    then Some (token.Literal (value.Int (negated (decimal_value (take (prefix_len is_ascii_digit bytes) bytes)))), 1 + prefix_len is_ascii_digit bytes)
     else None
 
 -- Behind a `?`: at least one digit.
 abbrev pub parameter_at : List ℕ → Option (Token × ℕ)
 parameter_at bytes =
-    if (prefix_len is_digit bytes) == 0 then None
-    else Some (token.Parameter (min (decimal (take (prefix_len is_digit bytes) bytes)) (2 ^ 64 - 1)), 1 + prefix_len is_digit bytes)
+    if (prefix_len is_ascii_digit bytes) == 0 then None
+    else Some (token.Parameter (min (decimal_value (take (prefix_len is_ascii_digit bytes) bytes)) (2 ^ 64 - 1)), 1 + prefix_len is_ascii_digit bytes)
 
 -- bytes in front of the content, and how many bytes of the text they took
 abbrev pub with_content : List ℕ → ℕ → Option (List ℕ × ℕ) → Option (List ℕ × ℕ)
@@ -160,22 +156,14 @@ text_of_content (Some found) = if is_utf8 found.0 then Some (token.Literal (valu
 abbrev pub text_at : List ℕ → Option (Token × ℕ)
 text_at bytes = text_of_content (quoted bytes)
 
--- What a hexadecimal digit stands for.
-abbrev pub hex_value : ℕ → Option ℕ
-hex_value b =
-    if nat_le 48 b && nat_le b 57 then Some (b - 48)
-    else if nat_le 97 b && nat_le b 102 then Some (b - 87)
-    else if nat_le 65 b && nat_le b 70 then Some (b - 55)
-    else None
-
 -- Behind `x'`: pairs of hexadecimal digits up to a `'`. `high` is the first digit of a pair.
 abbrev pub hexadecimal_from : Option ℕ → List ℕ → Option (List ℕ × ℕ)
 hexadecimal_from high [] = None
 hexadecimal_from None (b ∷ more) =
     if b == 39 then Some ([], 1)
-    else option_and_then (λ (digit : ℕ). with_content [] 1 (hexadecimal_from (Some digit) more)) (hex_value b)
+    else option_and_then (λ (digit : ℕ). with_content [] 1 (hexadecimal_from (Some digit) more)) (hex_digit_value b)
 hexadecimal_from (Some high) (b ∷ more) =
-    option_and_then (λ (low : ℕ). with_content ((high * 16 + low) ∷ []) 1 (hexadecimal_from None more)) (hex_value b)
+    option_and_then (λ (low : ℕ). with_content ((high * 16 + low) ∷ []) 1 (hexadecimal_from None more)) (hex_digit_value b)
 
 -- The bytes behind an `x'`, and how many bytes of the text they take.
 abbrev pub hexadecimal : List ℕ → Option (List ℕ × ℕ)
@@ -232,15 +220,11 @@ unfoldable pub token_at : List ℕ → Option (Token × ℕ)
 token_at [] = None
 token_at (b ∷ more) =
     if is_first_byte b then word_or_bytes_at (b ∷ more)
-    else if is_digit b then positive_at (b ∷ more)
+    else if is_ascii_digit b then positive_at (b ∷ more)
     else if b == 45 then negative_at more
     else if b == 63 then parameter_at more
     else if b == 39 then text_at more
     else sign_at b more
-
--- A space or a tab.
-abbrev pub is_blank : ℕ → Bool
-is_blank b = (b == 32) || (b == 9)
 
 -- A token at its place.
 abbrev pub placed : ℕ → Token → Placed

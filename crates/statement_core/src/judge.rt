@@ -6,12 +6,13 @@ ghost use Rattle.statement_core.specs.Resolving.{noted, short, word_judged, word
 
 use crate::earliest::{earlier_found, earlier_of_both};
 use crate::error::{Refusal, TextRule};
-use crate::lookup::{is_key_named, is_named, kind_named, kind_of_column, number_in_table};
+use crate::lookup::{is_key_named, kind_named, kind_of_column, number_in_table};
 use crate::syntax::{Form, Given, Named, Setting, Test, Written};
 use okws_base::items::Items;
 use okws_base::limit::{MOST_COLUMNS, MOST_CONDITIONS, MOST_PARAMETERS};
 use okws_base::value::Kind;
 use okws_plan::configuration::Column;
+use plain_text::parts::is_same;
 use std::alloc::{AllocError, Global};
 use std::marker::Model;
 
@@ -358,7 +359,7 @@ fn are_in_order(columns: &[Column], words: &[Named]) -> bool
         return false;
     }
     for i in 0..columns.len() {
-        if !is_named(columns[i].name.as_slice(), words[i].name.as_slice()) {
+        if !is_same(columns[i].name.as_slice(), words[i].name.as_slice()) {
             return false;
         }
     }

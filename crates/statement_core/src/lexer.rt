@@ -5,14 +5,16 @@ ghost use Rattle.std.specs.List.{prefix_len};
 ghost use Rattle.std.specs.Str.{is_utf8};
 ghost use Rattle.okws_base.specs.Names.{is_first_byte, is_word_byte};
 ghost use Rattle.statement_core.specs.Answers.{Gives};
-ghost use Rattle.statement_core.specs.Tokens.{keyword, clause_keyword, action_keyword, column_keyword, word_at, positive_at, negative_at, parameter_at, quoted, text_at, hex_value, hexadecimal, bytes_at, begins_bytes, word_or_bytes_at, negated, sign_at, below_at, above_at, token_at, is_blank, tokens, is_x};
+ghost use Rattle.statement_core.specs.Tokens.{keyword, clause_keyword, action_keyword, column_keyword, word_at, positive_at, negative_at, parameter_at, quoted, text_at, hexadecimal, bytes_at, begins_bytes, word_or_bytes_at, negated, sign_at, below_at, above_at, token_at, tokens, is_x};
 
 use crate::error::{CompileError, Refusal, TextRule};
-use crate::number::{capped_decimal, digits_len};
 use crate::token::{Fixed, Placed, Token};
 use okws_base::items::Items;
 use okws_base::name::are_same_word;
 use okws_base::value::{Text, Value};
+use plain_text::decimals::{capped_decimal, leading_digits};
+use plain_text::hexadecimal::hex_value_of;
+use plain_text::words::is_blank_byte;
 use std::alloc::{AllocError, Global};
 
 fn is_word_part(byte: u8) -> bool
@@ -138,10 +140,10 @@ fn int_token(number: i64) -> Token
 fn positive_of(bytes: &[u8]) -> Found
     ensures { result ≡ positive_at bytes.now }
 {
-    let len = digits_len(bytes);
-    let number = capped_decimal(&bytes[..len]);
+    let digits = leading_digits(bytes);
+    let number = capped_decimal(digits);
     if number <= i64::MAX as u64 {
-        Some((int_token(number as i64), len))
+        Some((int_token(number as i64), digits.len()))
     } else {
         None
     }
@@ -162,23 +164,23 @@ fn negated_number(number: u64) -> i64
 fn negative_of(bytes: &[u8]) -> Found
     ensures { result ≡ negative_at bytes.now }
 {
-    let len = digits_len(bytes);
-    let number = capped_decimal(&bytes[..len]);
-    if len == 0 || number > 1 << 63 {
+    let digits = leading_digits(bytes);
+    let number = capped_decimal(digits);
+    if digits.len() == 0 || number > 1 << 63 {
         return None;
     }
-    Some((int_token(negated_number(number)), 1 + len))
+    Some((int_token(negated_number(number)), 1 + digits.len()))
 }
 
 fn parameter_of(bytes: &[u8]) -> Found
     ensures { result ≡ parameter_at bytes.now }
 {
-    let len = digits_len(bytes);
-    if len == 0 {
+    let digits = leading_digits(bytes);
+    if digits.len() == 0 {
         return None;
     }
-    let number = capped_decimal(&bytes[..len]);
-    Some((Token::Parameter(number), 1 + len))
+    let number = capped_decimal(digits);
+    Some((Token::Parameter(number), 1 + digits.len()))
 }
 
 /// The content of a text behind its first quote, and how many bytes it takes with its last one.
@@ -225,19 +227,6 @@ fn text_of(alloc: Global, bytes: &[u8]) -> Result<Found, AllocError>
             None => Ok(None),
             Some(token) => Ok(Some((token, 1 + taken))),
         },
-    }
-}
-
-/// What a hexadecimal digit stands for.
-fn hex_value_of(byte: u8) -> Option<u8>
-    ensures is { result ≡ hex_value byte }
-    ensures below { IfSome result (λ value. value < 16) }
-{
-    match byte {
-        b'0'..=b'9' => Some(byte - b'0'),
-        b'a'..=b'f' => Some(byte - b'a' + 10),
-        b'A'..=b'F' => Some(byte - b'A' + 10),
-        _ => None,
     }
 }
 
@@ -357,12 +346,6 @@ fn token_of(alloc: Global, bytes: &[u8]) -> Result<Found, AllocError>
             }
         }
     }
-}
-
-fn is_blank_byte(byte: u8) -> bool
-    ensures { result ≡ is_blank byte }
-{
-    byte == b' ' || byte == b'\t'
 }
 
 fn refused(at: usize) -> CompileError

@@ -11,7 +11,6 @@ mod judge;
 mod law;
 mod lexer;
 mod lookup;
-mod number;
 mod parser;
 mod resolver;
 mod spelling;
@@ -26,8 +25,4 @@ pub use law::{
     tokens_are_read_again,
 };
 pub use lexer::tokens_of;
-pub use number::capped_decimal;
 pub use token::{Fixed, Placed, Token};
-
-#[cfg(test)]
-mod tests;

@@ -7,13 +7,14 @@ ghost use Rattle.statement_core.specs.Resolving.{short, table_number, column_num
 
 use okws_base::value::Kind;
 use okws_plan::configuration::{Column, Table};
+use plain_text::parts::is_same;
 
 fn place_in_table(columns: &[Column], name: &[u8]) -> Option<usize>
     ensures { result ≡ position (λ c. same_bytes c.name name.now) columns.now }
 {
     columns
         .iter()
-        .position(|column| is_named(column.name.as_slice(), name))
+        .position(|column| is_same(column.name.as_slice(), name))
 }
 
 fn place_in_tables(tables: &[Table], name: &[u8]) -> Option<usize>
@@ -21,7 +22,7 @@ fn place_in_tables(tables: &[Table], name: &[u8]) -> Option<usize>
 {
     tables
         .iter()
-        .position(|table| is_named(table.name.as_slice(), name))
+        .position(|table| is_same(table.name.as_slice(), name))
 }
 
 pub fn number_in_table(columns: &[Column], name: &[u8]) -> Option<u8>
@@ -34,12 +35,6 @@ pub fn number_in_tables(tables: &[Table], name: &[u8]) -> Option<u8>
     ensures { result ≡ table_number tables.now name.now }
 {
     short_number(place_in_tables(tables, name))
-}
-
-pub fn is_named(one: &[u8], other: &[u8]) -> bool
-    ensures { result ≡ same_bytes one.now other.now }
-{
-    one == other
 }
 
 fn short_number(place: Option<usize>) -> Option<u8>

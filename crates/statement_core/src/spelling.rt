@@ -1,10 +1,11 @@
 //! The canonical spelling of tokens.
 
-ghost use Rattle.std.specs.Prelude.{◌≡◌, ◌<◌, ◌++◌, IfOk, OnOk, true};
-ghost use Rattle.statement_core.specs.Canonical.{fixed_text, doubled, hex_digit, in_hex, value_text, token_text, opens, closes, joined};
+ghost use Rattle.std.specs.Prelude.{◌≡◌, ◌++◌, IfOk, OnOk, true};
+ghost use Rattle.statement_core.specs.Canonical.{fixed_text, doubled, value_text, token_text, opens, closes, joined};
 
 use crate::token::{Fixed, Token};
 use okws_base::value::Value;
+use plain_text::hexadecimal::push_hex;
 use std::alloc::{AllocError, Global};
 
 #[tactic(auto, unfolding(crate::specs::Canonical::fixed_text))]
@@ -54,23 +55,6 @@ fn put_doubled(out: &mut Vec<u8>, text: &[u8]) -> Result<(), AllocError>
     Ok(())
 }
 
-fn hex_byte(n: u8) -> u8
-    requires { n < 16 }
-    ensures { result ≡ hex_digit n }
-{
-    if n < 10 { b'0' + n } else { b'a' - 10 + n }
-}
-
-fn put_hex(out: &mut Vec<u8>, bytes: &[u8]) -> Result<(), AllocError>
-    ensures { OnOk result (out.new.items ≡ out.old.items ++ in_hex bytes.now) }
-{
-    for i in 0..bytes.len() {
-        out.push(hex_byte(bytes[i] / 16))?;
-        out.push(hex_byte(bytes[i] % 16))?;
-    }
-    Ok(())
-}
-
 fn put_value(alloc: Global, out: &mut Vec<u8>, value: &Value) -> Result<(), AllocError>
     ensures { OnOk result (out.new.items ≡ out.old.items ++ value_text value.now) }
 {
@@ -86,7 +70,7 @@ fn put_value(alloc: Global, out: &mut Vec<u8>, value: &Value) -> Result<(), Allo
         }
         Value::Bytes(bytes) => {
             out.extend_from_slice(b"x'")?;
-            put_hex(out, bytes.as_slice())?;
+            push_hex(out, bytes.as_slice())?;
             out.push(b'\'')?;
         }
     }

@@ -1,6 +1,6 @@
 use Rattle.std.proofs.Common.{◌≡◌, ◌++◌, length, List}
 use Rattle.std.specs.Prelude.{option_map}
-use Rattle.config_reader.specs.Words.{words}
+use Rattle.plain_text.specs.Words.{words}
 use Rattle.config_reader.specs.Declarations.{columns_from, AtName, ColumnWords}
 use Rattle.config_reader.proofs.column.columns_of.Given as goal
 

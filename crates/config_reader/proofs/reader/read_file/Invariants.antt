@@ -1,6 +1,6 @@
 use Rattle.std.proofs.Common.{◌≡◌, ◌+◌, ◌≤◌, length}
 use Rattle.okws_base.specs.declared.limit.TheConstants.{LONGEST_CONFIGURATION}
-use Rattle.config_reader.specs.Lines.{lines}
+use Rattle.std.specs.Str.Lines.{lines}
 use Rattle.config_reader.specs.Meaning.{meaning, read_from}
 use Rattle.config_reader.proofs.reader.read_file.Given as goal
 

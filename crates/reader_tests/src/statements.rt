@@ -1,8 +1,8 @@
-use crate::{CompileError, TextRule, compile, text_of};
 use okws_base::items::Items;
 use okws_base::name::Identifier;
 use okws_base::value::Kind;
 use okws_plan::configuration::{Column, Table};
+use statement_core::{CompileError, TextRule, compile, text_of};
 use std::alloc::Global;
 use std::test::*;
 

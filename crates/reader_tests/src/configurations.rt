@@ -1,4 +1,4 @@
-use crate::{ConfigError, read};
+use config_reader::{ConfigError, read};
 use okws_plan::configuration::Config;
 use std::alloc::{AllocError, Global};
 use std::test::*;

@@ -1,9 +1,0 @@
-use Rattle.std.proofs.Common.{◌∙◌, sym}
-use Rattle.config_reader.proofs.FirstWord.{no_word, first_word}
-use Rattle.config_reader.proofs.words.split_word.Goals as goal
-
-pub returns-then-is_empty-clause-words : goal.returns-then-is_empty-clause-words
-returns-then-is_empty-clause-words c = no_word c.args.bytes.now c.from_first_word-bytes.result.now c.from_first_word-bytes.ensures (sym c.is_empty.ensures ∙ c.if-is_empty.true)
-
-pub returns-clause-words : goal.returns-clause-words
-returns-clause-words c = first_word c.args.bytes.now c.from_first_word-bytes.result.now c.word_len-len.result c.from_first_word-bytes.ensures c.word_len-len.ensures.is (sym c.is_empty.ensures ∙ c.if-is_empty.false)

@@ -1,9 +1,0 @@
-use Rattle.std.proofs.Common.{◌≡◌, ◌++◌, length}
-use Rattle.config_reader.specs.Words.{words}
-use Rattle.config_reader.proofs.words.words_of.Given as goal
-
-abbrev pub invariant-loop-word : goal.invariant-loop-word
-invariant-loop-word l = l.out.items ++ words l.rest ≡ words l.fn.bytes
-
-abbrev pub decreases-loop-word : goal.decreases-loop-word
-decreases-loop-word l = length l.rest

@@ -1,0 +1,450 @@
+//! Scripts read, and refusals printed.
+
+ghost use Rattle.std.specs.Prelude.{◌≡◌, ◌≤◌, IfOk, length, []};
+
+use okws_base::items::{Items, copies};
+use okws_base::name::Name;
+use okws_plan::configuration::{Config, ProxyPlan, ServicePlan};
+use okws_plan::script::{Line, Method, Place};
+use plain_text::lines::first_line;
+use play_script::reading::{LineRead, read_first, read_line};
+use play_script::refusal::{config_refused, script_refused};
+use std::alloc::{AllocError, Global};
+use std::process::Abort;
+use std::test::Fail;
+
+fn none<T>(alloc: Global) -> Items<T>
+    ensures { result ≡ [] }
+{
+    Items::of(Vec::new(alloc))
+}
+
+fn name(alloc: Global, text: &[u8]) -> Result<Name, Fail> {
+    Ok(Name::new(Items::of(copies(alloc, text)?)).ok_or("not a name")?)
+}
+
+fn service(alloc: Global, text: &[u8]) -> Result<ServicePlan, Fail> {
+    Ok(ServicePlan {
+        name: name(alloc, text)?,
+        words: none(alloc),
+    })
+}
+
+fn proxy(alloc: Global, text: &[u8]) -> Result<ProxyPlan, Fail> {
+    Ok(ProxyPlan {
+        name: name(alloc, text)?,
+        tables: none(alloc),
+        queries: none(alloc),
+    })
+}
+
+/// A site with the services guest and other, the proxies main and side, and the templates page and
+/// secret.
+fn site(alloc: Global) -> Result<Config, Fail>
+    ensures services { IfOk result (λ c. length c.services ≡ 2) }
+    ensures proxies { IfOk result (λ c. length c.proxies ≡ 2) }
+    ensures templates { IfOk result (λ c. length c.templates ≡ 2) }
+{
+    Ok(Config {
+        proxies: Items::of(vec![in alloc; proxy(alloc, b"main")?, proxy(alloc, b"side")?]?),
+        services: Items::of(vec![in alloc; service(alloc, b"guest")?, service(alloc, b"other")?]?),
+        templates: Items::of(vec![in alloc; name(alloc, b"page")?, name(alloc, b"secret")?]?),
+        retry: 3,
+        paths: none(alloc),
+        grants: none(alloc),
+        readables: none(alloc),
+        loggers: none(alloc),
+    })
+}
+
+fn place_text(alloc: Global, place: Place) -> Result<String, AllocError> {
+    match place {
+        Place::Proxy(proxy) => format!(in alloc; "proxy {proxy}"),
+        Place::Pubd => String::from_str(alloc, "pubd"),
+        Place::Oklogd => String::from_str(alloc, "oklogd"),
+    }
+}
+
+fn method_text(method: Method) -> &'static str {
+    match method {
+        Method::Get => "GET",
+        Method::Head => "HEAD",
+        Method::Post => "POST",
+    }
+}
+
+/// A line with numbers in the place of names, and bytes in lower-case hexadecimal digits.
+fn line_text(alloc: Global, line: &Line) -> Result<String, AllocError> {
+    match line {
+        Line::Begin(service) => format!(in alloc; "begin {service}"),
+        Line::Install { service, place } => {
+            let at = place_text(alloc, *place)?;
+            format!(in alloc; "install {service} {at}")
+        }
+        Line::Revoke { service, place } => {
+            let at = place_text(alloc, *place)?;
+            format!(in alloc; "revoke {service} {at}")
+        }
+        Line::Boot(service) => format!(in alloc; "boot {service}"),
+        Line::Up(service) => format!(in alloc; "up {service}"),
+        Line::Down(service) => format!(in alloc; "down {service}"),
+        Line::Launch(service) => format!(in alloc; "launch {service}"),
+        Line::Relaunch(service) => format!(in alloc; "relaunch {service}"),
+        Line::Accept {
+            method,
+            target,
+            content,
+        } => {
+            let method = method_text(*method);
+            let target = hex::encode(alloc, target.as_slice())?;
+            let content = hex::encode(alloc, content.as_slice())?;
+            format!(in alloc; "accept {method} {target} {content}")
+        }
+        Line::Dialog(request) => format!(in alloc; "dialog {request}"),
+        Line::Bytes { service, bytes } => {
+            let bytes = hex::encode(alloc, bytes.as_slice())?;
+            format!(in alloc; "bytes {service} {bytes}")
+        }
+        Line::End(service) => format!(in alloc; "end {service}"),
+        Line::Publish { template, content } => {
+            let content = hex::encode(alloc, content.as_slice())?;
+            format!(in alloc; "publish {template} {content}")
+        }
+    }
+}
+
+fn read_text(alloc: Global, read: &LineRead) -> Result<String, AllocError> {
+    match read {
+        LineRead::Skipped => String::from_str(alloc, "skipped"),
+        LineRead::Broken(rule) => {
+            let number = rule.number();
+            format!(in alloc; "rule {number}")
+        }
+        LineRead::Says(line) => line_text(alloc, line),
+    }
+}
+
+/// The line reads as this.
+fn reads(
+    rt: &impl Abort,
+    alloc: Global,
+    config: &Config,
+    line: &[u8],
+    wanted: &str,
+) -> Result<(), Fail>
+    requires services { length config.now.services ≤ 64 }
+    requires proxies { length config.now.proxies ≤ 16 }
+    requires templates { length config.now.templates ≤ 64 }
+{
+    let read = read_line(alloc, config, line)?;
+    let text = read_text(alloc, &read)?;
+    assert_eq!(rt; text.as_str(), wanted, "at {line:?}");
+    Ok(())
+}
+
+const LINES: [(&[u8], &str); 24] = [
+    (b"begin guest", "begin 0"),
+    (b"install guest main", "install 0 proxy 0"),
+    (b"install other side", "install 1 proxy 1"),
+    (b"install guest pubd", "install 0 pubd"),
+    (b"revoke other oklogd", "revoke 1 oklogd"),
+    (b"boot other", "boot 1"),
+    (b"up guest", "up 0"),
+    (b"down guest", "down 0"),
+    (b"launch guest", "launch 0"),
+    (b"relaunch other", "relaunch 1"),
+    (b"accept GET /guest", "accept GET 2f6775657374 "),
+    (b"accept HEAD /", "accept HEAD 2f "),
+    (b"accept POST /a 00fF", "accept POST 2f61 00ff"),
+    (b"accept GET /a?", "accept GET 2f613f "),
+    (b"accept GET /a?b=1?", "accept GET 2f613f623d313f "),
+    (b"dialog 0", "dialog 0"),
+    (b"dialog 000000007", "dialog 7"),
+    (b"dialog 999999999", "dialog 999999999"),
+    (b"bytes guest 0aFf", "bytes 0 0aff"),
+    (b"end guest", "end 0"),
+    (b"publish page 61", "publish 0 61"),
+    (b"publish secret 6262", "publish 1 6262"),
+    (b" \t begin\tguest \t", "begin 0"),
+    (b"dialog  3", "dialog 3"),
+];
+
+const SKIPPED: [&[u8]; 8] = [
+    b"",
+    b" ",
+    b"\t \t",
+    b"#",
+    b"# begin guest",
+    b"  #begin guest",
+    b"#\xff",
+    b"\t#\x01\x7f",
+];
+
+const BAD_LINES: [&[u8]; 48] = [
+    b"hello",
+    b"okws 1",
+    b"\r",
+    b"\xff",
+    b"begin guest\xff",
+    b"begin \xc3",
+    b"begin",
+    b"begin guest other",
+    b"begin guest #",
+    b"Begin guest",
+    b"begins guest",
+    b"install guest",
+    b"install guest main side",
+    b"revoke guest",
+    b"revoke",
+    b"boot",
+    b"up guest main",
+    b"down",
+    b"launch",
+    b"relaunch guest guest",
+    b"accept",
+    b"accept GET",
+    b"accept get /guest",
+    b"accept PUT /guest",
+    b"accept GETS /guest",
+    b"accept GET guest",
+    b"accept GET *",
+    b"accept GET http://h/guest",
+    b"accept GET ?",
+    b"accept GET /a#b",
+    b"accept GET /a?b#c",
+    b"accept GET /\x7f",
+    b"accept GET /\xc3\xa4",
+    b"accept GET /guest 0",
+    b"accept GET /guest 0g",
+    b"accept GET /guest 00 00",
+    b"dialog",
+    b"dialog -1",
+    b"dialog 1x",
+    b"dialog 0000000001",
+    b"dialog 1 2",
+    b"bytes guest",
+    b"bytes guest 000",
+    b"bytes nobody 0",
+    b"bytes guest 00 00",
+    b"end",
+    b"publish nothing x1",
+    b"publish page",
+];
+
+const UNDECLARED: [&[u8]; 22] = [
+    b"begin nobody",
+    b"begin main",
+    b"begin page",
+    b"begin Guest",
+    b"begin gues",
+    b"begin guests",
+    b"begin guest\r",
+    b"begin gu\x01est",
+    b"begin #",
+    b"install nobody main",
+    b"install guest nowhere",
+    b"install guest other",
+    b"install guest page",
+    b"install guest PUBD",
+    b"revoke guest okd",
+    b"up pubd",
+    b"end oklogd",
+    b"bytes main 00",
+    b"relaunch secret",
+    b"publish guest 61",
+    b"publish main 61",
+    b"publish pubd 61",
+];
+
+#[test]
+fn lines_say_what_they_do(rt: HostRuntime) -> Result<(), Fail> {
+    let config = site(rt.alloc())?;
+    for (line, wanted) in LINES {
+        reads(&rt, rt.alloc(), &config, line, wanted)?;
+    }
+    Ok(())
+}
+
+#[test]
+fn skipped_lines_are_not_judged(rt: HostRuntime) -> Result<(), Fail> {
+    let config = site(rt.alloc())?;
+    for line in SKIPPED {
+        reads(&rt, rt.alloc(), &config, line, "skipped")?;
+    }
+    Ok(())
+}
+
+#[test]
+fn lines_outside_the_grammar(rt: HostRuntime) -> Result<(), Fail> {
+    let config = site(rt.alloc())?;
+    for line in BAD_LINES {
+        reads(&rt, rt.alloc(), &config, line, "rule 1")?;
+    }
+    Ok(())
+}
+
+#[test]
+fn names_that_are_not_declared(rt: HostRuntime) -> Result<(), Fail> {
+    let config = site(rt.alloc())?;
+    for line in UNDECLARED {
+        reads(&rt, rt.alloc(), &config, line, "rule 2")?;
+    }
+    Ok(())
+}
+
+/// How a line of a front and so many bytes behind it begins to read.
+fn long_line_text(
+    alloc: Global,
+    config: &Config,
+    front: &[u8],
+    byte: u8,
+    count: usize,
+) -> Result<String, Fail>
+    requires services { length config.now.services ≤ 64 }
+    requires proxies { length config.now.proxies ≤ 16 }
+    requires templates { length config.now.templates ≤ 64 }
+{
+    let mut line = Vec::from_slice(alloc, front)?;
+    let end = vec![in alloc; byte; count]?;
+    line.extend_from_slice(&end)?;
+    match read_line(alloc, config, &line)? {
+        LineRead::Says(
+            Line::Accept {
+                method: _,
+                target,
+                content,
+            },
+        ) => {
+            let target = target.as_slice().len();
+            let content = content.as_slice().len();
+            Ok(format!(in alloc; "{target} {content}")?)
+        }
+        LineRead::Says(
+            Line::Publish {
+                template: _,
+                content,
+            },
+        ) => {
+            let content = content.as_slice().len();
+            Ok(format!(in alloc; "{content}")?)
+        }
+        read => Ok(read_text(alloc, &read)?),
+    }
+}
+
+const LONG_LINES: [(&[u8], usize, &str); 9] = [
+    (b"accept GET /", 1_023, "1024 0"),
+    (b"accept GET /", 1_024, "rule 1"),
+    (b"accept GET /?", 1_024, "1026 0"),
+    (b"accept GET /?", 1_025, "rule 1"),
+    (b"accept POST / ", 524_288, "1 262144"),
+    (b"accept POST / ", 524_290, "rule 1"),
+    (b"publish page ", 524_290, "262145"),
+    (b"begin ", 65, "rule 2"),
+    (b"#", 70_000, "skipped"),
+];
+
+#[test]
+fn long_lines(rt: HostRuntime) -> Result<(), Fail> {
+    let config = site(rt.alloc())?;
+    for (front, count, wanted) in LONG_LINES {
+        let text = long_line_text(rt.alloc(), &config, front, b'0', count)?;
+        assert_eq!(rt; text.as_str(), wanted, "at {front:?} {count}");
+    }
+    Ok(())
+}
+
+/// The lines of a text, each with a `|` behind it.
+fn lines_text(alloc: Global, text: &[u8]) -> Result<Vec<u8>, AllocError> {
+    let mut out = Vec::new(alloc);
+    let mut rest = text;
+    while !rest.is_empty() {
+        let (line, after) = first_line(rest);
+        out.extend_from_slice(line)?;
+        out.push(b'|')?;
+        rest = after;
+    }
+    Ok(out)
+}
+
+const TEXTS: [(&[u8], &[u8]); 9] = [
+    (b"", b""),
+    (b"a", b"a|"),
+    (b"a\n", b"a|"),
+    (b"a\r\nb", b"a|b|"),
+    (b"a\r\r\n", b"a\r|"),
+    (b"a\r", b"a\r|"),
+    (b"a\rb\n\n", b"a\rb||"),
+    (b"\n\n", b"||"),
+    (b"\r\n \n", b"| |"),
+];
+
+#[test]
+fn lines_of_texts(rt: HostRuntime) -> Result<(), Fail> {
+    for (text, wanted) in TEXTS {
+        let lines = lines_text(rt.alloc(), text)?;
+        assert_eq!(rt; lines.as_slice(), wanted, "at {text:?}");
+    }
+    Ok(())
+}
+
+/// What the lines of a script read as, each with an LF behind it.
+fn script_text(alloc: Global, config: &Config, script: &[u8]) -> Result<String, Fail>
+    requires services { length config.now.services ≤ 64 }
+    requires proxies { length config.now.proxies ≤ 16 }
+    requires templates { length config.now.templates ≤ 64 }
+{
+    let mut out = String::new(alloc);
+    let mut rest = script;
+    while !rest.is_empty() {
+        let (read, after) = read_first(alloc, config, rest)?;
+        out.push_str(read_text(alloc, &read)?.as_str())?;
+        out.push_str("\n")?;
+        rest = after;
+    }
+    Ok(out)
+}
+
+const SCRIPT: &[u8] = b"# a dialog\r
+launch guest\r
+accept GET /guest
+\tdialog 0
+
+bytes guest 0000001741000000000000000000 01ade0b876903df1a0e56a5d40
+bytes guest 000000174100000000000000000001ade0b876903df1a0e56a5d40
+bytes guest 0000000a42000000000000000100
+bytes guest 000000154500c80a746578742f706c61696e00000000026f6b";
+
+const SCRIPT_READ: &str = "skipped
+launch 0
+accept GET 2f6775657374 
+dialog 0
+skipped
+rule 1
+bytes 0 000000174100000000000000000001ade0b876903df1a0e56a5d40
+bytes 0 0000000a42000000000000000100
+bytes 0 000000154500c80a746578742f706c61696e00000000026f6b
+";
+
+#[test]
+fn a_script_is_read_whole(rt: HostRuntime) -> Result<(), Fail> {
+    let config = site(rt.alloc())?;
+    let text = script_text(rt.alloc(), &config, SCRIPT)?;
+    assert_eq!(rt; text.as_str(), SCRIPT_READ);
+    Ok(())
+}
+
+#[test]
+fn refusals(rt: HostRuntime) -> Result<(), Fail> {
+    let script = script_refused(rt.alloc(), 24, 3)?;
+    assert_eq!(rt;
+        script.as_slice(),
+        b"refused: script line 24 rule 3\n".as_slice()
+    );
+    let config = config_refused(rt.alloc(), 0, 16)?;
+    assert_eq!(rt;
+        config.as_slice(),
+        b"refused: config line 0 rule 16\n".as_slice()
+    );
+    Ok(())
+}

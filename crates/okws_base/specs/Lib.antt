@@ -5,3 +5,4 @@ pub mod Names
 pub mod Kept
 pub mod Past
 pub mod Runs
+pub mod Turns

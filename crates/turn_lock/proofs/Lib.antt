@@ -1,0 +1,9 @@
+pub mod Views
+pub mod Steps
+pub mod Moves
+pub mod Learns
+pub mod Closes
+pub mod Parts
+pub mod Spots
+pub mod Reversed
+pub mod Gathers

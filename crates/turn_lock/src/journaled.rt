@@ -17,10 +17,18 @@ pub trait Journaled {
     /// The number that new entries will name.
     ghost holder: { Self → ℕ };
 
+    /// Which of several values of its type it is. No call changes it.
+    ghost label: { Self → ℕ };
+
     /// Has new entries name this number.
     fn hold(&mut self, number: u16)
         ensures same { journal self.new ≡ journal self.old }
+        ensures label { label self.new ≡ label self.old }
         ensures holder { holder self.new ≡ number };
+
+    /// Which of several values of its type it is.
+    fn label(&self) -> u16
+        ensures { result ≡ label self.now };
 
     /// The number that new entries name.
     fn holder(&self) -> u16

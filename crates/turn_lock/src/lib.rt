@@ -1,7 +1,11 @@
-//! What a lock that is taken in turns asks of the value behind it: a journal, and the number that new
-//! entries of it name.
+//! A lock that is taken in turns, round a value that keeps a journal. Each seat of the lock knows what it
+//! has seen of the journal, and the entries under its number in that are all that it made.
 #![tactic(auto)]
 
 mod journaled;
+mod queue;
+mod rule;
+mod turn;
 
 pub use journaled::Journaled;
+pub use turn::{Note, Seat, Turn};

@@ -1,0 +1,58 @@
+-- The parts that a join keeps.
+use Rattle.std.proofs.Common.{◌≡◌, ◌≢◌, ◌⊎◌, inl, inr, map, ℕ, zero, suc, ◌+◌, ◌-◌, ◌%◌, ◌^◌, ◌<◌, ◌≤◌, eqb, cond, Bool, true, false, List, [], ◌∷◌, ◌++◌, length, length-set, le_refl, drop, set, get_or, refl, sym, ap, ◌∙◌, subst, ⊎_elim, arith, append_assoc, append-nil, eq-eqb, ne_eqb, Some, None, Option, true≢false}
+use mathlib.Core.Logic.{dite}
+use mathlib.Core.Option as maybe
+use native.Mathlib.Decide.{ℕ_discrete}
+use lib.ListN.{get_elem?}
+use prog.Atomic.{either}
+use Rattle.atomic_table.specs.Table.{State, Me, Step, Act, keeps, takes, gives, step, stepped, Allows, Splits, Joins, Final, Seen, opening, Valid, carried_after, put_back, rest}
+use Rattle.std.proofs.Math.Seq.{drop-append_seam}
+use Rattle.std.proofs.Math.Nat.{mod-eq_of_lt}
+use Rattle.std.proofs.lemmas.List.{set-get_or}
+use Rattle.std.proofs.lemmas.Bool.{ltb-true, ltb-false}
+use Rattle.std.proofs.Math.Dec.{ltb}
+use Rattle.atomic_table.proofs.Lists.{at_set, at_longer, set_here, set_else, set_again, exchanged}
+use Rattle.atomic_table.specs.Seated.{TableId}
+use Rattle.atomic_table.specs.declared.shared.Seat.{Seat}
+use Rattle.turn_lock.specs.declared.rule.View.{View}
+use Rattle.turn_lock.specs.declared.rule.Part.{Part}
+use Rattle.turn_lock.specs.declared.rule.Stage.{Stage}
+use Rattle.turn_lock.specs.declared.rule.Stage.TheVariants.{Idle, Waits, Holds}
+use Rattle.turn_lock.specs.Tickets.{note_number, StartsWith, World, shelf, is_out, HasTicket, ticketed, with_ticket, IsNote, Owns, Fits, AllFit, Spare, Turned, Waiting, Holding, Stands, Knows, Kept, part_of, view_of, staged, holding, given, Goes, drawn, Gets, looked, served, longer, note_of, dealer, dealt, joined, spent_view, with_seen, parts_of, KnowsBoth, learned, met, opening_view, HasNumber, AllTold, Rests, IsNew, AreNew}
+use Rattle.okws_base.specs.Turns.{of, AllBy}
+
+module _ {E : Type 0} (by : E → ℕ) where
+  pub told-split : (log : List E) (ps qs : List (Part E)) → AllTold by log (ps ++ qs) → AllTold by log ps × AllTold by log qs
+  told-split log [] qs t = (tt, t)
+  told-split log (p ∷ ps) qs t = let r = told-split log ps qs t.2 in ((t.0, t.1, r.0), r.1)
+
+  pub starts_trans : (xs ys zs : List E) → StartsWith zs ys → StartsWith ys xs → StartsWith zs xs
+  starts_trans xs ys zs a b = (b.0 ++ a.0, a.1 ∙ ap (λ l. l ++ a.0) b.1 ∙ append_assoc xs b.0 a.0)
+
+  pub told_joined : (log seen : List E) (v u : View E) → StartsWith seen v.part.seen → AllTold by log (parts_of (with_seen seen (u.part ∷ u.olds ++ v.olds) v)) → AllTold by log (parts_of v) × AllTold by log (parts_of u)
+  told_joined log seen v u begins t =
+      let r = told-split log u.olds v.olds t.2.2 in
+      ((starts_trans v.part.seen seen log t.0 begins, t.1, r.1), (t.2.0, t.2.1, r.0))
+
+module _ {E : Type 0} where
+  pub has-left : (k : ℕ) (ps qs : List (Part E)) → HasNumber k ps → HasNumber k (ps ++ qs)
+  has-left k [] qs h = absurd h
+  has-left k (p ∷ ps) qs (inl e) = inl e
+  has-left k (p ∷ ps) qs (inr h) = inr (has-left k ps qs h)
+
+  pub has-right : (k : ℕ) (ps qs : List (Part E)) → HasNumber k qs → HasNumber k (ps ++ qs)
+  has-right k [] qs h = h
+  has-right k (p ∷ ps) qs h = inr (has-right k ps qs h)
+
+  pub has_joined : (k : ℕ) (seen : List E) (v u : View E) → HasNumber k (parts_of v) ⊎ HasNumber k (parts_of u) → HasNumber k (parts_of (with_seen seen (u.part ∷ u.olds ++ v.olds) v))
+  has_joined k seen v u (inl (inl e)) = inl e
+  has_joined k seen v u (inl (inr h)) = inr (inr (has-right k u.olds v.olds h))
+  has_joined k seen v u (inr (inl e)) = inr (inl e)
+  has_joined k seen v u (inr (inr h)) = inr (inr (has-left k u.olds v.olds h))
+
+module _ {E : Type 0} where
+  pub joined_told : (by : E → ℕ) (log seen : List E) (w v u : View E) → w ≡ with_seen seen (u.part ∷ u.olds ++ v.olds) v → StartsWith w.part.seen v.part.seen → AllTold by log (parts_of w) → AllTold by log (parts_of v) × AllTold by log (parts_of u)
+  joined_told by log seen w v u e begins t = told_joined by log seen v u (subst (λ (z : View E). StartsWith z.part.seen v.part.seen) e begins) (subst (λ (z : View E). AllTold by log (parts_of z)) e t)
+
+  pub joined_has : (k : ℕ) (seen : List E) (w v u : View E) → w ≡ with_seen seen (u.part ∷ u.olds ++ v.olds) v → HasNumber k (parts_of v) ⊎ HasNumber k (parts_of u) → HasNumber k (parts_of w)
+  joined_has k seen w v u e h = subst (λ (z : View E). HasNumber k (parts_of z)) (sym e) (has_joined k seen v u h)

@@ -1,0 +1,11 @@
+use Rattle.std.proofs.Common.{rules, arith, ◌≡◌, ℕ, ◌<◌, ◌≤◌, ◌+◌, suc, [], ◌∷◌, ◌++◌, map, reverse, length, refl, sym, ap, ◌∙◌, subst}
+use Rattle.turn_lock.specs.Seats.{SeatIs, AllGrow, HasSight, sight, sights, sight_of, AllComplete, IsSeat, AreFresh, IsFresh, IsOut, seat_of}
+use Rattle.okws_base.specs.Turns.{GrowsBy, AddsBy, Behind}
+use Rattle.turn_lock.proofs.Reversed.{grown, goes, complete_given, complete_learned, grown_learned, complete-append, all_grown, none_of, behind, has_number, new-pop, is_seat, is_fresh, fresh-push}
+use Rattle.turn_lock.proofs.turn.Turn.take.Goals as goal
+
+pub returns-clause-grows : goal.returns-clause-grows
+returns-clause-grows g c =
+    let p = c.seat.inside.spot.place.me.0.part in
+    subst (λ (a : SeatIs _). GrowsBy g.V.Journaled.by a.number a.seen (g.V.Journaled.journal c.take.result)) c.seat.view_is
+    (grown g.V.Journaled.by p.number p.seen p.own (g.V.Journaled.journal c.take.result) c.take.ensures.seen c.take.ensures.own c.seat.invariant.complete.0)

@@ -238,12 +238,19 @@ impl<K: Keeper> Journaled for Proxy<K> {
 
     ghost holder = { λ a. a.holder };
 
+    ghost label = { λ a. a.number };
+
     fn hold(&mut self, number: u16)
         ensures same { self.new.past ≡ self.old.past }
+        ensures label { self.new.number ≡ self.old.number }
         ensures holder { self.new.holder ≡ number }
         ensures all { self.new ≡ record self.old { holder = number } }
     {
         self.head.hold(number);
+    }
+
+    fn label(&self) -> u16 {
+        self.number
     }
 
     fn holder(&self) -> u16 {

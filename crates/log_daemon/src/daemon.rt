@@ -255,12 +255,18 @@ impl<S: Sink> Journaled for LogDaemon<S> {
 
     ghost holder = { λ a. a.holder };
 
+    ghost label = { λ _. 0 };
+
     fn hold(&mut self, number: u16)
         ensures same { self.new.past ≡ self.old.past }
         ensures holder { self.new.holder ≡ number }
         ensures all { self.new ≡ record self.old { holder = number } }
     {
         self.head.hold(number);
+    }
+
+    fn label(&self) -> u16 {
+        0
     }
 
     fn holder(&self) -> u16 {

@@ -352,12 +352,18 @@ impl Journaled for Pubd {
 
     ghost holder = { λ a. a.holder };
 
+    ghost label = { λ _. 0 };
+
     fn hold(&mut self, number: u16)
         ensures same { self.new.past ≡ self.old.past }
         ensures holder { self.new.holder ≡ number }
         ensures all { self.new ≡ record self.old { holder = number } }
     {
         self.holder = number;
+    }
+
+    fn label(&self) -> u16 {
+        0
     }
 
     fn holder(&self) -> u16 {

@@ -1,0 +1,6 @@
+use Rattle.std.proofs.Common.{rules, arith}
+use Rattle.live_board.proofs.Steps.{looks}
+use Rattle.live_board.proofs.board.Board.current.Goals as goal
+
+pub load-requires : goal.load-requires
+load-requires c = (search rules, search rules, looks _ _ _ _ _ (omega arith))

@@ -1,2 +1,4 @@
 pub mod Rules
 pub mod Fits
+pub mod Ordered
+pub mod Ranks

@@ -14,8 +14,8 @@ use okws_plan::statement::{Answer, Statement};
 use std::alloc::{AllocError, Global};
 
 /// The rows of some tables, each table's in a list in order of insertion. It tells them. Each call
-/// takes time in line with the rows of its table, but an ordered SELECT, which takes it in line with
-/// the square of its hits; an INSERT changes nothing but its row.
+/// takes time in line with the rows of its table, and an ordered SELECT that of sorting its hits
+/// besides; an INSERT changes nothing but its row.
 #[derive(Drop)]
 pub struct ListKeeper {
     tables: Vec<Table>,

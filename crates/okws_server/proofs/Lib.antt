@@ -1,6 +1,7 @@
 pub mod Ended
 pub mod Files
 pub mod Monitored
-pub mod Ordering
+pub mod InOrder
+mod Ordering
 pub mod Said
 pub mod ScriptLines

@@ -1,3 +1,5 @@
+//! Configurations that are read, and those that are refused.
+
 use config_reader::{ConfigError, read};
 use okws_plan::configuration::Config;
 use std::alloc::{AllocError, Global};

@@ -6,6 +6,10 @@
 #[cfg(test)]
 mod configurations;
 #[cfg(test)]
+mod script_texts;
+#[cfg(test)]
 mod scripts;
+#[cfg(test)]
+mod statement_rules;
 #[cfg(test)]
 mod statements;

@@ -7,6 +7,7 @@ mod canonical;
 mod compiler;
 mod earliest;
 mod error;
+mod front;
 mod judge;
 mod law;
 mod lexer;

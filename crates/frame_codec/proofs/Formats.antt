@@ -30,6 +30,9 @@ pub joined-is : (text : List ℕ) (parts : List (List ℕ)) → joined text part
 joined-is text [] = sym (append-nil text)
 joined-is text (p ∷ ps) = joined-is (text ++ p) ps ∙ append_assoc text p (bytes_of ps)
 
+pub length-joined : (text : List ℕ) (parts : List (List ℕ)) → length (joined text parts) ≡ length text + size parts
+length-joined text parts = ap length (joined-is text parts) ∙ length-append text (bytes_of parts) ∙ ap (λ (n : ℕ). length text + n) (length-bytes_of parts)
+
 -- ---- bytes
 
 abbrev pub IsBytes : List ℕ → Type 0

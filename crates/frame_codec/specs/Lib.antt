@@ -1,4 +1,6 @@
 pub mod Spelling
+pub mod Taking
+pub mod Bounds
 pub mod Size
 pub mod Stream
 pub mod Reading

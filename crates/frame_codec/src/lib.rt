@@ -3,6 +3,7 @@
 
 mod field;
 pub mod frame;
+pub mod framing;
 pub mod kind;
 pub mod laws;
 pub mod making;
@@ -11,5 +12,6 @@ pub mod reading;
 pub mod reply;
 pub mod server;
 pub mod service;
+pub mod taker;
 #[cfg(test)]
 mod tests;

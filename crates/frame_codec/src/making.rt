@@ -6,7 +6,7 @@ ghost use Rattle.okws_base.specs.declared.value.Value.{Value};
 ghost use Rattle.frame_codec.specs.Spelling.{size, server_parts, HasSpelling};
 
 use crate::frame::{Issued, ServerFrame};
-use crate::part::{len, sizes};
+use crate::part::{count_all, len};
 use okws_base::items::Items;
 use okws_base::limit::LONGEST_FRAME;
 use okws_base::value::Row;
@@ -17,7 +17,7 @@ pub fn boot(service: u16, incarnation: u32, tokens: Items<Issued>) -> ServerFram
     ensures frame { result ≡ ServerFrame.Boot service incarnation tokens }
     ensures spelling { HasSpelling result }
 {
-    let _size = sizes(tokens.as_slice());
+    let _size = count_all(0, tokens.as_slice());
     ServerFrame::Boot {
         service,
         incarnation,
@@ -69,7 +69,7 @@ pub fn rows(columns: u8, rows: Items<Row>) -> ServerFrame
     ensures frame { result ≡ ServerFrame.Rows columns rows }
     ensures spelling { HasSpelling result }
 {
-    let _size = sizes(rows.as_slice());
+    let _size = count_all(0, rows.as_slice());
     ServerFrame::Rows { columns, rows }
 }
 

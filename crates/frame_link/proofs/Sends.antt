@@ -1,5 +1,5 @@
 -- How puts follow on one another.
-use Rattle.std.proofs.Common.{◌≡◌, ◌≤◌, ℕ, ◌+◌, List, [], ◌++◌, length, refl, ◌∙◌, arith}
+use Rattle.std.proofs.Common.{◌≡◌, ◌≤◌, ℕ, ◌+◌, List, [], ◌++◌, length, refl, subst, ◌∙◌, arith}
 use Rattle.std.specs.declared.result.Result.{Result}
 use Rattle.std.specs.declared.result.Result.TheVariants.{Ok, Err}
 use Rattle.std.proofs.KnownBytes.{Appends-trans, Appends-nil}
@@ -38,6 +38,9 @@ sends_then start mid new text bytes result a b = record {
         → MatchResult r (λ _. Appends start.given new.given (text ++ bytes)) (λ _. AppendsPrefix start.given new.given (text ++ bytes))
     both (Ok done) more = Appends-trans start.given mid.given new.given text bytes a.puts more
     both (Err fault) more = prefix_after start.given mid.given new.given text bytes a.puts more
+
+pub sends_after : (start mid new : Wire) (text bytes : List ℕ) (before after : Result (Unit {0}) LinkFault) → before ≡ Ok tt → Sends start text before mid → Sends mid bytes after new → Sends start (text ++ bytes) after new
+sends_after start mid new text bytes before after is a b = sends_then start mid new text bytes after (subst (λ (r : Result (Unit {0}) LinkFault). Sends start text r mid) is a) b
 
 pub sends_nothing : (wire : Wire) → Sends wire [] (Ok tt) wire
 sends_nothing wire = record {

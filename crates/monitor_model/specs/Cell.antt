@@ -42,12 +42,22 @@ last_booted (Missed worker wanted is ∷ J) = last_booted J
 last_booted (cell.Dialog d ∷ J) = last_booted J
 last_booted (cell.Speaking worker items ∷ J) = last_booted J
 
--- Dialogs and Retired stand only where the cell has an incarnation; a Boot only where it has none, and above every Boot before; a Missed carries the incarnation that is, and another that was wanted.
+-- An incarnation that superseded incarnation k is above it.
+abbrev pub IsShownAbove : ℕ → End → Type 0
+IsShownAbove k (end.Superseded shown) = k < shown
+IsShownAbove k end.Reply = Unit {0}
+IsShownAbove k end.BadFrame = Unit {0}
+IsShownAbove k end.Ended = Unit {0}
+IsShownAbove k end.LinkFault = Unit {0}
+IsShownAbove k end.FrameLimit = Unit {0}
+IsShownAbove k end.Starved = Unit {0}
+
+-- Dialogs and Retired stand only where the cell has an incarnation, and what superseded a dialog is above that; a Boot only where it has none, and above every Boot before; a Missed carries the incarnation that is, and another that was wanted.
 abbrev pub MayStand : List CellEvent → CellEvent → Type 0
 MayStand J (Boot k) = (incarnation J ≡ 0) × (last_booted J < k)
 MayStand J Retired = incarnation J ≢ 0
 MayStand J (Missed worker wanted is) = (is ≡ incarnation J) × (wanted ≢ is)
-MayStand J (cell.Dialog d) = incarnation J ≢ 0
+MayStand J (cell.Dialog d) = (incarnation J ≢ 0) × IsShownAbove (incarnation J) d.end
 MayStand J (cell.Speaking worker items) = incarnation J ≢ 0
 
 -- The last event is a dialog that lacks its end.

@@ -14,7 +14,7 @@ use Rattle.monitor_model.specs.declared.record.Item.{Item}
 use Rattle.monitor_model.specs.declared.record.Item.TheVariants.{Said}
 use Rattle.monitor_model.specs.declared.record.Record.{Record}
 use Rattle.monitor_model.specs.Answered.{IsDialogIn, IsOpenIn, AreEventsIn, speaker_of}
-use Rattle.monitor_model.specs.Cell.{incarnation, last_booted, after_end}
+use Rattle.monitor_model.specs.Cell.{incarnation}
 use Rattle.monitor_model.specs.Course.{Speaker, said_count}
 use Rattle.monitor_model.specs.Played.{record_of, with_open}
 use Rattle.monitor_model.specs.Stage.{Stage, Stand, Opened, stand}
@@ -23,6 +23,7 @@ use Rattle.monitor_model.specs.Script.{greatest, begins, closed, superseded, sup
 use Rattle.monitor_model.proofs.Lawful.Plain.{none_some}
 use Rattle.monitor_model.proofs.Lawful.Kept.{IsGood}
 use Rattle.monitor_model.proofs.Lawful.Settled.{closed_there, retired_there, settled_keeps}
+use Rattle.monitor_model.proofs.Lawful.Cells.{was_booted}
 use Rattle.monitor_model.proofs.Lawful.Stages.{open_is_declared, IsBootable, IsShut, IsEmpty, superseded_is_shut, retired_is_empty, retired_stage}
 use Rattle.monitor_model.proofs.Lawful.Launches.{begins_is_launchable, installed_is_bootable, revoked_is_launchable, taken_down_is_launchable}
 use Rattle.monitor_model.proofs.Lawful.Records.{journal}
@@ -107,24 +108,6 @@ answering_superseded_if C s (Some opened) S all is above =
 
 pub answering_superseded : (C : Config) (s : ℕ) (S : Stage) → IsAnswering C S → incarnation (stand S s).past < greatest S s → IsAnswering C (superseded s S)
 answering_superseded C s S all above = answering_superseded_if C s (stand S s).open_dialog S all refl above
-
--- an incarnation was booted
-after_le : (how : End) (n m : ℕ) → n ≤ m → after_end how n ≤ m
-after_le end.Reply n m below = below
-after_le (end.Superseded shown) n m below = below
-after_le end.BadFrame n m below = omega arith
-after_le end.Ended n m below = omega arith
-after_le end.LinkFault n m below = omega arith
-after_le end.FrameLimit n m below = omega arith
-after_le end.Starved n m below = omega arith
-
-pub was_booted : (J : List CellEvent) → incarnation J ≤ last_booted J
-was_booted [] = omega arith
-was_booted (cell.Boot k ∷ J) = omega arith
-was_booted (cell.Retired ∷ J) = omega arith
-was_booted (cell.Missed worker wanted is ∷ J) = was_booted J
-was_booted (cell.Dialog d ∷ J) = after_le d.end (incarnation J) (last_booted J) (was_booted J)
-was_booted (cell.Speaking worker items ∷ J) = was_booted J
 
 bootable_is_above : (C : Config) (seed : List ℕ) (s : ℕ) (S : Stage) → IsBootable C seed s S → incarnation (stand S s).past < greatest S s
 bootable_is_above C seed s S b = omega (arith, was_booted (stand S s).past, b.fresh)

@@ -1,5 +1,5 @@
 -- One event more at a cell.
-use Rattle.std.proofs.Common.{◌≡◌, ◌≢◌, ℕ, ◌<◌, ◌≤◌, Bool, true, false, List, ◌∷◌, Option, Some, None, refl, ap, sym, arith, length, eqb-true, ◌==◌, get_or-set_same, get_or-set_other, subst, le_trans}
+use Rattle.std.proofs.Common.{◌≡◌, ◌≢◌, ℕ, ◌<◌, ◌≤◌, Bool, true, false, List, [], ◌∷◌, Option, Some, None, refl, ap, sym, arith, length, eqb-true, ◌==◌, get_or-set_same, get_or-set_other, subst, le_trans}
 use Rattle.std.specs.Prelude.{filter, slice_set, slice_index_or}
 use Rattle.std.proofs.lemmas.Bool.{eqb-false}
 use Rattle.monitor_model.specs.declared.record.CellEvent.{CellEvent}
@@ -9,13 +9,31 @@ use Rattle.monitor_model.specs.declared.record.End.{End}
 use Rattle.monitor_model.specs.declared.record.End.TheVariants as end
 use Rattle.monitor_model.specs.declared.record.Own.{Own}
 use Rattle.monitor_model.specs.declared.record.Own.TheVariants as own
-use Rattle.monitor_model.specs.Cell.{incarnation, last_booted}
+use Rattle.monitor_model.specs.Cell.{incarnation, last_booted, after_end}
 use Rattle.monitor_model.specs.Legal.{ShownFits, EventShownFits}
 use Rattle.monitor_model.specs.Merged.{is_at_cell}
 use Rattle.monitor_model.specs.Stage.{Stand, Opened, empty_stand}
 use Rattle.monitor_model.specs.Played.{with_open}
 use Rattle.monitor_model.proofs.Lawful.Plain.{each_more}
 use Rattle.monitor_model.proofs.Lawful.Kept.{CellKept, EndFits}
+
+-- a cell's incarnation was booted
+after_le : (how : End) (n m : ℕ) → n ≤ m → after_end how n ≤ m
+after_le end.Reply n m below = below
+after_le (end.Superseded shown) n m below = below
+after_le end.BadFrame n m below = omega arith
+after_le end.Ended n m below = omega arith
+after_le end.LinkFault n m below = omega arith
+after_le end.FrameLimit n m below = omega arith
+after_le end.Starved n m below = omega arith
+
+pub was_booted : (J : List CellEvent) → incarnation J ≤ last_booted J
+was_booted [] = omega arith
+was_booted (cell.Boot k ∷ J) = omega arith
+was_booted (cell.Retired ∷ J) = omega arith
+was_booted (cell.Missed worker wanted is ∷ J) = was_booted J
+was_booted (cell.Dialog d ∷ J) = after_le d.end (incarnation J) (last_booted J) (was_booted J)
+was_booted (cell.Speaking worker items ∷ J) = was_booted J
 
 pub cell_booted : (s k : ℕ) (J : List CellEvent) (items : List Own) (greatest : ℕ) → CellKept s None J items greatest → incarnation J ≡ 0 → last_booted J < k → k ≤ greatest
     → CellKept s None (Boot k ∷ J) (own.Boot s k ∷ items) greatest
@@ -83,7 +101,7 @@ cell_went_on s opened now J items greatest kept = record {
   last = kept.last;
 }
 
-pub cell_closed : (s : ℕ) (opened : Opened) (how : End) (J : List CellEvent) (items : List Own) (greatest : ℕ) → CellKept s (Some opened) J items greatest → EndFits greatest how
+pub cell_closed : (s : ℕ) (opened : Opened) (how : End) (J : List CellEvent) (items : List Own) (greatest : ℕ) → CellKept s (Some opened) J items greatest → EndFits (incarnation J) greatest how
     → CellKept s None (cell.Dialog (record { worker = 0; items = opened.items; end = how }) ∷ J) items greatest
 cell_closed s opened how J items greatest kept fits = record {
   own = kept.own;
@@ -91,7 +109,7 @@ cell_closed s opened how J items greatest kept fits = record {
   below = kept.below;
   shown = (fits.0, kept.shown.1);
   unharmed = (fits.1, kept.unharmed.1);
-  law = kept.law;
+  law = (kept.law.0, kept.law.1, (kept.law.2, fits.2));
   silent = refl;
   last = kept.last;
 }

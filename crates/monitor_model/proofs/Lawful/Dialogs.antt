@@ -138,19 +138,19 @@ continued_is_open s was opened left S is =
     rw (get_or-set_same S.stands s (record (stand S s) { left = left; open_dialog = Some opened }) empty_stand (open_is_declared s S.stands was is)) refl
 
 -- how a dialog ends at a frame that was said
-end_fits : (greatest : ℕ) (how there : End) → EndFits greatest there → Some there ≡ Some how → EndFits greatest how
-end_fits greatest how there fits is = let same : there ≡ how = cc in rw same at fits
+end_fits : (k greatest : ℕ) (how there : End) → EndFits k greatest there → Some there ≡ Some how → EndFits k greatest how
+end_fits k greatest how there fits is = let same : there ≡ how = cc in rw same at fits
 
-reply_fits : (greatest : ℕ) (frame : ServiceFrame) (how : End) → reply_end frame ≡ Some how → EndFits greatest how
-reply_fits greatest (said.Reply status content_type location content) how is = end_fits greatest how end.Reply (tt, refl) is
-reply_fits greatest (said.Open p shown) how is = absurd (none_some how None refl is)
-reply_fits greatest (said.Call p n q args) how is = absurd (none_some how None refl is)
-reply_fits greatest (said.Get name) how is = absurd (none_some how None refl is)
-reply_fits greatest (said.Log text) how is = absurd (none_some how None refl is)
+reply_fits : (k greatest : ℕ) (frame : ServiceFrame) (how : End) → reply_end frame ≡ Some how → EndFits k greatest how
+reply_fits k greatest (said.Reply status content_type location content) how is = end_fits k greatest how end.Reply (tt, refl, tt) is
+reply_fits k greatest (said.Open p shown) how is = absurd (none_some how None refl is)
+reply_fits k greatest (said.Call p n q args) how is = absurd (none_some how None refl is)
+reply_fits k greatest (said.Get name) how is = absurd (none_some how None refl is)
+reply_fits k greatest (said.Log text) how is = absurd (none_some how None refl is)
 
-said_fits : (greatest : ℕ) (b : Bool) (frame : ServiceFrame) (how : End) → cond b (Some end.FrameLimit) (reply_end frame) ≡ Some how → EndFits greatest how
-said_fits greatest true frame how is = end_fits greatest how end.FrameLimit (tt, refl) is
-said_fits greatest false frame how is = reply_fits greatest frame how is
+said_fits : (k greatest : ℕ) (b : Bool) (frame : ServiceFrame) (how : End) → cond b (Some end.FrameLimit) (reply_end frame) ≡ Some how → EndFits k greatest how
+said_fits k greatest true frame how is = end_fits k greatest how end.FrameLimit (tt, refl, tt) is
+said_fits k greatest false frame how is = reply_fits k greatest frame how is
 
 good_takes : (C : Config) (seed : List ℕ) (s : ℕ) (opened : Opened) (frame : ServiceFrame) (left : List ℕ) (o : Option End) (S : Stage) (text : List ℕ) (now : Stage)
     → IsGood C seed S → (stand S s).open_dialog ≡ Some opened → said_end (said_count opened.items + 1) frame ≡ o → Takes C s opened frame left o S text now → IsGood C seed now
@@ -158,7 +158,7 @@ good_takes C seed s opened frame left (Some how) S text now g is ends takes =
     rw takes.0
     (good_closed C seed s opened (heard_said opened frame) how (continued s opened left S) (good_continued C seed s opened opened left S g is)
     (continued_is_open s opened opened left S is)
-    (said_fits (greatest S s) (nat_lt MOST_FRAMES (said_count opened.items + 1)) frame how ends))
+    (said_fits (incarnation (stand (continued s opened left S) s).past) (greatest S s) (nat_lt MOST_FRAMES (said_count opened.items + 1)) frame how ends))
 good_takes C seed s opened frame left None S text now g is ends takes =
     let more : Opened = record opened { items = Heard takes.0 ∷ Said frame ∷ opened.items } in
     rw takes.4
@@ -166,12 +166,12 @@ good_takes C seed s opened frame left None S text now g is ends takes =
 
 pub good_advances : (C : Config) (seed : List ℕ) (s : ℕ) (opened : Opened) (S : Stage) (text : List ℕ) (now : Stage)
     → IsGood C seed S → (stand S s).open_dialog ≡ Some opened → Advances C s opened S text now → IsGood C seed now
-good_advances C seed s opened S text now g is (inl ends) = rw ends.1 (good_superseded C seed s S g)
+good_advances C seed s opened S text now g is (inl ends) = rw ends.1 (good_superseded C seed s S (is_true_below (incarnation (stand S s).past) (greatest S s) ends.0) g)
 good_advances C seed s opened S text now g is (inr (inl takes)) =
     good_takes C seed s opened takes.1 takes.2 (said_end (said_count opened.items + 1) takes.1) S text now g is refl takes.4
-good_advances C seed s opened S text now g is (inr (inr (inl bad))) = rw bad.2 (good_closed C seed s opened opened end.BadFrame S g is (tt, refl))
-good_advances C seed s opened S text now g is (inr (inr (inr (inl ended)))) = rw ended.3 (good_closed C seed s opened opened end.Ended S g is (tt, refl))
-good_advances C seed s opened S text now g is (inr (inr (inr (inr cut)))) = rw cut.4 (good_closed C seed s opened opened end.BadFrame S g is (tt, refl))
+good_advances C seed s opened S text now g is (inr (inr (inl bad))) = rw bad.2 (good_closed C seed s opened opened end.BadFrame S g is (tt, refl, tt))
+good_advances C seed s opened S text now g is (inr (inr (inr (inl ended)))) = rw ended.3 (good_closed C seed s opened opened end.Ended S g is (tt, refl, tt))
+good_advances C seed s opened S text now g is (inr (inr (inr (inr cut)))) = rw cut.4 (good_closed C seed s opened opened end.BadFrame S g is (tt, refl, tt))
 
 pub good_goes_on : (C : Config) (seed : List ℕ) (s steps : ℕ) (S : Stage) (text : List ℕ) (now : Stage) → IsGood C seed S → GoesOn C s steps S text now → IsGood C seed now
 good_goes_on C seed s zero S text now g on = rw on.1 g
@@ -197,13 +197,13 @@ opened_cell C seed s k opened S g shut above is =
     cell_opened s opened (stand S s).past (filter (is_at_cell s) S.seen.own) (greatest S s) kept (there_is k (incarnation (stand S s).past) above is)
 
 good_at_once : (C : Config) (seed : List ℕ) (s k : ℕ) (opened : Opened) (S : Stage) → IsGood C seed S → s < length S.stands → (stand S s).open_dialog ≡ None → 0 < k → incarnation (stand S s).past ≡ k
-    → IsGood C seed (closed s opened (end.Superseded (greatest S s)) (with_item S (own.Dialog s)))
-good_at_once C seed s k opened S g declared shut above is =
+    → k < greatest S s → IsGood C seed (closed s opened (end.Superseded (greatest S s)) (with_item S (own.Dialog s)))
+good_at_once C seed s k opened S g declared shut above is later =
     let ended : Stand = closed_there opened.items (end.Superseded (greatest S s)) (stand S s) in
     good_dialog_item C seed s (settled ended) S g declared
     (settled_keeps (λ (J : List CellEvent) (o : Option Opened). CellKept s o J (own.Dialog s ∷ filter (is_at_cell s) S.seen.own) (greatest S s)) ended
     (cell_closed s opened (end.Superseded (greatest S s)) (stand S s).past (own.Dialog s ∷ filter (is_at_cell s) S.seen.own) (greatest S s)
-    (opened_cell C seed s k opened S g shut above is) (le_refl (greatest S s), refl)))
+    (opened_cell C seed s k opened S g shut above is) (le_refl (greatest S s), refl, omega (arith, is, later))))
 
 pub good_opened : (C : Config) (seed : List ℕ) (n s k : ℕ) (asked : Asked) (S : Stage) → IsGood C seed S → s < length S.stands → (stand S s).open_dialog ≡ None → 0 < k → incarnation (stand S s).past ≡ k
     → IsGood C seed (dialog_opened C n s k asked S)
@@ -217,6 +217,6 @@ pub good_begun : (C : Config) (seed : List ℕ) (n s k : ℕ) (asked : Asked) (S
     → IsGood C seed S → s < length S.stands → (stand S s).open_dialog ≡ None → 0 < k → Begun C n s k asked S text now → IsGood C seed now
 good_begun C seed n s k asked S text now g declared shut above (inl begun) = rw begun.1 (good_missed C seed s k S g declared shut begun.0)
 good_begun C seed n s k asked S text now g declared shut above (inr (inl begun)) =
-    rw begun.2 (good_at_once C seed s k (record { request = n; items = [] }) S g declared shut above begun.0)
+    rw begun.2 (good_at_once C seed s k (record { request = n; items = [] }) S g declared shut above begun.0 begun.1)
 good_begun C seed n s k asked S text now g declared shut above (inr (inr begun)) =
     good_goes_on C seed s begun.2 (dialog_opened C n s k asked S) begun.3 now (good_opened C seed n s k asked S g declared shut above begun.0) begun.4

@@ -35,13 +35,13 @@ use Rattle.monitor_model.proofs.Lawful.Plain.{each_reverse, replicate_at}
 use Rattle.monitor_model.proofs.Lawful.Kept.{IsGood}
 use Rattle.monitor_model.proofs.Lawful.Settled.{closed_there, retired_there, settled_here}
 use Rattle.monitor_model.proofs.Lawful.Stages.{open_is_declared, IsBootable, IsEmpty, superseded_is_shut, retired_is_empty, retired_stage}
-use Rattle.monitor_model.proofs.Lawful.Launches.{begins_is_launchable, installed_is_bootable, revoked_is_launchable, taken_down_is_launchable}
+use Rattle.monitor_model.proofs.Lawful.Launches.{begins_is_launchable, installed_is_bootable, taken_down_is_launchable}
 use Rattle.monitor_model.proofs.Lawful.Dialogs.{good_advances, good_opened}
 use Rattle.monitor_model.proofs.Lawful.Lines.{MayBegin, dialog_may_begin, good_install, good_marked, good_given, good_has_ended, unbroken}
 use Rattle.monitor_model.proofs.Lawful.Records.{journal, cell_is, good_run}
 use Rattle.monitor_model.proofs.Lawful.Hearing.{stand_when}
 use Rattle.monitor_model.proofs.Lawful.Telling.{stands_installed_all, stands_revoked_all}
-use Rattle.monitor_model.proofs.Lawful.Answering.{was_booted}
+use Rattle.monitor_model.proofs.Lawful.Cells.{was_booted}
 use Rattle.monitor_model.proofs.Lawful.Answered.{IsHeard, all_heard}
 
 -- All that came at a cell is what was said, and a rest.

@@ -15,7 +15,7 @@ use Rattle.monitor_model.specs.declared.record.Own.{Own}
 use Rattle.monitor_model.specs.Standing.{proxy_grant, pubd_grant, log_grant, up_at_okd}
 use Rattle.monitor_model.specs.Columns.{OkdLaw, ProxyLaw, PubdLaw, LogLaw, faults}
 use Rattle.monitor_model.specs.Launcher.{LauncherLaw, tries, is_dead, begun}
-use Rattle.monitor_model.specs.Cell.{CellLaw, is_speaking, last_booted}
+use Rattle.monitor_model.specs.Cell.{CellLaw, IsShownAbove, is_speaking, last_booted}
 use Rattle.monitor_model.specs.Legal.{ShownFits, EventShownFits}
 use Rattle.monitor_model.specs.Unharmed.{is_harm, IsHarmless, is_wanting}
 use Rattle.monitor_model.specs.declared.record.End.{End}
@@ -69,9 +69,9 @@ pub record SeenKept (C : Config) (seed : List ℕ) (J : Seen) : Type 0 where
   pub launcher : LauncherKept C J.launcher (filter_map launcher_item J.own)
   pub remembered : list_any is_wanting J.own ≡ false
 
--- How a dialog may end: by a number that was begun, and by no fault.
-abbrev pub EndFits : ℕ → End → Type 0
-EndFits greatest how = ShownFits greatest how × (is_harm how ≡ false)
+-- How a dialog of incarnation k may end: by a number above k that was begun, and by no fault.
+abbrev pub EndFits : ℕ → ℕ → End → Type 0
+EndFits k greatest how = ShownFits greatest how × (is_harm how ≡ false) × IsShownAbove k how
 
 -- Cell s, with its open dialog, if any, where `greatest` was begun: its law, and nothing was booted or shown that wasn't begun.
 pub record CellKept (s : ℕ) (opened : Option Opened) (J : List CellEvent) (items : List Own) (greatest : ℕ) : Type 0 where

@@ -29,7 +29,7 @@ use Rattle.monitor_model.proofs.Lawful.Plain.{none_some}
 use Rattle.monitor_model.proofs.Lawful.Settled.{closed_there, retired_there, settled_keeps}
 use Rattle.monitor_model.proofs.Lawful.Kept.{EndFits, CellKept, IsGood}
 use Rattle.monitor_model.proofs.Lawful.Columns.{UpFits, GrantFits, IsNote, seen_okd, seen_proxy, seen_pubd, seen_log, seen_begun, seen_noted, begun_grows}
-use Rattle.monitor_model.proofs.Lawful.Cells.{StandKept, cell_above, cell_booted, cell_retired, cell_closed, cell_went_on, stands_with}
+use Rattle.monitor_model.proofs.Lawful.Cells.{StandKept, was_booted, cell_above, cell_booted, cell_retired, cell_closed, cell_went_on, stands_with}
 
 -- an entry at a column
 pub good_begins : (C : Config) (seed : List ℕ) (s : ℕ) (S : Stage) → IsGood C seed S → IsGood C seed (begins s S)
@@ -110,7 +110,7 @@ pub open_is_declared : (s : ℕ) (stands : List Stand) (opened : Opened) → (sl
 open_is_declared s stands opened is = open_when s stands opened is (cases_lt s (length stands))
 
 -- an open dialog ends
-pub good_closed : (C : Config) (seed : List ℕ) (s : ℕ) (was opened : Opened) (how : End) (S : Stage) → IsGood C seed S → (stand S s).open_dialog ≡ Some was → EndFits (greatest S s) how
+pub good_closed : (C : Config) (seed : List ℕ) (s : ℕ) (was opened : Opened) (how : End) (S : Stage) → IsGood C seed S → (stand S s).open_dialog ≡ Some was → EndFits (incarnation (stand S s).past) (greatest S s) how
     → IsGood C seed (closed s opened how S)
 good_closed C seed s was opened how S g is fits =
     let kept : CellKept s (Some was) (stand S s).past (filter (is_at_cell s) S.seen.own) (greatest S s) = rw is at (g.cells s) in
@@ -120,12 +120,13 @@ good_closed C seed s was opened how S g is fits =
     (cell_closed s opened how (stand S s).past (filter (is_at_cell s) S.seen.own) (greatest S s)
     (cell_went_on s was opened (stand S s).past (filter (is_at_cell s) S.seen.own) (greatest S s) kept) fits))
 
-superseded_keeps : (C : Config) (seed : List ℕ) (s : ℕ) (o : Option Opened) (S : Stage) → (stand S s).open_dialog ≡ o → IsGood C seed S → IsGood C seed (superseded_if s o S)
-superseded_keeps C seed s None S is g = g
-superseded_keeps C seed s (Some opened) S is g = good_closed C seed s opened opened (end.Superseded (greatest S s)) S g is (le_refl (greatest S s), refl)
+superseded_keeps : (C : Config) (seed : List ℕ) (s : ℕ) (o : Option Opened) (S : Stage) → (stand S s).open_dialog ≡ o → incarnation (stand S s).past < greatest S s → IsGood C seed S
+    → IsGood C seed (superseded_if s o S)
+superseded_keeps C seed s None S is above g = g
+superseded_keeps C seed s (Some opened) S is above g = good_closed C seed s opened opened (end.Superseded (greatest S s)) S g is (le_refl (greatest S s), refl, above)
 
-pub good_superseded : (C : Config) (seed : List ℕ) (s : ℕ) (S : Stage) → IsGood C seed S → IsGood C seed (superseded s S)
-good_superseded C seed s S g = superseded_keeps C seed s (stand S s).open_dialog S refl g
+pub good_superseded : (C : Config) (seed : List ℕ) (s : ℕ) (S : Stage) → incarnation (stand S s).past < greatest S s → IsGood C seed S → IsGood C seed (superseded s S)
+good_superseded C seed s S above g = superseded_keeps C seed s (stand S s).open_dialog S refl above g
 
 -- what is up, and down
 pub good_upped : (C : Config) (seed : List ℕ) (s : ℕ) (S : Stage) → IsGood C seed S → s < length C.services → 0 < incarnation (stand S s).past → IsGood C seed (upped s S)
@@ -165,7 +166,8 @@ bootable_superseded C seed s (Some opened) S is b =
     let there : Stand = settled ended in
     record {
       bootable = record {
-        good = good_closed C seed s opened opened (end.Superseded (greatest S s)) S b.good is (le_refl (greatest S s), refl);
+        good = good_closed C seed s opened opened (end.Superseded (greatest S s)) S b.good is
+            (le_refl (greatest S s), refl, omega (arith, was_booted (stand S s).past, b.fresh));
         declared = rw (length-set S.stands s there) b.declared;
         fresh = rw (get_or-set_same S.stands s there empty_stand b.declared) (settled_keeps (λ (J : List CellEvent) (o : Option Opened). last_booted J < greatest S s) ended b.fresh);
       };

@@ -20,13 +20,14 @@ gives_then start mid new n m k done e a b = record {
   faults = record { later = omega (arith, a.faults.later, b.faults.later); cause = λ fault. rose_later start.faults mid.faults new.faults a.faults.later (b.faults.cause fault) };
   sure = λ steady room. b.sure (a.steady ∙ steady) (omega (arith, e, room, a.room));
   left = b.left ∙ a.left;
+  untold = λ none. b.untold (a.untold none);
   steady = b.steady ∙ a.steady;
   ended = b.ended ∙ a.ended;
   room = omega (arith, e, a.room, b.room);
 }
 
 pub done_so_far : (start mid : Wire) (n : ℕ) (done : Type 0) → Gives start mid n done → Gives start mid n (Unit {0})
-done_so_far start mid n done a = record { faults = record { later = a.faults.later; cause = λ fault. absurd (fault tt) }; sure = λ steady room. tt; left = a.left; steady = a.steady; ended = a.ended; room = a.room }
+done_so_far start mid n done a = record { faults = record { later = a.faults.later; cause = λ fault. absurd (fault tt) }; sure = λ steady room. tt; left = a.left; untold = a.untold; steady = a.steady; ended = a.ended; room = a.room }
 
 pub sends_then : (start mid new : Wire) (text bytes : List ℕ) (result : Result (Unit {0}) LinkFault) → Sends start text (Ok tt) mid → Sends mid bytes result new → Sends start (text ++ bytes) result new
 sends_then start mid new text bytes result a b = record {
@@ -45,5 +46,5 @@ sends_after start mid new text bytes before after is a b = sends_then start mid 
 pub sends_nothing : (wire : Wire) → Sends wire [] (Ok tt) wire
 sends_nothing wire = record {
   puts = Appends-nil wire.given;
-  link = record { faults = record { later = omega arith; cause = λ fault. absurd (fault refl) }; sure = λ steady room. refl; left = refl; steady = refl; ended = refl; room = omega arith };
+  link = record { faults = record { later = omega arith; cause = λ fault. absurd (fault refl) }; sure = λ steady room. refl; left = refl; untold = λ none. none; steady = refl; ended = refl; room = omega arith };
 }

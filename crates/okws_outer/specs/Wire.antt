@@ -1,5 +1,5 @@
 -- A link as contracts see it, and what each call leaves as it was.
-use Rattle.std.specs.Prelude.{◌≡◌, ◌≤◌, ℕ, ◌+◌, Bool, true, false, List, [], ◌++◌, Some, option_map}
+use Rattle.std.specs.Prelude.{◌≡◌, ◌≤◌, ℕ, ◌+◌, Bool, true, false, List, [], ◌++◌, Some, None, option_map}
 use Rattle.std.specs.declared.option.Option.{Option}
 use Rattle.okws_outer.specs.Streams.{Counts}
 
@@ -33,11 +33,12 @@ pub record Receives (old new : Wire) (fault : Type 0) : Type 0 where
   pub ended : new.ended ≡ old.ended
   pub room : new.room ≡ old.room
 
--- So many bytes were to go out, and nothing else changed but the count of faults: where it isn't done a fault was counted, which a steady link that had room for them never has.
+-- So many bytes were to go out, and nothing else changed but the count of faults: where it isn't done a fault was counted, which a steady link that had room for them never has. A link that doesn't tell never does.
 pub record Gives (old new : Wire) (count : ℕ) (done : Type 0) : Type 0 where
   pub faults : Counts old.faults new.faults (done → ⊥)
   pub sure : old.steady ≡ true → count ≤ old.room → done
   pub left : new.left ≡ old.left
+  pub untold : old.given ≡ None → new.given ≡ None
   pub steady : new.steady ≡ old.steady
   pub ended : new.ended ≡ old.ended
   pub room : old.room ≤ new.room + count

@@ -73,7 +73,7 @@ pub trait Link {
         ensures bytes { Pulls (wire self.old).left (wire self.new).left into.new result }
         ensures link { Receives (wire self.old) (wire self.new) (result ≡ Failed) };
 
-    /// Gives the bytes behind those that were given before.
+    /// Gives the bytes behind those that were given before. A link that doesn't tell never does.
     fn put(&mut self, bytes: &[u8]) -> Put
         ensures bytes { Puts (wire self.old).given (wire self.new).given bytes.now result }
         ensures link { Gives (wire self.old) (wire self.new) (length bytes.now) (result ≡ Done) };

@@ -8,6 +8,7 @@ pub mod Seen
 pub mod Course
 pub mod Answering
 pub mod Cell
+pub mod Sent
 pub mod Merged
 pub mod Columns
 pub mod Worker

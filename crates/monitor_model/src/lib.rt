@@ -5,5 +5,6 @@
 
 pub mod laws;
 pub mod record;
+pub mod sent;
 pub mod verdict;
 pub mod worked;

@@ -1,0 +1,59 @@
+-- What the links of a cell's incarnations were given, against what those heard.
+use Rattle.std.specs.Prelude.{◌≡◌, ℕ, Bool, true, false, List, [], ◌∷◌, ◌++◌, Option, Some, None, ◌==◌, ◌&&◌, ◌||◌, ◌⊎◌, map}
+use Rattle.okws_base.specs.Runs.{Each}
+use Rattle.okws_plan.specs.declared.configuration.Config.{Config}
+use Rattle.frame_codec.specs.Spelling.{server_spelling}
+use Rattle.frame_codec.specs.declared.frame.ServerFrame.{ServerFrame}
+use Rattle.monitor_model.specs.declared.record.CellEvent.{CellEvent}
+use Rattle.monitor_model.specs.declared.record.CellEvent.TheVariants as cell
+use Rattle.monitor_model.specs.declared.record.End.{End}
+use Rattle.monitor_model.specs.declared.record.End.TheVariants as end
+use Rattle.monitor_model.specs.declared.sent.Sent.{Sent}
+use Rattle.monitor_model.specs.Cell.{incarnation, heard}
+
+-- A dialog ended by a fault of its link.
+abbrev pub is_link_fault : End → Bool
+is_link_fault end.LinkFault = true
+is_link_fault end.Reply = false
+is_link_fault (end.Superseded shown) = false
+is_link_fault end.BadFrame = false
+is_link_fault end.Ended = false
+is_link_fault end.FrameLimit = false
+is_link_fault end.Starved = false
+
+-- The link of incarnation k failed, which ended its last dialog.
+abbrev pub is_broken : ℕ → List CellEvent → Bool
+is_broken k [] = false
+is_broken k (cell.Boot j ∷ J) = is_broken k J
+is_broken k (cell.Retired ∷ J) = is_broken k J
+is_broken k (cell.Missed worker wanted is ∷ J) = is_broken k J
+is_broken k (cell.Dialog d ∷ J) = ((incarnation J == k) && is_link_fault d.end) || is_broken k J
+is_broken k (cell.Speaking worker items ∷ J) = is_broken k J
+
+-- The incarnations that were booted, the last one first.
+abbrev pub all_booted : List CellEvent → List ℕ
+all_booted [] = []
+all_booted (cell.Boot k ∷ J) = k ∷ all_booted J
+all_booted (cell.Retired ∷ J) = all_booted J
+all_booted (cell.Missed worker wanted is ∷ J) = all_booted J
+all_booted (cell.Dialog d ∷ J) = all_booted J
+all_booted (cell.Speaking worker items ∷ J) = all_booted J
+
+-- What was put behind all that was heard: nothing; where the link failed, what it took of one frame more.
+abbrev pub IsCut : Bool → List ℕ → Type 0
+IsCut false front = front ≡ []
+IsCut true front = (front ≡ []) ⊎ ((next : ServerFrame) × (rest : List ℕ) × (front ++ rest ≡ server_spelling next))
+
+-- A link, where it tells, was given this text; where it failed, and what it took of one frame more.
+abbrev pub IsGiven : List ℕ → Bool → Option (List ℕ) → Type 0
+IsGiven text broken None = Unit {0}
+IsGiven text broken (Some given) = (front : List ℕ) × (given ≡ text ++ front) × IsCut broken front
+
+-- The link of an incarnation of s was given what that heard.
+abbrev pub IsSent : Config → List ℕ → ℕ → List CellEvent → Sent → Type 0
+IsSent C seed s J x = IsGiven (heard C seed s x.incarnation J) (is_broken x.incarnation J) x.given
+
+-- One link for each incarnation of s that was booted, the last one first, and each was given what its incarnation heard.
+pub record AreSent (C : Config) (seed : List ℕ) (s : ℕ) (J : List CellEvent) (sent : List Sent) : Type 0 where
+  pub all : map (λ (x : Sent). x.incarnation) sent ≡ all_booted J
+  pub each : Each (IsSent C seed s J) sent

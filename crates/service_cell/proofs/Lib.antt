@@ -1,5 +1,8 @@
 pub mod Fitting
 pub mod Wires
+pub mod Granted
+pub mod Hearing
+pub mod Sending
 pub mod Exchanging
 pub mod Stepping
 pub mod Opening

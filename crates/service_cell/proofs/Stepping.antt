@@ -6,9 +6,17 @@ use Rattle.monitor_model.specs.declared.record.Item.{Item}
 use Rattle.monitor_model.specs.Course.{Speaker}
 use Rattle.monitor_model.specs.Seen.{Seen}
 use Rattle.std.specs.Prelude.{IsTrue}
-use Rattle.service_cell.specs.Asking.{Asker, IsNextBy}
+use Rattle.service_cell.specs.Asking.{Asker, Drains, IsNextBy}
 use Rattle.service_cell.specs.Standing.{Open, Standing, speaker, finished}
-use Rattle.service_cell.specs.Steps.{crash_end, Crashes, Steps, StepsOpen}
+use Rattle.std.specs.declared.result.Result.TheVariants.{Err}
+use Rattle.okws_base.specs.declared.crash.Cause.TheVariants as cause
+use Rattle.frame_codec.specs.declared.frame.ServerFrame.{ServerFrame}
+use Rattle.monitor_model.specs.declared.verdict.Push.{Push}
+use Rattle.monitor_model.specs.Cell.{incarnation}
+use Rattle.monitor_model.specs.Course.{opening}
+use Rattle.service_cell.specs.Exchange.{Opens}
+use Rattle.service_cell.specs.declared.answer.Begun.TheVariants as begun
+use Rattle.service_cell.specs.Steps.{crash_end, Crashes, Steps, StepsOpen, OpeningBreaks, OpensCell}
 use Rattle.service_cell.specs.declared.exchange.Exchanged.{Exchanged}
 use Rattle.service_cell.specs.declared.exchange.Exchanged.TheVariants as exchanged
 
@@ -26,3 +34,24 @@ crashed who c d worker before items seen now why old new w there link speaks is 
 -- what was entered since the board was read
 pub next_since : (who asked : Asker) (seen before now : Seen) → asked ≡ who → before ≡ seen → (IsTrue asked.alone → IsNextBy asked.worker before now) → IsTrue who.alone → IsNextBy who.worker seen now
 next_since who asked seen before now same stays next = rw (← same, ← stays) next
+
+-- an opening that broke off
+pub opening_crashed : (who : Asker) (request : ServerFrame) (c d : Standing) (seen now : Seen) (pushes : List Push) (why : Cause) (old new : Wire) (items : List Item)
+    → Drains who c.service (incarnation c.past) seen pushes now → c.link ≡ Some old → d ≡ finished c who.worker items (crash_end why) (Some new) → Opens old (opening pushes request) (Err why) new items
+    → OpensCell who request c seen (begun.Crashed why) d now
+opening_crashed who request c d seen now pushes why old new items drains there is opens =
+    let last : d.link ≡ Some new = ap (λ (x : Standing). x.link) is in (
+      pushes,
+      drains,
+      items,
+      subst (λ (l : Option Wire). OpeningBreaks why (opening pushes request) items c.link l) (sym last)
+          (subst (λ (l : Option Wire). OpeningBreaks why (opening pushes request) items l (Some new)) (sym there) (breaks why opens)),
+      subst (λ (l : Option Wire). d ≡ finished c who.worker items (crash_end why) l) (sym last) is,
+    )
+  where
+    breaks : (why : Cause) → Opens old (opening pushes request) (Err why) new items → OpeningBreaks why (opening pushes request) items (Some old) (Some new)
+    breaks cause.LinkFault opens = opens
+    breaks cause.Starved opens = opens
+    breaks cause.BadFrame opens = opens
+    breaks cause.Ended opens = opens
+    breaks cause.FrameLimit opens = opens

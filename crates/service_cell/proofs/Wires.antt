@@ -37,12 +37,13 @@ appends_none : (a b : Option (List ℕ)) → b ≡ a → Appends a b []
 appends_none a b e = subst (λ (o : Option (List ℕ)). Appends a o []) (sym e) (Appends-nil a)
 
 pub stood : (old new : Wire) → GainsRoom old new → Moves old new [] []
-stood old new s = record { takes = consumes_none old.left new.left s.left; puts = appends_none old.given new.given s.given; faults = omega (arith, s.faults); steady = s.steady; ended = s.ended }
+stood old new s = record { takes = consumes_none old.left new.left s.left; puts = appends_none old.given new.given s.given; untold = λ none. s.given ∙ none; faults = omega (arith, s.faults); steady = s.steady; ended = s.ended }
 
 pub moves_then : (a b c : Wire) (t u p q : List ℕ) → Moves a b t p → Moves b c u q → Moves a c (t ++ u) (p ++ q)
 moves_then a b c t u p q x y = record {
   takes = Consumes-trans a.left b.left c.left t u x.takes y.takes;
   puts = Appends-trans a.given b.given c.given p q x.puts y.puts;
+  untold = λ none. y.untold (x.untold none);
   faults = omega (arith, x.faults, y.faults);
   steady = y.steady ∙ x.steady;
   ended = y.ended ∙ x.ended;
@@ -58,6 +59,7 @@ breaks_after a b c t u p q due x y = record {
   rest = y.rest;
   cut = y.cut;
   puts = subst (λ (bytes : List ℕ). Appends a.given c.given bytes) (sym (append_assoc p q y.front)) (Appends-trans a.given b.given c.given p (q ++ y.front) x.puts y.puts);
+  untold = λ none. y.untold (x.untold none);
   faults = rose_later a.faults b.faults c.faults x.faults y.faults;
   steady = y.steady ∙ x.steady;
   unsteady = sym x.steady ∙ y.unsteady;
@@ -83,7 +85,7 @@ pub puts_frame : (old new : Wire) (text : List ℕ) (result : Result (Unit {0}) 
     → (old.steady ≡ true → length text ≤ old.room)
     → PutsFrame old text result new
 puts_frame old new text (Ok done) bytes link room =
-    record { takes = consumes_none old.left new.left link.left; puts = bytes; faults = link.faults.later; steady = link.steady; ended = link.ended }
+    record { takes = consumes_none old.left new.left link.left; puts = bytes; untold = link.untold; faults = link.faults.later; steady = link.steady; ended = link.ended }
 puts_frame old new text (Err fault) bytes link room =
     record {
       takes = consumes_none old.left new.left link.left;
@@ -91,6 +93,7 @@ puts_frame old new text (Err fault) bytes link room =
       rest = drop bytes.taken text;
       cut = take-append-drop bytes.taken text;
       puts = bytes.given;
+      untold = link.untold;
       faults = link.faults.cause (λ e. cc);
       steady = link.steady;
       unsteady = unsteady_by old.steady (λ is. let done = link.sure is (room is) in cc);
@@ -105,6 +108,7 @@ broke_taking old mid new taken fault made takes link failed = breaks_after old m
   rest = [];
   cut = refl;
   puts = appends_none mid.given new.given link.given;
+  untold = λ none. link.given ∙ none;
   faults = link.faults.cause failed;
   steady = link.steady;
   unsteady = unsteady_by mid.steady (λ steady. link.sure steady failed);
@@ -116,6 +120,7 @@ pub took : (old mid new : Wire) (taken : List ℕ) (fault : Type 0) → GainsRoo
 took old mid new taken fault made takes link = moves_then old mid new [] taken [] [] (stood old mid made) (record {
   takes = takes;
   puts = appends_none mid.given new.given link.given;
+  untold = λ none. link.given ∙ none;
   faults = link.faults.later;
   steady = link.steady;
   ended = link.ended;

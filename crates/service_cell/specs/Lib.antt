@@ -2,4 +2,6 @@ pub mod Asking
 pub mod Standing
 pub mod Steps
 pub mod Tied
+pub mod Hearing
+pub mod Issuing
 pub mod Exchange

@@ -1,14 +1,16 @@
 -- A cell as contracts see it, and what comes and goes over its link.
-use Rattle.std.specs.Prelude.{◌≡◌, ◌≤◌, ℕ, Bool, true, List, [], ◌∷◌, ◌++◌, Option, Some, None, ◌==◌, if◌then◌else◌, option_map, IsFalse, ◌⊎◌}
+use Rattle.std.specs.Prelude.{◌≡◌, ◌≤◌, ℕ, Bool, true, List, [], ◌∷◌, ◌++◌, Option, Some, None, ◌==◌, if◌then◌else◌, option_map, IfSome, IsFalse, ◌⊎◌}
 use Rattle.std.specs.Io.KnownBytes.{Appends, Consumes}
 use Rattle.okws_outer.specs.Streams.{Rose, AppendsPrefix}
 use Rattle.frame_codec.specs.Stream.{Begins, IsBad}
 use Rattle.frame_codec.specs.declared.frame.ServiceFrame.{ServiceFrame}
 use Rattle.okws_outer.specs.Wire.{Wire}
+use Rattle.okws_plan.specs.declared.configuration.Config.{Config}
 use Rattle.monitor_model.specs.declared.record.Item.{Item}
 use Rattle.monitor_model.specs.declared.record.End.{End}
 use Rattle.monitor_model.specs.declared.record.CellEvent.{CellEvent}
 use Rattle.monitor_model.specs.declared.record.CellEvent.TheVariants as cell
+use Rattle.monitor_model.specs.declared.sent.Sent.{Sent}
 use Rattle.monitor_model.specs.Cell.{incarnation}
 use Rattle.monitor_model.specs.Course.{Speaker}
 
@@ -17,12 +19,24 @@ pub record Open : Type 0 where
   pub worker : ℕ
   pub items : List Item
 
--- A cell: its service, its finished events, the newest first, its open dialog, if there is one, and its link, if it has one.
+-- A cell: the site and the seed of its run, its service, its finished events, the newest first, its open dialog, if there is one, its link, if it has one, and what the links that it had before were given, the last one first.
 pub record Standing : Type 0 where
+  pub config : Config
+  pub seed : List ℕ
   pub service : ℕ
   pub past : List CellEvent
   pub open_dialog : Option Open
   pub link : Option Wire
+  pub sent : List Sent
+
+-- What the link of incarnation k, if it is there, and those before it were given.
+abbrev pub all_sent : ℕ → Option Wire → List Sent → List Sent
+all_sent k None sent = sent
+all_sent k (Some wire) sent = record { incarnation = k; given = wire.given } ∷ sent
+
+-- Where the link tells, nothing was put on it.
+abbrev pub IsFresh : Wire → Type 0
+IsFresh wire = IfSome wire.given (λ given. given ≡ [])
 
 -- Who speaks at the cell with a worker.
 abbrev pub speaker : Standing → ℕ → Speaker
@@ -45,6 +59,7 @@ with_open (Some o) J = cell.Speaking o.worker o.items ∷ J
 pub record Moves (old new : Wire) (taken put : List ℕ) : Type 0 where
   pub takes : Consumes old.left new.left taken
   pub puts : Appends old.given new.given put
+  pub untold : old.given ≡ None → new.given ≡ None
   pub faults : old.faults ≤ new.faults
   pub steady : new.steady ≡ old.steady
   pub ended : new.ended ≡ old.ended
@@ -56,6 +71,7 @@ pub record Breaks (old new : Wire) (taken put due : List ℕ) : Type 0 where
   pub rest : List ℕ
   pub cut : front ++ rest ≡ due
   pub puts : Appends old.given new.given (put ++ front)
+  pub untold : old.given ≡ None → new.given ≡ None
   pub faults : Rose old.faults new.faults
   pub steady : new.steady ≡ old.steady
   pub unsteady : IsFalse old.steady

@@ -20,11 +20,11 @@ use Rattle.monitor_model.specs.declared.record.End.{End}
 use Rattle.monitor_model.specs.declared.record.End.TheVariants as end
 use Rattle.monitor_model.specs.declared.record.CellEvent.TheVariants as cell
 use Rattle.monitor_model.specs.declared.record.Own.TheVariants as own
-use Rattle.monitor_model.specs.Cell.{incarnation}
+use Rattle.monitor_model.specs.Cell.{incarnation, last_booted}
 use Rattle.monitor_model.specs.Course.{Speaker, Answers, opening, heard_text, said_count}
 use Rattle.monitor_model.specs.Seen.{Seen, noted}
 use Rattle.service_cell.specs.Asking.{Asker, Drains}
-use Rattle.service_cell.specs.Standing.{Open, Standing, speaker, going, finished, Passes, Fails, left_of}
+use Rattle.service_cell.specs.Standing.{Open, Standing, all_sent, speaker, going, finished, Passes, Fails, left_of}
 use Rattle.service_cell.specs.declared.answer.Booting.{Booting}
 use Rattle.service_cell.specs.declared.answer.Booting.TheVariants as booting
 use Rattle.service_cell.specs.declared.answer.Begun.{Begun}
@@ -53,9 +53,13 @@ Boots wire link boot k c booting.Booted d =
 Boots wire link boot k c (booting.LinkFault back) d = (d ≡ c) × Fails (Some (wire link)) (Some (wire back)) [] [] (server_spelling boot)
 Boots wire link boot k c (booting.NoMemory back) d = (d ≡ c) × Passes (Some (wire link)) (Some (wire back)) [] []
 
--- The cell is there and retired, where it has an incarnation; its link is taken out.
+-- The cell is there and retired, where it has an incarnation; its link is taken out, and what it was given is known.
 abbrev pub retired : Standing → Standing
-retired c = record c { past = if incarnation c.past == 0 then c.past else cell.Retired ∷ c.past; link = None }
+retired c = record c {
+  past = if incarnation c.past == 0 then c.past else cell.Retired ∷ c.past;
+  link = None;
+  sent = all_sent (last_booted c.past) c.link c.sent;
+}
 
 -- How an opening broke off: on a fault of the link a prefix of the next frame that was due was put; where memory was refused all that was heard was put.
 abbrev pub OpeningBreaks : Cause → List Item → List Item → Option Wire → Option Wire → Type 0

@@ -1,30 +1,69 @@
 //! A service's cell.
 
-ghost use Rattle.std.specs.Prelude.{◌≡◌, ◌≢◌, ◌≤◌, ◌<◌, ℕ, ◌+◌, [], ◌∷◌, reverse, length, option_map, IsTrue, IsSome, IfSome, OnOk, OnErr, ◌↔◌};
-ghost use Rattle.okws_base.specs.declared.limit.TheConstants.{LONGEST_FRAME};
+ghost use Rattle.std.specs.Prelude.{◌≡◌, ◌≢◌, ◌≤◌, ◌<◌, ℕ, ◌+◌, [], ◌∷◌, reverse, length, option_map, IsTrue, IsSome, IfSome, IfOk, OnOk, OnErr, ◌↔◌};
+ghost use Rattle.std.specs.Arc.{arc_value};
+ghost use Rattle.okws_base.specs.declared.limit.TheConstants.{LONGEST_FRAME, MOST_INCARNATIONS, MOST_PROXIES};
 ghost use Rattle.monitor_model.specs.declared.record.CellEvent.TheVariants as cell;
 ghost use Rattle.monitor_model.specs.declared.record.End.TheVariants as end;
 ghost use Rattle.monitor_model.specs.declared.record.Own.TheVariants as own;
 ghost use Rattle.monitor_model.specs.Seen.{noted};
-ghost use Rattle.monitor_model.specs.Cell.{CellLaw, incarnation, last_booted};
+ghost use Rattle.monitor_model.specs.Cell.{CellLaw, incarnation, last_booted, boot_frame};
+ghost use Rattle.monitor_model.specs.Sent.{AreSent};
 ghost use Rattle.service_cell.specs.Asking.{KeepsBoard, IsNextBy};
 ghost use Rattle.service_cell.specs.Exchange.{AreSpelled, IsHeardOpen};
-ghost use Rattle.service_cell.specs.Standing.{with_open, finished};
+ghost use Rattle.service_cell.specs.Hearing.{AreHeard};
+ghost use Rattle.service_cell.specs.Standing.{IsFresh, all_sent, with_open, finished};
 ghost use Rattle.service_cell.specs.Steps.{crash_end, StepsOpen, OpensCell, Boots, Begins, AdvancesOpen, IsSpeaking, retired, superseded};
 
 use crate::answer::{Advanced, Begun, Booting};
 use crate::columns::Columns;
 use crate::exchange::{Exchanged, Who, exchange, hear_opening, put_frame};
+use crate::tokens::tokens_of;
 use frame_codec::frame::{Issued, ServerFrame};
 use frame_codec::making;
 use monitor_model::record::{CellEvent, Dialog, End, Item, Own};
+use monitor_model::sent::{Sent, Sents};
 use okws_base::crash::Cause;
 use okws_base::items::Items;
 use okws_base::journal::{Journal, Past};
 use okws_base::limit::LONGEST_FRAME;
+use okws_base::told::Says;
 use okws_outer::stream::Link;
+use okws_plan::configuration::Config;
 use std::alloc::{AllocError, Global};
 use std::marker::Model;
+use std::sync::Arc;
+use token_core::Seed;
+
+/// A link that goes, with its incarnation.
+#[derive(Drop)]
+struct Gone<L: Link> {
+    incarnation: u32,
+    link: L,
+}
+
+impl<L: Link> Says for Gone<L> {
+    ghost use Rattle.monitor_model.specs.declared.sent.Sent.{Sent};
+
+    type Item = Sent;
+
+    ghost item = { λ g. record { incarnation = g.incarnation; given = (L.wire g.link).given } };
+}
+
+/// A link that is handed out, with its incarnation.
+#[derive(Drop)]
+struct Going<'a, L: Link> {
+    incarnation: u32,
+    link: &'a L,
+}
+
+impl<'a, L: Link> Says for Going<'a, L> {
+    ghost use Rattle.monitor_model.specs.declared.sent.Sent.{Sent};
+
+    type Item = Sent;
+
+    ghost item = { λ g. record { incarnation = g.incarnation; given = (L.wire g.link.now).given } };
+}
 
 /// A dialog that is open.
 #[derive(Drop)]
@@ -61,46 +100,90 @@ fn finish(events: &mut Journal<CellEvent>, speaking: Speaking, end: End)
     }));
 }
 
+/// What was sent, once the link of this incarnation, if it is there, is handed out.
+fn hand_out<L: Link>(sent: &Sents, incarnation: u32, link: &Option<L>) -> Sents
+    ensures { result ≡ all_sent incarnation (option_map L.wire link.now) sent.now }
+{
+    match link {
+        Some(link) => sent.with(&Going { incarnation, link }),
+        None => sent.again(),
+    }
+}
+
+/// What was sent, once the link of this incarnation, if it is there, went too.
+fn let_go<L: Link + Drop>(sent: &Sents, incarnation: u32, link: Option<L>) -> Sents
+    ensures { result ≡ all_sent incarnation (option_map L.wire link) sent.now }
+{
+    match link {
+        Some(link) => sent.and(Gone { incarnation, link }),
+        None => sent.again(),
+    }
+}
+
 /// What stands of one service: the link to its program, its incarnation, and what happened.
 #[derive(Drop)]
 pub struct Cell<L: Link> {
     alloc: Global,
+    config: Arc<Config, Global>,
+    seed: Seed,
     service: u16,
     incarnation: u32,
+    last_booted: u32,
+    keeps: bool,
     events: Journal<CellEvent>,
     speaking: Option<Speaking>,
     pub(crate) wire: Option<L>,
+    sent: Sents,
 }
 
 impl<L: Link> Model for Cell<L> {
     ghost use Rattle.std.specs.Prelude.{option_map, is_some};
-    ghost use Rattle.service_cell.specs.Standing.{Standing, Open};
-    ghost use Rattle.service_cell.specs.Tied.{Tied};
+    ghost use Rattle.std.specs.Arc.{arc_value};
+    ghost use Rattle.service_cell.specs.Standing.{Standing};
+    ghost use Rattle.service_cell.specs.Tied.{Tied, IsCell, opened};
+    ghost use Rattle.service_cell.specs.Hearing.{AreHeard};
 
     ghost Value = { Standing };
 
     ghost view = { λ a. record {
+      config = arc_value a.config;
+      seed = a.seed;
       service = a.service;
       past = a.events.past;
-      open_dialog = option_map (λ o. record { worker = o.worker; items = o.items.past }) a.speaking;
+      open_dialog = opened a.speaking;
       link = option_map L.wire a.wire;
+      sent = a.sent;
     } };
 
-    ghost invariant = { λ a. Tied a.incarnation a.events a.speaking (is_some a.wire) };
+    ghost invariant = { λ a. IsCell (Tied a.incarnation a.last_booted a.events a.speaking (is_some a.wire))
+        (AreHeard (arc_value a.config) a.seed a.service a.events.past (opened a.speaking) (option_map L.wire a.wire) a.sent) };
 }
 
 impl<L: Link> Cell<L> {
-    /// The cell of a service, at which nothing happened; takes no memory.
-    pub fn new(alloc: Global, service: u16) -> Self
-        ensures { result ≡ record { service = service; past = []; open_dialog = None; link = None } }
+    /// The cell of a service of a site, at which nothing happened; takes no memory. The tokens of its
+    /// incarnations are those of the run's seed. What happens stays in memory only where `keeps` says
+    /// so.
+    pub fn new(
+        alloc: Global,
+        config: Arc<Config, Global>,
+        seed: Seed,
+        service: u16,
+        keeps: bool,
+    ) -> Self
+        ensures { result ≡ record { config = arc_value config; seed = seed; service = service; past = []; open_dialog = None; link = None; sent = [] } }
     {
         Cell {
             alloc,
+            config,
+            seed,
             service,
             incarnation: 0,
-            events: Journal::new(alloc),
+            last_booted: 0,
+            keeps,
+            events: Journal::new(alloc, keeps),
             speaking: None,
             wire: None,
+            sent: Sents::new(),
         }
     }
 
@@ -118,6 +201,24 @@ impl<L: Link> Cell<L> {
         self.incarnation
     }
 
+    /// The greatest incarnation that was booted, 0 for none.
+    pub fn last_booted(&self) -> u32
+        ensures { result ≡ last_booted self.now.past }
+    {
+        self.last_booted
+    }
+
+    /// The tokens of an incarnation, as `boot` wants them.
+    pub fn tokens(&self, number: u32) -> Result<Vec<Issued>, AllocError>
+        requires first { 0 < number }
+        requires most { number ≤ MOST_INCARNATIONS }
+        requires few { length self.now.config.proxies ≤ MOST_PROXIES }
+        ensures tokens { IfOk result (λ v. ServerFrame.Boot self.now.service number v.items ≡ boot_frame self.now.config self.now.seed self.now.service number) }
+        ensures few { IfOk result (λ v. length v.items ≤ MOST_PROXIES) }
+    {
+        tokens_of(self.alloc, &self.config, &self.seed, self.service, number)
+    }
+
     /// Whether a dialog is open.
     pub fn busy(&self) -> bool
         ensures { IsTrue result ↔ IsSome self.now.open_dialog }
@@ -126,16 +227,16 @@ impl<L: Link> Cell<L> {
     }
 
     /// The finished events, the oldest first. A dialog that just ended is the last.
-    pub fn events(&self) -> &[CellEvent]
-        ensures { reverse result.now ≡ self.now.past }
+    pub fn events(&self) -> Option<&[CellEvent]>
+        ensures { IfSome result (λ events. reverse events.now ≡ self.now.past) }
     {
         self.events.as_slice()
     }
 
     /// The items of the open dialog, the oldest first.
-    pub fn items(&self) -> &[Item]
+    pub fn items(&self) -> Option<&[Item]>
         requires { IsSome self.now.open_dialog }
-        ensures { IfSome self.now.open_dialog (λ o. reverse result.now ≡ o.items) }
+        ensures { IfSome self.now.open_dialog (λ o. IfSome result (λ items. reverse items.now ≡ o.items)) }
     {
         match &self.speaking {
             Some(speaking) => speaking.items.as_slice(),
@@ -143,7 +244,8 @@ impl<L: Link> Cell<L> {
         }
     }
 
-    /// Gives the cell a link and an incarnation, whose Boot frame with these tokens is put first.
+    /// Gives the cell a fresh link and an incarnation, whose Boot frame is put first: its tokens are
+    /// those of the run's seed, one for each proxy where the service has a grant, ascending.
     /// One that isn't Booted hands the link back and leaves the cell as it was.
     #[tactic(auto, using(crate::proofs::Wires::spelling_is_short))]
     pub fn boot(&mut self, link: L, number: u32, tokens: Items<Issued>) -> Booting<L>
@@ -152,6 +254,8 @@ impl<L: Link> Cell<L> {
         requires unlinked { self.old.link ≡ None }
         requires later { last_booted self.old.past < number }
         requires few { length tokens < 256 }
+        requires tokens { ServerFrame.Boot self.old.service number tokens ≡ boot_frame self.old.config self.old.seed self.old.service number }
+        requires fresh { IsFresh (L.wire link) }
         ensures { Boots L.wire link (ServerFrame.Boot self.old.service number tokens) number self.old result self.new }
     {
         let mut link = link;
@@ -163,6 +267,7 @@ impl<L: Link> Cell<L> {
             Ok(()) => {
                 self.events.enter(CellEvent::Boot(number));
                 self.incarnation = number;
+                self.last_booted = number;
                 match self.wire.replace(link) {
                     None => Booting::Booted,
                     Some(_) => unreachable!(),
@@ -182,12 +287,15 @@ impl<L: Link> Cell<L> {
             self.events.enter(CellEvent::Retired);
             self.incarnation = 0;
         }
-        self.wire.take()
+        let link = self.wire.take();
+        self.sent = hand_out(&self.sent, self.last_booted, &link);
+        link
     }
 
     /// Ends the open dialog as superseded by a greater incarnation. Takes no memory.
     pub fn supersede(&mut self, shown: u32)
-        requires { IsSome self.old.open_dialog }
+        requires open { IsSome self.old.open_dialog }
+        requires above { incarnation self.old.past < shown }
         ensures { self.new ≡ superseded self.old self.old.open_dialog shown }
     {
         match self.speaking.take() {
@@ -265,6 +373,7 @@ impl<L: Link> Cell<L> {
     ) -> Result<(), AllocError>
         requires closed { self.old.open_dialog ≡ None }
         requires there { 0 < incarnation self.old.past }
+        requires above { incarnation self.old.past < shown }
         ensures ok { OnOk result ((self.new ≡ finished self.old (C.asker columns.old).worker [] (end.Superseded shown) self.old.link) × (C.seen columns.new ≡ noted (C.seen columns.old) (own.Dialog self.old.service))) }
         ensures err { OnErr result ((self.new ≡ self.old) × (C.seen columns.new ≡ C.seen columns.old)) }
         ensures board { KeepsBoard C.asker C.shows columns.old columns.new }
@@ -274,7 +383,7 @@ impl<L: Link> Cell<L> {
         let speaking = Speaking {
             worker: columns.worker(),
             frames: 0,
-            items: Journal::new(self.alloc),
+            items: Journal::new(self.alloc, self.keeps),
         };
         finish(&mut self.events, speaking, End::Superseded(shown));
         Ok(())
@@ -299,7 +408,7 @@ impl<L: Link> Cell<L> {
         let Some(link) = &mut self.wire else {
             unreachable!()
         };
-        let mut items = Journal::new(self.alloc);
+        let mut items = Journal::new(self.alloc, self.keeps);
         let heard = hear_opening(link, &mut items, pushes, head, content);
         let speaking = Speaking {
             worker: columns.worker(),
@@ -382,20 +491,41 @@ impl<L: Link> Cell<L> {
         }
         exchanged
     }
+}
 
-    /// What happened, with an open dialog as the last event, and the link.
-    pub fn into_parts(self) -> (Past<CellEvent>, Option<L>)
+impl<L: Link + Drop> Cell<L> {
+    /// Retires the incarnation, where there is one, and lets the link go. Takes no memory.
+    pub fn discard(&mut self)
+        requires { self.old.open_dialog ≡ None }
+        ensures { self.new ≡ retired self.old }
+    {
+        if self.incarnation != 0 {
+            self.events.enter(CellEvent::Retired);
+            self.incarnation = 0;
+        }
+        let link = self.wire.take();
+        self.sent = let_go(&self.sent, self.last_booted, link);
+    }
+
+    // What happened, and what the links were given.
+    fn into_pasts(self) -> (Past<CellEvent>, Sents)
         ensures past { result.0 ≡ with_open self.open_dialog self.past }
         ensures law { CellLaw result.0 }
-        ensures link { option_map L.wire result.1 ≡ self.link }
+        ensures links { result.1 ≡ all_sent (last_booted self.past) self.link self.sent }
+        ensures heard { AreHeard self.config self.seed self.service self.past self.open_dialog self.link self.sent }
     {
         let Cell {
             alloc: _,
+            config: _,
+            seed: _,
             service: _,
             incarnation: _,
+            last_booted,
+            keeps: _,
             mut events,
             speaking,
             wire,
+            sent,
         } = self;
         if let Some(
             Speaking {
@@ -410,6 +540,17 @@ impl<L: Link> Cell<L> {
                 items: items.into_past(),
             });
         }
-        (events.into_past(), wire)
+        (events.into_past(), let_go(&sent, last_booted, wire))
+    }
+
+    /// What happened, with an open dialog as the last event, and what the link of each incarnation was
+    /// given: just what the incarnation heard.
+    pub fn close(self) -> (Past<CellEvent>, Sents)
+        ensures past { result.0 ≡ with_open self.open_dialog self.past }
+        ensures law { CellLaw result.0 }
+        ensures links { result.1 ≡ all_sent (last_booted self.past) self.link self.sent }
+        ensures sent { AreSent self.config self.seed self.service result.0 result.1 }
+    {
+        self.into_pasts()
     }
 }

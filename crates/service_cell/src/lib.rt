@@ -8,5 +8,4 @@ pub mod cell;
 pub mod columns;
 mod exchange;
 pub mod memory;
-#[cfg(test)]
-mod tests;
+pub mod tokens;

@@ -1,5 +1,5 @@
-# The gate; the proofs alone; the program; and the example of the README.
-.PHONY: test check bin run
+# The gate; the proofs alone; the program; the example of the README, proved and unproved; and the manual pages.
+.PHONY: test check bin run try man
 test:
 	rt ci
 check:
@@ -11,3 +11,9 @@ bin:
 	cp crates/okws_program/out/okws_program bin/okws
 run: bin
 	bin/okws play examples/site.okws examples/one_dialog.script
+try:
+	@echo "-- nothing of this is proved: make run proves it"
+	cd crates/okws_program && rt try -- play data/site.okws data/one_dialog.script
+man: docs/okws.1 docs/okws-config.5
+docs/%: docs/%.md
+	pandoc --standalone --to man --output $@ $<

@@ -1,7 +1,7 @@
 #!/usr/bin/env bash
 # Runs the built program on worked scripts and compares its status and what it prints: the rows byte by byte, of others
 # a line or a count.
-#   checks/run.sh [PROGRAM]
+#   checks/run.sh [PROGRAM [ROW]]      ROW: only the rows whose name begins so, and nothing else
 # A row's files are named ROW-SITE-STATUS. The last line is 'N passed, M failed'.
 set -uo pipefail
 okws=$(realpath "${1:-crates/okws_program/out/okws_program}")
@@ -32,12 +32,19 @@ last() {
     printf '%s\n' "$1" >"$folder/wanted"
 }
 
-for script in rows/*.script; do
+only=${2:-}
+for script in rows/"$only"*.script; do
     row=$(basename "$script" .script)
     site=${row#*-}
     run play "${site%-*}.okws" "$script"
     told "$row" "${row##*-}" "rows/$row.stdout"
 done
+
+if [ -n "$only" ]; then
+    echo "$passed passed, $failed failed"
+    [ "$failed" -eq 0 ]
+    exit
+fi
 
 # Each rule of a script at a line of its own.
 while IFS='|' read -r line rule script; do

@@ -1,5 +1,5 @@
 -- Frames that have a spelling by the bounds of their fields.
-use Rattle.std.proofs.Common.{◌≡◌, ℕ, ◌+◌, ◌^◌, ◌<◌, ◌≤◌, List, [], ◌∷◌, length, arith, flat_map, sym, ◌∙◌, ap, refl, lit<, lit≤, ◌*◌}
+use Rattle.std.proofs.Common.{◌≡◌, ℕ, ◌+◌, ◌^◌, ◌<◌, ◌≤◌, List, [], ◌∷◌, length, arith, flat_map, refl, lit<, lit≤, ◌*◌}
 use Rattle.std.specs.Prelude.{◌==◌, IsTrue}
 use Rattle.std.specs.List.{list_all}
 use Rattle.okws_base.specs.Runs.{Each}

@@ -1,6 +1,6 @@
 -- Reading values one after the other, as a loop does.
 use Rattle.std.proofs.Common.{◌≡◌, ℕ, suc, ◌-◌, ◌+◌, ◌≤◌, ◌<◌, List, [], ◌∷◌, ◌++◌, Option, Some, None, refl, sym, ap, ◌∙◌, append_assoc, arith}
-use Rattle.std.specs.Prelude.{option_map, option_and_then}
+use Rattle.std.specs.Prelude.{option_map, option_and_then, IsSome}
 use Rattle.std.proofs.lemmas.List.{append-nil}
 use Rattle.okws_base.specs.declared.value.Value.{Value}
 use Rattle.frame_codec.specs.declared.field.ReadError.{ReadError}
@@ -14,11 +14,11 @@ with_front front read = option_map (λ (x : List Value × List ℕ). (front ++ x
 -- reading failed, or memory was refused
 abbrev pub Fails : ReadError → Option (List Value × List ℕ) → Type 0
 Fails Bad read = read ≡ None
-Fails Memory read = Unit {0}
+Fails Memory read = IsSome read
 
 abbrev pub FailsOne : ReadError → Option (Value × List ℕ) → Type 0
 FailsOne Bad read = read ≡ None
-FailsOne Memory read = Unit {0}
+FailsOne Memory read = IsSome read
 
 regroup : (front : List Value) (v : Value) (rest : List ℕ) (read : Option (List Value × List ℕ))
     → with_front front (option_map (λ (p : (Value × List Value) × List ℕ). (p.0.0 ∷ p.0.1, p.1)) (option_and_then (λ (b : List Value × List ℕ). Some ((v, b.0), b.1)) read)) ≡ with_front (front ++ v ∷ []) read
@@ -33,11 +33,11 @@ goes_on front count i bytes v behind total lt h so_far =
     let one : with_front front (many_at (count - i) bytes) ≡ with_front (front ++ v ∷ []) (many_at (count - (i + 1)) behind) = rw (k, h) (regroup front v behind (many_at (count - (i + 1)) behind)) in
     sym one ∙ so_far
 
-pub ends : (e : ReadError) (front : List Value) (count i : ℕ) (bytes : List ℕ) (total : Option (List Value × List ℕ)) → i < count → FailsOne e (value_at bytes)
+pub ends : (e : ReadError) (front : List Value) (count i : ℕ) (bytes : List ℕ) (total : Option (List Value × List ℕ)) → IsSome total → i < count → FailsOne e (value_at bytes)
     → with_front front (many_at (count - i) bytes) ≡ total → Fails e total
 unfolding many_at
-ends Memory front count i bytes total lt h so_far = tt
-ends Bad front count i bytes total lt h so_far =
+ends Memory front count i bytes total whole lt h so_far = whole
+ends Bad front count i bytes total whole lt h so_far =
     let k : count - i ≡ suc (count - (i + 1)) = omega arith in
     let one : with_front front (many_at (count - i) bytes) ≡ None = rw (k, h) refl in
     sym so_far ∙ one
@@ -47,4 +47,48 @@ unfolding many_at
 is_done front count i bytes total le so_far =
     let k : count - i ≡ 0 = omega arith in
     let one : with_front front (many_at (count - i) bytes) ≡ Some (front, bytes) = rw k (ap (λ (vs : List Value). Some (vs, bytes)) (append-nil front)) in
+    sym so_far ∙ one
+
+-- ---- what stands behind values
+
+abbrev pub rest_of : {A : Type 0} → Option (A × List ℕ) → Option (List ℕ)
+rest_of read = option_map (λ a. a.1) read
+
+rest_behind : (v : Value) (read : Option (List Value × List ℕ))
+    → rest_of (option_map (λ (p : (Value × List Value) × List ℕ). (p.0.0 ∷ p.0.1, p.1)) (option_and_then (λ (b : List Value × List ℕ). Some ((v, b.0), b.1)) read)) ≡ rest_of read
+rest_behind v (Some x) = refl
+rest_behind v None = refl
+
+some_rest : (one other : List ℕ) → Some one ≡ Some other → one ≡ other
+some_rest one other e = cc
+
+one_rest : (first : Option (Value × List ℕ)) (behind : List ℕ) → rest_of first ≡ Some behind → (v : Value) × (first ≡ Some (v, behind))
+one_rest (Some x) behind e = (x.0, ap (λ (r : List ℕ). Some (x.0, r)) (some_rest x.1 behind e))
+one_rest None behind e = absurd cc
+
+none_rest : (first : Option (Value × List ℕ)) → rest_of first ≡ None → first ≡ None
+none_rest (Some x) e = absurd cc
+none_rest None e = refl
+
+pub passes_one : (count i : ℕ) (bytes behind : List ℕ) (total : Option (List ℕ)) → i < count → rest_of (value_at bytes) ≡ Some behind → rest_of (many_at (count - i) bytes) ≡ total → rest_of (many_at (count - (i + 1)) behind) ≡ total
+unfolding many_at
+passes_one count i bytes behind total lt h so_far =
+    let k : count - i ≡ suc (count - (i + 1)) = omega arith in
+    let v = one_rest (value_at bytes) behind h in
+    let one : rest_of (many_at (count - i) bytes) ≡ rest_of (many_at (count - (i + 1)) behind) = rw (k, v.1) (rest_behind v.0 (many_at (count - (i + 1)) behind)) in
+    sym one ∙ so_far
+
+pub stops_at : (count i : ℕ) (bytes : List ℕ) (total : Option (List ℕ)) → i < count → rest_of (value_at bytes) ≡ None → rest_of (many_at (count - i) bytes) ≡ total → total ≡ None
+unfolding many_at
+stops_at count i bytes total lt h so_far =
+    let k : count - i ≡ suc (count - (i + 1)) = omega arith in
+    let none = none_rest (value_at bytes) h in
+    let one : rest_of (many_at (count - i) bytes) ≡ None = rw (k, none) refl in
+    sym so_far ∙ one
+
+pub passed_all : (count i : ℕ) (bytes : List ℕ) (total : Option (List ℕ)) → count ≤ i → rest_of (many_at (count - i) bytes) ≡ total → total ≡ Some bytes
+unfolding many_at
+passed_all count i bytes total le so_far =
+    let k : count - i ≡ 0 = omega arith in
+    let one : rest_of (many_at (count - i) bytes) ≡ Some bytes = rw k refl in
     sym so_far ∙ one

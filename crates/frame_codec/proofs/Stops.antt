@@ -2,11 +2,11 @@
 use Rattle.std.proofs.Common.{◌≡◌, ◌≢◌, ℕ, ◌+◌, ◌-◌, ◌^◌, ◌<◌, ◌≤◌, Bool, true, false, List, [], ◌∷◌, ◌++◌, length, take, drop, Option, Some, None, refl, sym, ap, subst, ◌∙◌, append_assoc, arith, inl, inr, ◌⊎◌, take-append-drop}
 use Rattle.std.specs.Prelude.{IsTrue, nat_lt}
 use Rattle.std.proofs.lemmas.Bool.{ltb-true, lt-ltb}
-use Rattle.std.proofs.lemmas.List.{take_at, length-append, append-nil, length-take-le, length-drop}
+use Rattle.std.proofs.lemmas.List.{length-append, append-nil, length-drop}
 use Rattle.frame_codec.specs.declared.frame.ServiceFrame.{ServiceFrame}
 use Rattle.frame_codec.specs.declared.reading.Read.{Read}
 use Rattle.frame_codec.specs.declared.reading.Read.TheVariants.{Frame, Short, BadFrame, NoMemory}
-use Rattle.frame_codec.specs.Spelling.{four, size, service_parts, service_spelling, Spells, is_lawful_length}
+use Rattle.frame_codec.specs.Spelling.{four, size, service_parts, Spells, is_lawful_length}
 use Rattle.frame_codec.specs.Stream.{Begins, BeginsNone, IsShort, IsBad, IsBadStop}
 use Rattle.std.specs.Int.{w32}
 use Rattle.std.proofs.Common.{cond, eqb, ltb}

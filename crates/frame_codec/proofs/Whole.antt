@@ -5,14 +5,14 @@ use Rattle.std.specs.Int.{w32, from_be_bytes}
 use Rattle.std.proofs.lemmas.Bool.{ltb-false, le-ltb, ltb-true}
 use Rattle.std.proofs.lemmas.Bool.Decides.{nat_tests}
 use Rattle.std.proofs.lemmas.Grind.{common_steps}
-use Rattle.std.proofs.lemmas.List.{take_at, length-append, length-take-le, append-nil}
+use Rattle.std.proofs.lemmas.List.{take_at, take-append-drop, length-append, length-take-le, append-nil}
 use Rattle.frame_codec.specs.declared.frame.ServiceFrame.{ServiceFrame}
 use Rattle.frame_codec.specs.declared.reading.Read.{Read}
 use Rattle.frame_codec.specs.declared.reading.Read.TheVariants.{Frame, Short, BadFrame, NoMemory}
 use Rattle.frame_codec.specs.Spelling.{four, size, service_parts, service_spelling, Spells, is_lawful_length}
-use Rattle.frame_codec.specs.Stream.{IsShort}
+use Rattle.frame_codec.specs.Stream.{Begins, IsShort}
 use Rattle.frame_codec.specs.Reading.{number_at, fixed_at, payload_at}
-use Rattle.frame_codec.specs.Answer.{Tells, given, sized, headed, frame_at, IsAnswer}
+use Rattle.frame_codec.specs.Answer.{Tells, given, sized, headed, frame_at, IsAnswer, IsFrame}
 use Rattle.frame_codec.proofs.Sizes.{length-four}
 use Rattle.frame_codec.proofs.Formats.{bytes_of, length-bytes_of, joined-is, IsBytes, IsBytes-take, four_format}
 use Rattle.frame_codec.proofs.Payloads.{payload_again, payload_takes}
@@ -167,9 +167,18 @@ frame_bad bytes e = (
     given_is : (frame : ServiceFrame) (n : ℕ) → given (Some frame) n ≡ BadFrame → ⊥
     given_is frame n is = cc
 
+-- a frame stands where one is expected
+frame_stands : (bytes : List ℕ) (expected : Read) → IsBytes bytes → frame_at bytes ≡ expected → IsFrame expected → (frame : ServiceFrame) × (rest : List ℕ) × Begins bytes frame rest
+frame_stands bytes (Frame frame taken) fits e is =
+    let told = frame_found bytes frame taken fits e in
+    (frame, drop taken bytes, (take taken bytes, told.1, sym (take-append-drop taken bytes)))
+frame_stands bytes Short fits e is = absurd is
+frame_stands bytes BadFrame fits e is = absurd is
+frame_stands bytes NoMemory fits e is = absurd is
+
 -- What the reader answers it may tell.
 pub tells : (bytes : List ℕ) (answer : Read) → IsBytes bytes → IsAnswer answer (frame_at bytes) → Tells bytes answer
 tells bytes (Frame frame taken) fits e = frame_found bytes frame taken fits e
 tells bytes Short fits e = frame_short bytes fits e
 tells bytes BadFrame fits e = frame_bad bytes e
-tells bytes NoMemory fits e = tt
+tells bytes NoMemory fits e = frame_stands bytes (frame_at bytes) fits refl e

@@ -7,14 +7,14 @@ use Rattle.frame_codec.specs.declared.reading.Read.{Read}
 use Rattle.frame_codec.specs.declared.reading.Read.TheVariants.{Frame, Short, BadFrame, NoMemory}
 use Rattle.frame_codec.specs.Reading.{number_at, payload_at}
 use Rattle.frame_codec.specs.Spelling.{Spells}
-use Rattle.frame_codec.specs.Stream.{IsShort, IsBad}
+use Rattle.frame_codec.specs.Stream.{Begins, IsShort, IsBad}
 
--- The answer tells of the bytes: a frame stands at their front with so many bytes, or they are Short, or neither is so. Where memory was refused it tells nothing.
+-- The answer tells of the bytes: a frame stands at their front with so many bytes, or they are Short, or neither is so. Where memory was refused a frame stands there.
 abbrev pub Tells : List ℕ → Read → Type 0
 Tells bytes (Frame frame taken) = (taken ≤ length bytes) × Spells (take taken bytes) frame
 Tells bytes Short = IsShort bytes
 Tells bytes BadFrame = IsBad bytes
-Tells bytes NoMemory = Unit {0}
+Tells bytes NoMemory = (frame : ServiceFrame) × (rest : List ℕ) × Begins bytes frame rest
 
 -- The answer of a whole payload, behind which so many bytes end.
 abbrev pub given : Option ServiceFrame → ℕ → Read
@@ -38,9 +38,16 @@ headed (Some a) = sized a.0 a.1
 unfoldable pub frame_at : List ℕ → Read
 frame_at bytes = headed (number_at w32 bytes)
 
--- The answer is this one, unless memory was refused.
+-- The answer is a frame.
+abbrev pub IsFrame : Read → Type 0
+IsFrame (Frame frame taken) = Unit {0}
+IsFrame Short = ⊥
+IsFrame BadFrame = ⊥
+IsFrame NoMemory = ⊥
+
+-- The answer is this one; where memory was refused, this one is a frame.
 abbrev pub IsAnswer : Read → Read → Type 0
 IsAnswer (Frame frame taken) expected = expected ≡ Frame frame taken
 IsAnswer Short expected = expected ≡ Short
 IsAnswer BadFrame expected = expected ≡ BadFrame
-IsAnswer NoMemory expected = Unit {0}
+IsAnswer NoMemory expected = IsFrame expected

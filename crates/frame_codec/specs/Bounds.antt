@@ -1,5 +1,5 @@
 -- Bounds of frames' fields that the fields' types don't keep.
-use Rattle.std.specs.Prelude.{◌<◌, ◌^◌, ◌==◌, ℕ, List, length, IsTrue}
+use Rattle.std.specs.Prelude.{◌<◌, ◌^◌, ◌==◌, List, length, IsTrue}
 use Rattle.std.specs.List.{list_all}
 use Rattle.okws_base.specs.declared.value.Value.{Value}
 use Rattle.frame_codec.specs.declared.frame.ServiceFrame.{ServiceFrame}

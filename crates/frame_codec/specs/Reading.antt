@@ -1,11 +1,12 @@
 -- Reading from the front of bytes: a value and the bytes behind it, or nothing.
-use Rattle.std.specs.Prelude.{◌≡◌, ℕ, zero, suc, Bool, ◌==◌, List, [], ◌∷◌, length, take, drop, Option, Some, None, Result, Ok, Err, nat_lt, if◌then◌else◌, option_and_then, option_map}
+use Rattle.std.specs.Prelude.{◌≡◌, ℕ, zero, suc, Bool, ◌==◌, List, [], ◌∷◌, length, take, drop, Option, Some, None, Result, Ok, Err, nat_lt, if◌then◌else◌, option_and_then, option_map, IsSome}
 use Rattle.std.specs.Int.{Width, w16, w32, w64, byte_len, from_be_bytes, cast_signed}
 use Rattle.std.specs.Str.{is_utf8}
 use Rattle.okws_base.specs.declared.value.Value.{Value}
 use Rattle.okws_base.specs.declared.value.Value.TheVariants.{Int, Text, Bytes}
 use Rattle.frame_codec.specs.declared.frame.ServiceFrame.{ServiceFrame}
 use Rattle.frame_codec.specs.declared.frame.ServiceFrame.TheVariants.{Open, Call, Get, Log, Reply}
+use Rattle.frame_codec.specs.declared.field.Misread.{Misread}
 use Rattle.frame_codec.specs.declared.field.ReadError.{ReadError}
 use Rattle.frame_codec.specs.declared.field.ReadError.TheVariants.{Bad, Memory}
 use Rattle.frame_codec.specs.Spelling.{is_reply_status, is_content_type, is_location}
@@ -116,8 +117,13 @@ abbrev pub payload_at : List ℕ → Option ServiceFrame
 payload_at [] = None
 payload_at (kind ∷ bytes) = fields_at kind bytes
 
--- What a function returned, seen by view, is what reading gives, unless memory was refused.
+-- What a function found, seen by view, is what reading gives.
+abbrev pub Finds : {X Y : Type 0} → (X → Y) → Result X Misread → Option Y → Type 0
+Finds view (Ok x) read = read ≡ Some (view x)
+Finds view (Err e) read = read ≡ None
+
+-- What a function returned, seen by view, is what reading gives; where memory was refused reading gives something.
 abbrev pub Gives : {X Y : Type 0} → (X → Y) → Result X ReadError → Option Y → Type 0
 Gives view (Ok x) read = read ≡ Some (view x)
 Gives view (Err Bad) read = read ≡ None
-Gives view (Err Memory) read = Unit {0}
+Gives view (Err Memory) read = IsSome read

@@ -2,14 +2,14 @@
 
 ghost use Rattle.std.specs.Prelude.{◌≡◌, ◌==◌, ◌↔◌, List, length, option_map, if◌then◌else◌, IfSome, IsNone, IsTrue, IsFalse, Some, [], ◌⊎◌, ℕ};
 ghost use Rattle.std.specs.Int.{w32};
-ghost use Rattle.frame_codec.specs.Reading.{Gives, number_at, open_at, call_at, name_at, string_at, reply_at, open_frame, call_frame, reply_frame, all_of, fields_at, payload_at};
+ghost use Rattle.frame_codec.specs.Reading.{Finds, Gives, number_at, open_at, call_at, name_at, string_at, reply_at, open_frame, call_frame, reply_frame, all_of, fields_at, payload_at};
 ghost use Rattle.frame_codec.specs.Spelling.{four, is_lawful_length};
 ghost use Rattle.frame_codec.specs.Stream.{Begins, IsShort, IsBad};
 ghost use Rattle.frame_codec.specs.Answer.{Tells, IsAnswer, sized, frame_at};
 
 use crate::field::{
-    ReadError, content_type_of, location_of, name_of, status_of, string_of, token_of, u16_at,
-    u32_at, values_of,
+    Misread, ReadError, after_values, content_type_slice, copy_of, location_slice, name_slice,
+    status_at, string_slice, token_at, u16_at, u32_at, values_of,
 };
 use crate::frame::ServiceFrame;
 use crate::kind::{CALL, GET, LOG, OPEN, REPLY};
@@ -26,26 +26,26 @@ pub enum Read {
     Short,
     /// No frame, whatever follows.
     BadFrame,
-    /// Memory was refused.
+    /// A frame stands there, for which memory was refused.
     NoMemory,
 }
 
 /// Nothing stands behind the fields.
-fn ended(rest: &[u8]) -> Result<(), ReadError>
-    ensures { Gives (λ x. x) result (if length rest.now == 0 then Some tt else None) }
+fn ended(rest: &[u8]) -> Result<(), Misread>
+    ensures { Finds (λ x. x) result (if length rest.now == 0 then Some tt else None) }
 {
     if rest.is_empty() {
         Ok(())
     } else {
-        Err(ReadError::Bad)
+        Err(Misread)
     }
 }
 
-fn open_of(bytes: &[u8]) -> Result<ServiceFrame, ReadError>
-    ensures { Gives (λ frame. frame) result (option_map open_frame (all_of (open_at bytes.now))) }
+fn open_of(bytes: &[u8]) -> Result<ServiceFrame, Misread>
+    ensures { Finds (λ frame. frame) result (option_map open_frame (all_of (open_at bytes.now))) }
 {
     let (proxy, rest) = u16_at(bytes)?;
-    let (shown, rest) = token_of(rest)?;
+    let (shown, rest) = token_at(rest)?;
     ended(rest)?;
     Ok(ServiceFrame::Open { proxy, shown })
 }
@@ -56,8 +56,8 @@ fn call_of(alloc: Global, bytes: &[u8]) -> Result<ServiceFrame, ReadError>
     let (proxy, rest) = u16_at(bytes)?;
     let (session, rest) = u32_at(rest)?;
     let (query, rest) = u16_at(rest)?;
-    let (args, rest) = values_of(alloc, rest)?;
-    ended(rest)?;
+    ended(after_values(rest)?)?;
+    let (args, _) = values_of(alloc, rest)?;
     Ok(ServiceFrame::Call {
         proxy,
         session,
@@ -69,32 +69,32 @@ fn call_of(alloc: Global, bytes: &[u8]) -> Result<ServiceFrame, ReadError>
 fn get_of(alloc: Global, bytes: &[u8]) -> Result<ServiceFrame, ReadError>
     ensures { Gives (λ frame. frame) result (option_map ServiceFrame.Get (all_of (name_at bytes.now))) }
 {
-    let (template, rest) = name_of(alloc, bytes)?;
+    let (template, rest) = name_slice(bytes)?;
     ended(rest)?;
-    Ok(ServiceFrame::Get(template))
+    Ok(ServiceFrame::Get(copy_of(alloc, template)?))
 }
 
 fn log_of(alloc: Global, bytes: &[u8]) -> Result<ServiceFrame, ReadError>
     ensures { Gives (λ frame. frame) result (option_map ServiceFrame.Log (all_of (string_at bytes.now))) }
 {
-    let (text, rest) = string_of(alloc, bytes)?;
+    let (text, rest) = string_slice(bytes)?;
     ended(rest)?;
-    Ok(ServiceFrame::Log(text))
+    Ok(ServiceFrame::Log(copy_of(alloc, text)?))
 }
 
 fn reply_of(alloc: Global, bytes: &[u8]) -> Result<ServiceFrame, ReadError>
     ensures { Gives (λ frame. frame) result (option_map reply_frame (all_of (reply_at bytes.now))) }
 {
-    let (status, rest) = status_of(bytes)?;
-    let (content_type, rest) = content_type_of(alloc, rest)?;
-    let (location, rest) = location_of(alloc, rest)?;
-    let (content, rest) = string_of(alloc, rest)?;
+    let (status, rest) = status_at(bytes)?;
+    let (content_type, rest) = content_type_slice(rest)?;
+    let (location, rest) = location_slice(rest)?;
+    let (content, rest) = string_slice(rest)?;
     ended(rest)?;
     Ok(ServiceFrame::Reply {
         status,
-        content_type,
-        location,
-        content,
+        content_type: copy_of(alloc, content_type)?,
+        location: copy_of(alloc, location)?,
+        content: copy_of(alloc, content)?,
     })
 }
 
@@ -104,7 +104,7 @@ fn fields_of(alloc: Global, kind: u8, bytes: &[u8]) -> Result<ServiceFrame, Read
     ensures { Gives (λ frame. frame) result (fields_at kind bytes.now) }
 {
     if kind == OPEN {
-        open_of(bytes)
+        Ok(open_of(bytes)?)
     } else if kind == CALL {
         call_of(alloc, bytes)
     } else if kind == GET {
@@ -151,14 +151,14 @@ fn first_frame(alloc: Global, bytes: &[u8]) -> Read
 {
     match u32_at(bytes) {
         Ok((size, rest)) => sized_frame(alloc, size, rest),
-        Err(ReadError::Bad) => Read::Short,
-        Err(ReadError::Memory) => Read::NoMemory,
+        Err(Misread) => Read::Short,
     }
 }
 
 /// Reads one frame from the front. It is Frame exactly where the spelling of a frame stands there,
 /// Short exactly where there are fewer than four bytes or a lawful length and fewer bytes than it
-/// tells, and else BadFrame; unless memory is refused, which gives NoMemory.
+/// tells, and else BadFrame; but where a frame stands there and memory for it is refused it is
+/// NoMemory. Short and BadFrame take no memory.
 pub fn read_service_frame(alloc: Global, bytes: &[u8]) -> Read
     ensures { Tells bytes.now result }
 {

@@ -62,7 +62,6 @@ fn take_bytes<T: Taker>(to: &mut T, bytes: &[u8])
     ensures spelled { Takes T.took to.old (bytes.now ∷ []) to.new }
     ensures fits { Bytewise bytes.now }
 {
-    let _len = bytes.len();
     to.take(bytes);
 }
 

@@ -6,7 +6,7 @@ use Rattle.frame_codec.proofs.field.many_of.Goals as goal
 pub returns-in_err-value : goal.returns-in_err-value
 returns-in_err-value c =
     let p = err_from_is_err_and c.from_residual.result c.from_residual.ensures.1 in
-    rw (p.1, p.2) (ends c.in_err-value.field-0.0 c.loop.values.items c.args.count c.loop.counter c.loop.rest.now (many_at c.args.count c.args.bytes.now) c.loop-test.true c.in_err-value.ensures c.loop.invariant)
+    rw (p.1, p.2) (ends c.in_err-value.field-0.0 c.loop.values.items c.args.count c.loop.counter c.loop.rest.now (many_at c.args.count c.args.bytes.now) c.requires c.loop-test.true c.in_err-value.ensures c.loop.invariant)
 
 pub loop-preserved : goal.loop-preserved
 loop-preserved c =

@@ -1,4 +1,3 @@
-use Rattle.std.proofs.Common.{arith}
 use Rattle.frame_codec.proofs.Bounded.{request_has}
 use Rattle.frame_codec.proofs.making.request.Goals as goal
 

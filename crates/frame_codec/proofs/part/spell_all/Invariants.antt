@@ -1,4 +1,4 @@
-use Rattle.std.proofs.Common.{List, ℕ, take, flat_map}
+use Rattle.std.proofs.Common.{take, flat_map}
 use Rattle.okws_base.specs.Runs.{Each}
 use Rattle.frame_codec.specs.Taking.{Takes}
 use Rattle.frame_codec.proofs.part.spell_all.Given as goal

@@ -1,5 +1,4 @@
-use Rattle.std.proofs.Common.{arith, refl, sym, ◌∙◌, subst, ap, inr}
-use Rattle.frame_codec.specs.Stream.{IsBad}
+use Rattle.std.proofs.Common.{arith, refl, inr}
 use Rattle.frame_codec.proofs.Stops.{short_by_head, bad_by_head, settled}
 use Rattle.frame_codec.proofs.reading.is_short.Goals as goal
 

@@ -4,11 +4,12 @@ ghost use Rattle.std.specs.Prelude.{◌≡◌, ◌≤◌, ◌+◌, [], ◌++◌,
 ghost use Rattle.std.specs.Io.KnownBytes.{Appends};
 ghost use Rattle.okws_outer.specs.Streams.{AppendsPrefix};
 ghost use Rattle.okws_outer.specs.Wire.{Wire, Gives};
-ghost use Rattle.frame_codec.specs.Spelling.{server_spelling, HasSpelling};
+ghost use Rattle.frame_codec.specs.Spelling.{framed, server_spelling, service_spelling, HasSpelling, ServiceHasSpelling};
+ghost use Rattle.frame_codec.specs.Taking.{IsFramed};
 ghost use Rattle.frame_link.specs.Sending.{Sends};
 
-use frame_codec::frame::ServerFrame;
-use frame_codec::framing::spell;
+use frame_codec::frame::{ServerFrame, ServiceFrame};
+use frame_codec::framing::{Frame, spell};
 use frame_codec::taker::Taker;
 use okws_outer::stream::{Link, Put};
 
@@ -52,14 +53,33 @@ impl<'a, L: Link> Taker for Sending<'a, L> {
     }
 }
 
-/// Puts the frame's one spelling on the link, or after a fault a prefix of it. Takes no memory.
-pub fn send<L: Link>(link: &mut L, frame: &ServerFrame) -> Result<(), LinkFault>
-    requires { HasSpelling frame.now }
-    ensures bytes { MatchResult result (λ _. Appends (L.wire link.old).given (L.wire link.new).given (server_spelling frame.now)) (λ _. AppendsPrefix (L.wire link.old).given (L.wire link.new).given (server_spelling frame.now)) }
-    ensures link { Gives (L.wire link.old) (L.wire link.new) (length (server_spelling frame.now)) (result ≡ Ok tt) }
+/// Puts a frame of either direction.
+fn put_frame<F: Frame, L: Link>(link: &mut L, frame: &F) -> Result<(), LinkFault>
+    requires { IsFramed F.parts F.fits frame.now }
+    ensures { Sends (L.wire link.old) (framed (F.parts frame.now)) result (L.wire link.new) }
 {
     let mut sending = Sending::on(link);
     spell(frame, &mut sending);
     let Sending { link: _, sent } = sending;
     sent
+}
+
+/// Puts the one spelling of what a service is to hear on the link, or after a fault a prefix of it.
+/// Takes no memory.
+pub fn send<L: Link>(link: &mut L, frame: &ServerFrame) -> Result<(), LinkFault>
+    requires { HasSpelling frame.now }
+    ensures bytes { MatchResult result (λ _. Appends (L.wire link.old).given (L.wire link.new).given (server_spelling frame.now)) (λ _. AppendsPrefix (L.wire link.old).given (L.wire link.new).given (server_spelling frame.now)) }
+    ensures link { Gives (L.wire link.old) (L.wire link.new) (length (server_spelling frame.now)) (result ≡ Ok tt) }
+{
+    put_frame(link, frame)
+}
+
+/// Puts the one spelling of what a service says on the link, or after a fault a prefix of it. Takes
+/// no memory.
+pub fn say<L: Link>(link: &mut L, frame: &ServiceFrame) -> Result<(), LinkFault>
+    requires { ServiceHasSpelling frame.now }
+    ensures bytes { MatchResult result (λ _. Appends (L.wire link.old).given (L.wire link.new).given (service_spelling frame.now)) (λ _. AppendsPrefix (L.wire link.old).given (L.wire link.new).given (service_spelling frame.now)) }
+    ensures link { Gives (L.wire link.old) (L.wire link.new) (length (service_spelling frame.now)) (result ≡ Ok tt) }
+{
+    put_frame(link, frame)
 }

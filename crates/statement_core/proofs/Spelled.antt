@@ -1,5 +1,5 @@
 -- The canonical text of tokens has those tokens.
-use Rattle.std.proofs.Common.{◌≡◌, ℕ, suc, ◌-◌, ◌+◌, ◌*◌, ◌/◌, ◌%◌, ◌^◌, ◌≤◌, ◌<◌, Bool, true, false, not, ◌&&◌, ◌||◌, cond, List, [], ◌∷◌, ◌++◌, get_or, ℤ, pos, negsuc, Some, None, Result, Ok, refl, sym, ap, subst, ◌∙◌, ⊎_elim, append_assoc, add-zero, arith, length, codes, fold}
+use Rattle.std.proofs.Common.{◌≡◌, ℕ, suc, ◌-◌, ◌+◌, ◌*◌, ◌/◌, ◌%◌, ◌^◌, ◌≤◌, ◌<◌, Bool, true, false, not, ◌&&◌, ◌||◌, cond, List, [], ◌∷◌, ◌++◌, get_or, ℤ, pos, negsuc, Some, None, Result, Ok, refl, sym, ap, subst, ◌∙◌, ⊎_elim, append_assoc, add-zero, arith, length, codes}
 use Rattle.std.specs.Prelude.{if◌then◌else◌, nat_le, ◌==◌, min}
 use Rattle.std.specs.Char.{is_ascii_digit}
 use Rattle.std.specs.List.{list_all, prefix_len}

@@ -1,32 +1,28 @@
 #!/usr/bin/env bash
-# Tries the edits of checks/edits that a crate's own proof has to refuse, beside those in its must-fail/ that the gate tries.
-#   checks/edits.sh CRATE ..     those of these crates; without a name those of all crates
-# They are tried on a copy of the repository, over what `rt check` kept there. The last line is 'N passed, M failed'.
+# Tries wrong bodies that each crate's proofs must refuse, beside the few in its must-fail/ that the gate tries: those of
+# checks/edits/CRATE, over what `rt check` proved of the crate.
+#   checks/edits.sh [CRATE ..]     those of these crates; without a name those of all
+# Run it where a crate changed. While a crate is tried its must-fail/ holds these edits; it is put back however the run ends.
+# The last line is 'N crates passed, M failed'.
 set -uo pipefail
 cd "$(dirname "$0")/.."
-root=$PWD
-copy=$(mktemp -d)
-trap 'rm -rf "$copy"' EXIT
 [ $# -gt 0 ] || set -- $(ls checks/edits)
 passed=0
 failed=0
-cp -r crates.txt HANDLES "$copy"
-mkdir "$copy/crates"
-for crate in crates/*; do
-    cp -r "$crate" "$copy/crates/"
+crate=
+back() {
+    [ -z "$crate" ] || { rm -rf "crates/$crate/must-fail" && mv "crates/$crate/out/must-fail.kept" "crates/$crate/must-fail"; }
+    crate=
+}
+trap back EXIT
+for name in "$@"; do
+    [ -d "checks/edits/$name" ] || { echo "$name has no edits in checks/edits"; continue; }
+    mkdir -p "crates/$name/out" "crates/$name/must-fail"
+    mv "crates/$name/must-fail" "crates/$name/out/must-fail.kept"
+    crate=$name
+    cp -r "checks/edits/$name" "crates/$name/must-fail"
+    if rt must-fail "$name"; then passed=$((passed + 1)); else failed=$((failed + 1)); fi
+    back
 done
-for crate in "$@"; do
-    [ -d "checks/edits/$crate" ] || { echo "$crate: no edits in checks/edits"; continue; }
-    rm -rf "$copy/crates/$crate/must-fail"
-    mkdir "$copy/crates/$crate/must-fail"
-    cp "$root/checks/edits/$crate"/*.edit "$copy/crates/$crate/must-fail/"
-    count=$(ls "$copy/crates/$crate/must-fail" | wc -l)
-    if (cd "$copy/crates/$crate" && rt check >/dev/null 2>&1 && cd "$copy" && rt must-fail "$crate"); then
-        passed=$((passed + count))
-    else
-        failed=$((failed + count))
-        echo "$crate: not all of its edits are refused"
-    fi
-done
-echo "$passed passed, $failed failed"
+echo "$passed crates passed, $failed failed"
 [ "$failed" -eq 0 ]

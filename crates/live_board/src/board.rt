@@ -121,8 +121,9 @@ impl Board {
         ensures least { slice_index seat.old.seen service ≤ result }
         ensures seen { seat.new ≡ record seat.old { seen = slice_set seat.old.seen service result } }
     {
-        let word = 1 + service as usize;
-        self.table.shared.load::<Current>(&mut seat.place, word) as u32
+        let words = &self.table.shared;
+        let found = words.load::<Current>(&mut seat.place, 1 + service as usize);
+        found as u32
     }
 
     /// Writes that an incarnation of a service has begun, above the one that stands there. The launcher's
@@ -134,10 +135,8 @@ impl Board {
         requires above { slice_index seat.old.seen service < incarnation }
         ensures seen { seat.new ≡ record seat.old { seen = slice_set seat.old.seen service incarnation } }
     {
-        let word = 1 + service as usize;
-        self.table
-            .shared
-            .store::<Raise>(&mut seat.place, word, incarnation as u64);
+        let words = &self.table.shared;
+        words.store::<Raise>(&mut seat.place, 1 + service as usize, incarnation as u64);
     }
 
     /// Draws a connection number, above all that the seat drew. No other seat is given it.
@@ -147,9 +146,8 @@ impl Board {
         ensures above { AllUnder result seat.old.drawn }
         ensures drawn { seat.new ≡ record seat.old { drawn = result ∷ seat.old.drawn } }
     {
-        self.table
-            .shared
-            .fetch_add::<Draw>(&mut seat.place, DRAWN, 1)
+        let words = &self.table.shared;
+        words.fetch_add::<Draw>(&mut seat.place, DRAWN, 1)
     }
 
     /// Joins another seat into this one, by which the board is then closed. It takes no memory.
@@ -157,9 +155,8 @@ impl Board {
         requires board { (seat.old.board ≡ self.now.id) × (other.board ≡ self.now.id) }
         ensures seat { seat.new ≡ record seat.old { olds = parts other ++ seat.old.olds } }
     {
-        self.table
-            .shared
-            .join_seat::<TakeIn>(&mut seat.place, other.place);
+        let words = &self.table.shared;
+        words.join_seat::<TakeIn>(&mut seat.place, other.place);
     }
 
     /// Ends the board by a seat into which the others were joined, and gives the count of numbers drawn. No

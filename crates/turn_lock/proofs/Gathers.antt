@@ -3,17 +3,9 @@ use Rattle.std.proofs.Common.{◌≡◌, ◌⊎◌, inl, inr, ℕ, ◌≤◌, �
 use Rattle.atomic_table.specs.Seated.{TableId}
 use Rattle.okws_base.specs.Turns.{of, GrowsBy}
 use Rattle.turn_lock.specs.Seats.{SeatIs, Sight, sight, sights, AllGrow, AllClosed, AllRest, HasSight, SomeHas, Gathering}
-use Rattle.turn_lock.proofs.Views.{of-append}
+use Rattle.turn_lock.proofs.Grows.{grows_on}
 
 module _ {E : Type 0} (by : E → ℕ) where
-  -- What others entered, one time after another, is what others entered.
-  pub grows_on : (n : ℕ) (J K L : List E) → GrowsBy by n J K → GrowsBy by n K L → GrowsBy by n J L
-  grows_on n J K L a b = (
-    b.0 ++ a.0,
-    of-append by n b.0 a.0 ∙ (ap (λ l. l ++ of by n a.0) b.1 ∙ a.1),
-    b.2 ∙ (ap (λ l. b.0 ++ l) a.2 ∙ sym (append_assoc b.0 a.0 J)),
-  )
-
   pub all_grow-split : (ms ns : List (Sight E)) (J : List E) → AllGrow by (ms ++ ns) J → AllGrow by ms J × AllGrow by ns J
   all_grow-split [] ns J a = (tt, a)
   all_grow-split (m ∷ ms) ns J a = let r = all_grow-split ms ns J a.1 in ((a.0, r.0), r.1)

@@ -6,4 +6,5 @@ pub mod Closes
 pub mod Parts
 pub mod Spots
 pub mod Reversed
+pub mod Grows
 pub mod Gathers

@@ -2,5 +2,5 @@ use Rattle.std.proofs.Common.{rules, arith}
 use Rattle.live_board.proofs.Steps.{looks}
 use Rattle.live_board.proofs.board.Board.current.Goals as goal
 
-pub load-requires : goal.load-requires
-load-requires c = (search rules, search rules, looks _ _ _ _ _ (omega arith))
+pub load-found-requires : goal.load-found-requires
+load-found-requires c = (search rules, search rules, looks _ _ _ _ _ (omega arith))

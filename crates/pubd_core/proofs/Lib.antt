@@ -1,3 +1,5 @@
+pub mod Heard
 pub mod News
+pub mod Totals
 pub mod Begins
-pub mod Drains
+pub mod Changes

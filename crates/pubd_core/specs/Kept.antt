@@ -1,37 +1,23 @@
--- What the template column keeps beside its journal.
-use Rattle.std.specs.Prelude.{◌≡◌, ℕ, ◌+◌, Bool, List, [], ◌∷◌, ◌++◌, Option, Some, None, ◌==◌, ◌&&◌, nat_lt, if◌then◌else◌, slice_index_or, length}
-use Rattle.std.specs.Map.{lookup}
-use Rattle.okws_plan.specs.Configuration.{reads, template_name}
-use Rattle.okws_plan.specs.declared.configuration.Config.{Config}
-use Rattle.monitor_model.specs.declared.verdict.Push.{Push}
-use Rattle.pubd_core.specs.declared.kept.Current.{Current}
-use Rattle.pubd_core.specs.declared.kept.Publication.{Publication}
-use Rattle.pubd_core.specs.declared.kept.Incarnation.{Incarnation}
+-- The last editions that the template column keeps beside its journal.
+use Rattle.std.specs.Prelude.{ℕ, ◌+◌, List, [], ◌∷◌, Option, Some, None, slice_index_or}
+use Rattle.std.specs.Arc.{arc_value}
+use Rattle.pubd_core.specs.declared.kept.Edition.{Edition}
 
--- What is kept of a template without editions.
-abbrev pub unpublished : Current
-unpublished = record { edition = 0; content = [] }
+-- The number of a template's last edition, 0 for none.
+abbrev pub number_of : Option Edition → ℕ
+number_of None = 0
+number_of (Some e) = e.number
+
+-- The text of a template's last edition, empty for none.
+abbrev pub text_of : Option Edition → List ℕ
+text_of None = []
+text_of (Some e) = arc_value e.content
 
 -- What is kept of template t.
-abbrev pub current_in : List Current → ℕ → Current
-current_in currents t = slice_index_or currents t unpublished
+abbrev pub current_in : List (Option Edition) → ℕ → Option Edition
+current_in currents t = slice_index_or currents t None
 
--- The push that tells of a publication.
-abbrev pub push_of : Config → Publication → Push
-push_of C p = record { template = template_name C p.template; edition = p.edition; content = p.content }
-
--- The publications that s reads, but for the first `mark` of all, in order.
-abbrev pub news_in : Config → ℕ → ℕ → List Publication → List Push
-news_in C s mark [] = []
-news_in C s mark (p ∷ P) =
-    if nat_lt (length P) mark then []
-    else if reads C s p.template then news_in C s mark P ++ push_of C p ∷ []
-    else news_in C s mark P
-
--- Two incarnations are the same.
-abbrev pub same_incarnation : Incarnation → Incarnation → Bool
-same_incarnation a b = (a.service == b.service) && (a.number == b.number)
-
--- How many publications there were at the last Drain of (s, k), as kept.
-abbrev pub mark_in : List (Incarnation × ℕ) → ℕ → ℕ → Option ℕ
-mark_in marks s k = lookup (same_incarnation (record { service = s; number = k })) marks
+-- How many editions were published, of all templates.
+abbrev pub total : List (Option Edition) → ℕ
+total [] = 0
+total (e ∷ more) = number_of e + total more

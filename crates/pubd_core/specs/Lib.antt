@@ -1,3 +1,4 @@
 pub mod Seen
 pub mod Kept
+pub mod Readers
 pub mod Tied

@@ -1,5 +1,5 @@
 -- The template column as contracts see it.
-use Rattle.std.specs.Prelude.{ℕ, List, ◌∷◌, Option, Some, None}
+use Rattle.std.specs.Prelude.{ℕ, Bool, List, ◌∷◌, Option, Some, None}
 use Rattle.okws_base.specs.declared.journal.Entry.{Entry}
 use Rattle.okws_plan.specs.Configuration.{in_force, template_named}
 use Rattle.okws_plan.specs.declared.configuration.Config.{Config}
@@ -8,10 +8,11 @@ use Rattle.okws_plan.specs.declared.event.PubdEvent.TheVariants.{Publish}
 use Rattle.monitor_model.specs.declared.verdict.Published.{Published}
 use Rattle.monitor_model.specs.declared.verdict.Published.TheVariants.{Edition, NoSuchTemplate, TooLong, EditionsSpent}
 
--- The site's configuration, the entries of the column, the newest first, and the number that new entries name.
+-- The site's configuration, the entries of the column, the newest first, whether they are kept in memory, and the number that new entries name.
 pub record Seen : Type 0 where
   pub config : Config
   pub past : List (Entry PubdEvent)
+  pub keeps : Bool
   pub holder : ℕ
 
 -- The same with one entry more.

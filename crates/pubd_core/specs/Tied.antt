@@ -1,28 +1,37 @@
 -- What the template column keeps is what its past says.
-use Rattle.std.specs.Prelude.{◌≡◌, ℕ, ◌<◌, ◌≤◌, ◌^◌, List, Option, Some, is_some, length}
-use Rattle.okws_base.specs.Past.{standing_by, last_by}
+use Rattle.std.specs.Prelude.{◌≡◌, ℕ, ◌<◌, ◌≤◌, List, Option, Some, is_some, true, length}
+use Rattle.okws_base.specs.Runs.{Each}
 use Rattle.okws_base.specs.declared.journal.Entry.{Entry}
+use Rattle.okws_base.specs.declared.limit.TheConstants.{MOST_EDITIONS, MOST_TEMPLATES}
 use Rattle.okws_plan.specs.declared.configuration.Config.{Config}
 use Rattle.okws_plan.specs.declared.event.PubdEvent.{PubdEvent}
-use Rattle.grant_column.specs.Granted.{Granted, service_count, stands, last, places}
-use Rattle.monitor_model.specs.Standing.{pubd_grant}
+use Rattle.grant_column.specs.Granted.{Granted, service_count}
+use Rattle.monitor_model.specs.Columns.{PubdLaw}
 use Rattle.monitor_model.specs.Pubd.{edition, text, drained, news}
-use Rattle.pubd_core.specs.Kept.{current_in, news_in, mark_in}
-use Rattle.pubd_core.specs.declared.kept.Current.{Current}
+use Rattle.pubd_core.specs.Kept.{current_in, number_of, text_of, total}
+use Rattle.pubd_core.specs.Readers.{may_stand, heard_in, news_in, is_wanted}
+use Rattle.pubd_core.specs.declared.kept.Edition.{Edition}
 use Rattle.pubd_core.specs.declared.kept.Publication.{Publication}
-use Rattle.pubd_core.specs.declared.kept.Incarnation.{Incarnation}
+use Rattle.pubd_core.specs.declared.readers.Reader.{Reader}
 
--- What the template column keeps beside its journal is what its past says, and a place is kept for each revocation.
-pub record Tied (C : Config) (J : List (Entry PubdEvent)) (room : ℕ) (g : Granted) (currents : List Current) (P : List Publication) (marks : List (Incarnation × ℕ)) : Type 0 where
-  pub few : length C.templates < 2 ^ 16
+-- Each edition came before the first `count` publications were over.
+abbrev pub AreBelow : ℕ → List Publication → Type 0
+AreBelow count P = Each (λ (p : Publication). p.place < count) P
+
+-- What the template column keeps beside its head is what its past says, and each entry fits those before it.
+pub record Tied (C : Config) (J : List (Entry PubdEvent)) (g : Granted) (currents : List (Option Edition)) (count : ℕ) (P : List Publication) (R : List Reader) : Type 0 where
+  pub few : length C.templates ≤ MOST_TEMPLATES
   pub services : service_count g ≡ length C.services
   pub templates : length currents ≡ length C.templates
-  pub standing_is : (s : ℕ) → stands g s ≡ standing_by pubd_grant J s
-  pub last_is : (s : ℕ) → last g s ≡ last_by pubd_grant J s
-  -- a place is kept for each revocation
-  pub places_are : places g ≤ room
-  pub edition_is : (t : ℕ) → (current_in currents t).edition ≡ edition J t
-  pub text_is : (t : ℕ) → (current_in currents t).content ≡ text J t
-  pub drained_is : (s k : ℕ) → is_some (mark_in marks s k) ≡ drained J s k
-  pub marks_are : (s k m : ℕ) → mark_in marks s k ≡ Some m → m ≤ length P
-  pub news_is : (s k m : ℕ) → mark_in marks s k ≡ Some m → news_in C s m P ≡ news C J s k
+  pub law : PubdLaw C J
+  pub edition_is : (t : ℕ) → number_of (current_in currents t) ≡ edition J t
+  pub text_is : (t : ℕ) → text_of (current_in currents t) ≡ text J t
+  pub counted : (t : ℕ) (e : Edition) → current_in currents t ≡ Some e → 0 < e.number
+  pub most : (t : ℕ) → number_of (current_in currents t) ≤ MOST_EDITIONS
+  pub count_is : count ≡ total currents
+  pub below : AreBelow count P
+  -- each edition that is kept is still due to a reader
+  pub wanted_are : Each (λ (p : Publication). is_wanted C R p ≡ true) P
+  pub drained_is : (s k : ℕ) → may_stand J s k ≡ true → is_some (heard_in R s k) ≡ drained J s k
+  pub heard_are : (s k m : ℕ) → heard_in R s k ≡ Some m → m ≤ count
+  pub news_is : (s k m : ℕ) → may_stand J s k ≡ true → heard_in R s k ≡ Some m → news_in C s m P ≡ news C J s k

@@ -4,6 +4,7 @@
 
 mod kept;
 mod pubd;
+mod readers;
 #[cfg(test)]
 mod tests;
 

@@ -3,27 +3,29 @@
 ghost use Rattle.std.specs.Prelude.{◌≡◌, ◌≤◌, ◌<◌, ◌+◌, ◌&&◌, ◌∷◌, ◌++◌, [], IfOk, OnOk, OnErr, Some, if◌then◌else◌, length, nat_lt};
 ghost use Rattle.std.specs.Arc.{arc_value};
 ghost use Rattle.okws_base.specs.Past.{standing_by, last_by};
-ghost use Rattle.okws_base.specs.declared.limit.TheConstants.{MOST_SERVICES, MOST_TEMPLATES, MOST_EDITIONS};
+ghost use Rattle.okws_base.specs.declared.limit.TheConstants.{MOST_SERVICES, MOST_TEMPLATES, MOST_EDITIONS, LONGEST_TEMPLATE};
 ghost use Rattle.okws_plan.specs.Configuration.{reads};
 ghost use Rattle.okws_plan.specs.declared.event.PubdEvent.TheVariants as event;
 ghost use Rattle.monitor_model.specs.Standing.{pubd_grant, live_at_pubd};
 ghost use Rattle.monitor_model.specs.Pubd.{edition, current, current_from, drain_verdict, get_verdict, get_of, publish_verdict};
+ghost use Rattle.monitor_model.specs.Columns.{PubdLaw};
 ghost use Rattle.pubd_core.specs.Seen.{entered, after_publication};
+ghost use Rattle.pubd_core.specs.Readers.{may_stand};
 
 use crate::kept::{
-    Current, Incarnation, Publication, keep_mark, may_read, name_of, news_since,
-    number_of_template, unpublished_ones,
+    Edition, Publication, may_read, news_since, number_of, number_of_template, pushed,
+    tell_publication, unpublished_ones,
 };
-use grant_column::Grants;
+use crate::readers::{Reader, heard_of, keep_heard, keep_readers, keep_wanted};
+use grant_column::{Granting, Head};
 use monitor_model::verdict::{Got, Published, Push};
 use okws_base::denial::Rule;
 use okws_base::items::{Exact, Items};
-use okws_base::journal::{Entry, Journal, Past};
+use okws_base::journal::{Entry, Past};
 use okws_base::limit::{LONGEST_TEMPLATE, MOST_EDITIONS};
 use okws_plan::configuration::Config;
 use okws_plan::event::PubdEvent;
 use std::alloc::{AllocError, Global};
-use std::collections::HashMap;
 use std::marker::Model;
 use std::sync::Arc;
 use turn_lock::Journaled;
@@ -33,13 +35,25 @@ use turn_lock::Journaled;
 pub struct Pubd {
     alloc: Global,
     config: Arc<Config, Global>,
-    journal: Journal<Entry<PubdEvent>>,
-    grants: Grants,
-    currents: Vec<Current>,
-    publications: Journal<Publication>,
-    // How many publications there were at the last Drain of each incarnation.
-    marks: HashMap<Incarnation, usize>,
-    holder: u16,
+    head: Head<PubdColumn>,
+    // The last edition of each template.
+    currents: Vec<Option<Edition>>,
+    // How many editions were published.
+    count: u64,
+    // The editions that are still due to somebody, the oldest first.
+    publications: Vec<Publication>,
+    // The incarnations that have taken what was due, and stand or may yet stand.
+    readers: Vec<Reader>,
+}
+
+// The template column, as one that grants.
+#[derive(Drop)]
+pub struct PubdColumn;
+
+impl Granting for PubdColumn {
+    type Event = PubdEvent;
+
+    ghost grant = { pubd_grant };
 }
 
 impl Model for Pubd {
@@ -49,38 +63,39 @@ impl Model for Pubd {
 
     ghost Value = { Seen };
 
-    ghost view = { λ a. record { config = arc_value a.config; past = a.journal.past; holder = a.holder } };
+    ghost view = { λ a. record { config = arc_value a.config; past = a.head.past; keeps = a.head.keeps; holder = a.head.holder } };
 
-    ghost invariant = { λ a. Tied (arc_value a.config) a.journal.past a.journal.room a.grants a.currents.items a.publications.past a.marks.entries };
+    ghost invariant = { λ a. Tied (arc_value a.config) a.head.past a.head.granted a.currents.items a.count a.publications.items a.readers.items };
 }
 
 impl Pubd {
-    /// The column of a site, with an empty journal. New entries name number 0 until `hold`.
-    pub fn new(alloc: Global, config: Arc<Config, Global>) -> Result<Self, AllocError>
+    /// The column of a site, with an empty journal, which keeps its entries in memory or not. New
+    /// entries name number 0 until `hold`.
+    pub fn new(alloc: Global, config: Arc<Config, Global>, keeps: bool) -> Result<Self, AllocError>
         requires services { length (arc_value config).services ≤ MOST_SERVICES }
         requires templates { length (arc_value config).templates ≤ MOST_TEMPLATES }
-        ensures { IfOk result (λ p. p ≡ record { config = arc_value config; past = []; holder = 0 }) }
+        ensures { IfOk result (λ p. p ≡ record { config = arc_value config; past = []; keeps = keeps; holder = 0 }) }
     {
         let services = config.services.as_slice().len() as u16;
-        let grants = Grants::new(alloc, services)?;
+        let head = Head::new(alloc, services, keeps)?;
         let currents = unpublished_ones(alloc, config.templates.as_slice().len())?;
         Ok(Pubd {
             alloc,
             config,
-            journal: Journal::new(alloc),
-            grants,
+            head,
             currents,
-            publications: Journal::new(alloc),
-            marks: HashMap::new(alloc),
-            holder: 0,
+            count: 0,
+            publications: Vec::new(alloc),
+            readers: Vec::new(alloc),
         })
     }
 
-    /// What was entered.
+    /// What was entered: each entry fits the entries before it.
     pub fn close(self) -> Past<Entry<PubdEvent>>
-        ensures { result ≡ self.past }
+        ensures past { result ≡ self.past }
+        ensures law { PubdLaw self.config result }
     {
-        self.journal.into_past()
+        self.head.close()
     }
 
     /// The incarnation of the service that stands.
@@ -88,7 +103,7 @@ impl Pubd {
         requires { service < length self.now.config.services }
         ensures { result ≡ standing_by pubd_grant self.now.past service }
     {
-        self.grants.standing(service)
+        self.head.standing(service)
     }
 
     /// The greatest incarnation of the service that was installed, 0 for none.
@@ -96,7 +111,7 @@ impl Pubd {
         requires { service < length self.now.config.services }
         ensures { result ≡ last_by pubd_grant self.now.past service }
     {
-        self.grants.last(service)
+        self.head.last(service)
     }
 
     /// Has the incarnation stand, and keeps the place of its revocation. Where memory is refused, all
@@ -107,15 +122,12 @@ impl Pubd {
         ensures ok { OnOk result (self.new ≡ entered self.old (event.Install service incarnation)) }
         ensures err { OnErr result (self.new ≡ self.old) }
     {
-        self.journal.make_room(self.grants.places() + 2)?;
-        self.grants.install(service, incarnation, None)?;
-        self.journal.enter(Entry {
-            worker: self.holder,
-            event: PubdEvent::Install {
-                service,
-                incarnation,
-            },
-        });
+        let event = PubdEvent::Install {
+            service,
+            incarnation,
+        };
+        self.head.install(service, incarnation, None, event)?;
+        self.forget(service);
         Ok(())
     }
 
@@ -124,16 +136,24 @@ impl Pubd {
         requires { service < length self.old.config.services }
         ensures { self.new ≡ (if live_at_pubd self.old.past service incarnation then entered self.old (event.Revoke service incarnation) else self.old) }
     {
-        if self.grants.standing(service) == Some(incarnation) {
-            self.grants.revoke(service, incarnation);
-            self.journal.enter(Entry {
-                worker: self.holder,
-                event: PubdEvent::Revoke {
-                    service,
-                    incarnation,
-                },
-            });
-        }
+        let event = PubdEvent::Revoke {
+            service,
+            incarnation,
+        };
+        self.head.revoke(service, incarnation, event);
+        self.forget(service);
+    }
+
+    // Forgets the incarnations of the service that can't stand any more, and the editions that are due
+    // to nobody then.
+    fn forget(&mut self, service: u16)
+        requires { service < length self.old.config.services }
+        ensures { self.new ≡ self.old }
+    {
+        let last = self.head.last(service);
+        let standing = self.head.standing(service);
+        keep_readers(&mut self.readers, service, last, standing);
+        keep_wanted(&self.config, &self.readers, &mut self.publications);
     }
 
     /// Publishes an edition of the template with this name, of which the running incarnations that may
@@ -149,7 +169,7 @@ impl Pubd {
         if content.as_slice().len() > LONGEST_TEMPLATE {
             return Ok(Published::TooLong);
         }
-        let before = self.currents[template].edition;
+        let before = number_of(&self.currents[template]);
         if before >= MOST_EDITIONS {
             return Ok(Published::EditionsSpent);
         }
@@ -161,10 +181,11 @@ impl Pubd {
     pub fn publish_at(&mut self, template: u16, content: Items<u8>) -> Result<(), AllocError>
         requires template { template < length self.old.config.templates }
         requires more { edition self.old.past template < MOST_EDITIONS }
+        requires short { length content ≤ LONGEST_TEMPLATE }
         ensures ok { OnOk result (self.new ≡ entered self.old (event.Publish template content)) }
         ensures err { OnErr result (self.new ≡ self.old) }
     {
-        let before = self.currents[template as usize].edition;
+        let before = number_of(&self.currents[template as usize]);
         self.enter_edition(template, before + 1, content)
     }
 
@@ -173,7 +194,7 @@ impl Pubd {
         requires { template < length self.now.config.templates }
         ensures { result ≡ edition self.now.past template }
     {
-        self.currents[template as usize].edition
+        number_of(&self.currents[template as usize])
     }
 
     fn enter_edition(
@@ -184,26 +205,30 @@ impl Pubd {
     ) -> Result<(), AllocError>
         requires template { template < length self.old.config.templates }
         requires next { next ≡ edition self.old.past template + 1 }
+        requires more { edition self.old.past template < MOST_EDITIONS }
+        requires short { length content ≤ LONGEST_TEMPLATE }
         ensures ok { OnOk result (self.new ≡ entered self.old (event.Publish template content)) }
         ensures err { OnErr result (self.new ≡ self.old) }
     {
-        self.journal.make_room(self.grants.places() + 1)?;
-        self.publications.make_room(1)?;
-        let text = content.copy(self.alloc)?;
-        let published = content.copy(self.alloc)?;
-        self.currents[template as usize] = Current {
-            edition: next,
-            content: text,
+        self.head.make_room()?;
+        self.publications.reserve(1)?;
+        let text = Arc::new(self.alloc, content)?;
+        let published = Edition {
+            number: next,
+            content: text.clone()?,
         };
-        self.publications.enter(Publication {
+        tell_publication(&mut self.head, self.alloc, template, &text)?;
+        self.currents[template as usize] = Some(Edition {
+            number: next,
+            content: text,
+        });
+        self.publications.push_reserved(Publication {
+            place: self.count,
             template,
-            edition: next,
-            content: published,
+            edition: published,
         });
-        self.journal.enter(Entry {
-            worker: self.holder,
-            event: PubdEvent::Publish { template, content },
-        });
+        self.count += 1;
+        keep_wanted(&self.config, &self.readers, &mut self.publications);
         Ok(())
     }
 
@@ -216,41 +241,42 @@ impl Pubd {
         ensures ok { OnOk result (self.new ≡ entered self.old (event.Drain service incarnation)) }
         ensures err { OnErr result (self.new ≡ self.old) }
     {
-        self.journal.make_room(self.grants.places() + 1)?;
+        self.head.make_room()?;
         let pushes = self.due(service, incarnation)?;
-        let mark = self.publications.as_slice().len();
-        keep_mark(&mut self.marks, service, incarnation, mark)?;
-        self.journal.enter(Entry {
-            worker: self.holder,
-            event: PubdEvent::Drain {
-                service,
-                incarnation,
-            },
+        let reader = Reader {
+            service,
+            incarnation,
+            heard: self.count,
+        };
+        let may = self.may_stand(service, incarnation);
+        keep_heard(&mut self.readers, reader, may)?;
+        self.head.enter(PubdEvent::Drain {
+            service,
+            incarnation,
         });
+        keep_wanted(&self.config, &self.readers, &mut self.publications);
         Ok(pushes)
+    }
+
+    // Whether the incarnation stands or may yet stand.
+    fn may_stand(&self, service: u16, incarnation: u32) -> bool
+        requires { service < length self.now.config.services }
+        ensures { result ≡ may_stand self.now.past service incarnation }
+    {
+        self.head.last(service) < incarnation || self.head.standing(service) == Some(incarnation)
     }
 
     fn due(&self, service: u16, incarnation: u32) -> Result<Vec<Push>, AllocError>
         requires { service < length self.now.config.services }
         ensures { IfOk result (λ v. v.items ≡ drain_verdict self.now.config self.now.past service incarnation) }
     {
-        if self.grants.standing(service) != Some(incarnation) {
+        if self.head.standing(service) != Some(incarnation) {
             return Ok(Vec::new(self.alloc));
         }
-        let drained = Incarnation {
-            service,
-            number: incarnation,
-        };
-        match self.marks.get(&drained).copied() {
+        match heard_of(&self.readers, service, incarnation) {
             None => self.currents_for(service),
-            Some(mark) => {
-                news_since(
-                    self.alloc,
-                    &self.config,
-                    service,
-                    mark,
-                    self.publications.as_slice(),
-                )
+            Some(heard) => {
+                news_since(self.alloc, &self.config, service, heard, &self.publications)
             }
         }
     }
@@ -274,13 +300,11 @@ impl Pubd {
         requires { template < length self.now.config.templates }
         ensures { IfOk result (λ v. v.items ≡ (if reads self.now.config service template && nat_lt 0 (edition self.now.past template) then found.items ++ current self.now.config self.now.past template ∷ [] else found.items)) }
     {
-        let kept = &self.currents[template as usize];
-        if may_read(&self.config, service, template) && 0 < kept.edition {
-            found.push(Push {
-                template: name_of(self.alloc, &self.config, template)?,
-                edition: kept.edition,
-                content: kept.content.copy(self.alloc)?,
-            })?;
+        if !may_read(&self.config, service, template) {
+            return Ok(found);
+        }
+        if let Some(edition) = &self.currents[template as usize] {
+            found.push(pushed(self.alloc, &self.config, template, edition)?)?;
         }
         Ok(found)
     }
@@ -298,15 +322,12 @@ impl Pubd {
         ensures ok { OnOk result (self.new ≡ entered self.old (event.Get service incarnation name)) }
         ensures err { OnErr result (self.new ≡ self.old) }
     {
-        self.journal.make_room(self.grants.places() + 1)?;
+        self.head.make_room()?;
         let got = self.found(service, incarnation, name.as_slice())?;
-        self.journal.enter(Entry {
-            worker: self.holder,
-            event: PubdEvent::Get {
-                service,
-                incarnation,
-                name,
-            },
+        self.head.enter(PubdEvent::Get {
+            service,
+            incarnation,
+            name,
         });
         Ok(got)
     }
@@ -315,7 +336,7 @@ impl Pubd {
         requires { service < length self.now.config.services }
         ensures { IfOk result (λ v. v ≡ get_verdict self.now.config self.now.past service incarnation name.now) }
     {
-        if self.grants.standing(service) != Some(incarnation) {
+        if self.head.standing(service) != Some(incarnation) {
             return Ok(Got::Denied(Rule::StaleAtPubd));
         }
         let Some(template) = number_of_template(self.config.templates.as_slice(), name) else {
@@ -332,14 +353,13 @@ impl Pubd {
         requires { template < length self.now.config.templates }
         ensures { IfOk result (λ v. v ≡ get_of self.now.past template) }
     {
-        let kept = &self.currents[template as usize];
-        if kept.edition == 0 {
-            return Ok(Got::Denied(Rule::TemplateUnpublished));
+        match &self.currents[template as usize] {
+            None => Ok(Got::Denied(Rule::TemplateUnpublished)),
+            Some(edition) => Ok(Got::Template {
+                edition: edition.number,
+                content: edition.content.copy(self.alloc)?,
+            }),
         }
-        Ok(Got::Template {
-            edition: kept.edition,
-            content: kept.content.copy(self.alloc)?,
-        })
     }
 }
 
@@ -359,7 +379,7 @@ impl Journaled for Pubd {
         ensures holder { self.new.holder ≡ number }
         ensures all { self.new ≡ record self.old { holder = number } }
     {
-        self.holder = number;
+        self.head.hold(number);
     }
 
     fn label(&self) -> u16 {
@@ -367,6 +387,6 @@ impl Journaled for Pubd {
     }
 
     fn holder(&self) -> u16 {
-        self.holder
+        self.head.holder()
     }
 }

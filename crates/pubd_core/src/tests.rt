@@ -65,8 +65,9 @@ fn services(alloc: Global) -> Result<Items<ServicePlan>, Fail>
     Ok(Items::of(vec![in alloc; guest]?))
 }
 
-// A column of a site with one service, which may read the templates page and blank, and not secret.
-fn column(alloc: Global) -> Result<Pubd, Fail>
+// A column of a site with one service, which may read the templates page and blank, and not secret;
+// its entries are kept or not.
+fn column(alloc: Global, keeps: bool) -> Result<Pubd, Fail>
     ensures { IfOk result (λ p. (length p.config.services ≡ 1) × (length p.config.templates ≡ 3) × (p.past ≡ [])) }
 {
     let config = Config {
@@ -79,14 +80,14 @@ fn column(alloc: Global) -> Result<Pubd, Fail>
         readables: Items::of(vec![in alloc; readable(PAGE), readable(BLANK)]?),
         loggers: none(alloc),
     };
-    Ok(Pubd::new(alloc, Arc::new(alloc, config)?)?)
+    Ok(Pubd::new(alloc, Arc::new(alloc, config)?, keeps)?)
 }
 
 // The column with two editions of page.
 fn published(alloc: Global) -> Result<Pubd, Fail>
     ensures { IfOk result (λ p. (length p.config.services ≡ 1) × (length p.config.templates ≡ 3) × (last_by pubd_grant p.past GUEST ≡ 0)) }
 {
-    let mut pubd = column(alloc)?;
+    let mut pubd = column(alloc, true)?;
     pubd.publish_at(PAGE, bytes(alloc, b"a")?)?;
     pubd.publish_at(PAGE, bytes(alloc, b"bb")?)?;
     Ok(pubd)
@@ -147,7 +148,7 @@ fn get(alloc: Global, pubd: &mut Pubd, incarnation: u32, name: &[u8]) -> Result<
 #[test]
 fn editions_reach_running_incarnations(rt: HostRuntime) -> Result<(), Fail> {
     let alloc = rt.alloc();
-    let mut pubd = column(alloc)?;
+    let mut pubd = column(alloc, false)?;
     pubd.install(GUEST, 1)?;
     assert!(rt; hears(alloc, &mut pubd, 1, &[])?);
     assert!(rt; publish(alloc, &mut pubd, b"page", b"a")? == Published::Edition(1));
@@ -160,7 +161,7 @@ fn editions_reach_running_incarnations(rt: HostRuntime) -> Result<(), Fail> {
 #[test]
 fn publications_are_answered(rt: HostRuntime) -> Result<(), Fail> {
     let alloc = rt.alloc();
-    let mut pubd = column(alloc)?;
+    let mut pubd = column(alloc, true)?;
     let long = vec![in alloc; b'z'; LONGEST_TEMPLATE + 1]?;
     assert!(rt; publish(alloc, &mut pubd, b"page", &long)? == Published::TooLong);
     assert!(rt; publish(alloc, &mut pubd, b"nowhere", b"a")? == Published::NoSuchTemplate);
@@ -196,6 +197,9 @@ fn gets_are_answered(rt: HostRuntime) -> Result<(), Fail> {
     };
     assert!(rt; get(alloc, &mut pubd, 2, b"page")? == want);
     assert_eq!(rt; pubd.holder(), 7);
-    assert_eq!(rt; pubd.close().as_slice().len(), 7);
+    assert_eq!(rt;
+        pubd.close().as_slice().map(|entries| entries.len()),
+        Some(7)
+    );
     Ok(())
 }

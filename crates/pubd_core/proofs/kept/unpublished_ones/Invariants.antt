@@ -1,6 +1,5 @@
-use Rattle.std.proofs.Common.{◌≡◌, replicate}
-use Rattle.pubd_core.specs.Kept.{unpublished}
+use Rattle.std.proofs.Common.{◌≡◌, replicate, None}
 use Rattle.pubd_core.proofs.kept.unpublished_ones.Given as goal
 
 abbrev pub invariant-loop : goal.invariant-loop
-invariant-loop l = l.currents.items ≡ replicate l.counter unpublished
+invariant-loop l = l.currents.items ≡ replicate l.counter None

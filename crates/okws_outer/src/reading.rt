@@ -30,11 +30,7 @@ impl From<AllocError> for ReadError {
 const PIECE: usize = 4096;
 
 /// Takes bytes from a source up to its end, or to one byte above the limit.
-fn take_up_to<S: Source>(
-    alloc: Global,
-    source: &mut S,
-    limit: usize,
-) -> Result<Vec<u8>, ReadError>
+fn take_up_to<S: Source>(alloc: Global, source: &mut S, limit: usize) -> Result<Vec<u8>, ReadError>
     requires { limit < 2 ^ 32 }
     ensures bytes { IfSome (S.left source.old) (λ all. IfOk result (λ bytes. bytes.items ≡ take (limit + 1) all)) }
     ensures size { IfOk result (λ bytes. length bytes.items ≤ limit + 1) }

@@ -1,6 +1,6 @@
 //! The fields of frames, read from the front of bytes.
 
-ghost use Rattle.std.specs.Prelude.{◌≡◌, ◌-◌, ℕ, List, length, Option, option_map, IfOk, IfErr, IsSome, true, false};
+ghost use Rattle.std.specs.Prelude.{◌≡◌, ℕ, List, option_map, IfOk, IfErr, IsSome, true, false};
 ghost use Rattle.std.specs.Int.{w16, w32, w64, cast_signed};
 ghost use Rattle.std.specs.Str.{is_utf8};
 ghost use Rattle.okws_base.specs.declared.value.Value.{Value};

@@ -2,7 +2,7 @@
 
 ghost use Rattle.std.specs.Prelude.{◌≡◌, ◌↔◌, ◌∷◌, ℕ, List, IfOk, IsSome, IfSome, IsTrue};
 ghost use Rattle.frame_codec.specs.Size.{capped};
-ghost use Rattle.frame_codec.specs.Spelling.{four, size, framed, is_lawful_length};
+ghost use Rattle.frame_codec.specs.Spelling.{four, size, framed};
 ghost use Rattle.frame_codec.specs.Taking.{Takes, IsFramed};
 
 use crate::part::lawful_length;

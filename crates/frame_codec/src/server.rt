@@ -1,6 +1,6 @@
 //! What a service hears: which frames have a spelling, how long it is, and the spelling itself.
 
-ghost use Rattle.std.specs.Prelude.{◌≡◌, ◌↔◌, ◌∷◌, [], ◌<◌, ◌==◌, ℕ, List, length, IfOk, IsSome, IfSome, IsTrue};
+ghost use Rattle.std.specs.Prelude.{◌≡◌, ◌↔◌, ◌<◌, ◌==◌, ℕ, List, length, IfOk, IsSome, IfSome, IsTrue};
 ghost use Rattle.std.specs.List.{list_all};
 ghost use Rattle.okws_base.specs.declared.value.Value.{Value};
 ghost use Rattle.frame_codec.specs.Size.{capped};

@@ -1,6 +1,6 @@
 //! Where the bytes of a spelling go, one part after another: they are counted, or kept, or sent.
 
-ghost use Rattle.std.specs.Prelude.{◌≡◌, ◌∷◌, [], ◌<◌, ◌^◌, ◌++◌, ◌+◌, ℕ, List, length, false};
+ghost use Rattle.std.specs.Prelude.{◌≡◌, ◌∷◌, [], ◌<◌, ◌++◌, ◌+◌, ℕ, List, length, false};
 ghost use Rattle.frame_codec.specs.Size.{capped};
 ghost use Rattle.frame_codec.specs.Spelling.{four, string, name, Bytewise, IsToken};
 ghost use Rattle.frame_codec.specs.Taking.{Takes};

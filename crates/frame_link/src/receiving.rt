@@ -1,7 +1,6 @@
 //! The next frame that comes over a link.
 
-ghost use Rattle.std.specs.Prelude.{◌≡◌, ◌≤◌, ◌<◌, ℕ, true, length, List, IfSome, Some};
-ghost use Rattle.std.specs.Io.KnownBytes.{Consumes};
+ghost use Rattle.std.specs.Prelude.{◌≡◌, ◌≤◌, length};
 ghost use Rattle.okws_outer.specs.Wire.{Receives};
 ghost use Rattle.frame_link.specs.Next.{IsNext, IsBadFront};
 ghost use Rattle.frame_link.specs.Filling.{Fills, IsWhole, Reads};

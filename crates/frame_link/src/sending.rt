@@ -1,9 +1,9 @@
 //! Frames are put on a link as they are spelled, which takes no memory.
 
-ghost use Rattle.std.specs.Prelude.{◌≡◌, ◌≤◌, ◌+◌, [], ◌++◌, List, true, length, Ok, MatchResult, take};
+ghost use Rattle.std.specs.Prelude.{◌≡◌, [], length, Ok, MatchResult};
 ghost use Rattle.std.specs.Io.KnownBytes.{Appends};
 ghost use Rattle.okws_outer.specs.Streams.{AppendsPrefix};
-ghost use Rattle.okws_outer.specs.Wire.{Wire, Gives};
+ghost use Rattle.okws_outer.specs.Wire.{Gives};
 ghost use Rattle.frame_codec.specs.Spelling.{framed, server_spelling, service_spelling, HasSpelling, ServiceHasSpelling};
 ghost use Rattle.frame_codec.specs.Taking.{IsFramed};
 ghost use Rattle.frame_link.specs.Sending.{Sends};

@@ -2,31 +2,33 @@
 
 ghost use Rattle.std.specs.Prelude.{◌≡◌, [], ◌∷◌, false};
 
-use crate::columns::Columns;
 use monitor_model::record::Own;
 use monitor_model::verdict::{Got, Noted, Push, Verdict};
 use okws_base::items::Items;
 use okws_base::journal::{Entry, Journal};
 use okws_base::value::Token;
 use okws_plan::event::{Call, PubdEvent};
+use service_cell::columns::Columns;
 use std::alloc::{AllocError, Global};
 
 /// The entries and the items of number 0, and what the board shows.
 #[derive(Drop)]
-pub(super) struct Bare {
+pub(crate) struct Bare {
     alloc: Global,
-    pub(super) shown: u32,
+    pub(crate) shown: u32,
+    is_drained: bool,
     drained: Journal<Entry<PubdEvent>>,
     own: Journal<Own>,
 }
 
 impl Bare {
-    pub(super) fn new(alloc: Global) -> Self {
+    pub(crate) fn new(alloc: Global) -> Self {
         Bare {
             alloc,
             shown: 1,
-            drained: Journal::new(alloc),
-            own: Journal::new(alloc),
+            is_drained: false,
+            drained: Journal::new(alloc, true),
+            own: Journal::new(alloc, true),
         }
     }
 }
@@ -63,9 +65,10 @@ impl Columns for Bare {
     }
 
     fn drain(&mut self, service: u16, incarnation: u32) -> Result<Vec<Push>, AllocError> {
-        if !self.drained.as_slice().is_empty() {
+        if self.is_drained {
             return Err(AllocError);
         }
+        self.is_drained = true;
         self.drained.make_room(1)?;
         self.own.make_room(2)?;
         self.own.enter(Own::Dialog(service));

@@ -1,21 +1,22 @@
 //! Dialogs over a link in memory, one for each way in which they end.
 
-ghost use Rattle.std.specs.Prelude.{◌≡◌, ◌≢◌, None, IfSome};
+ghost use Rattle.std.specs.Prelude.{◌≡◌, ◌≢◌, ◌≤◌, None, IfOk, IfSome, length};
+ghost use Rattle.std.specs.Arc.{arc_value};
+ghost use Rattle.service_cell.specs.Standing.{IsFresh};
 ghost use Rattle.monitor_model.specs.Cell.{incarnation};
 ghost use Rattle.service_cell.specs.Steps.{IsSpeaking};
 
-mod bare;
-mod scant;
-
-use crate::answer::{Advanced, Begun, Booting};
-use crate::cell::Cell;
-use bare::Bare;
+use crate::bare::Bare;
+use crate::scant::Scant;
 use okws_base::crash::Cause;
 use okws_base::items::Items;
 use okws_outer::memory::link::MemoryLink;
 use okws_outer::stream::Link;
-use scant::Scant;
+use okws_plan::configuration::Config;
+use service_cell::answer::{Advanced, Begun, Booting};
+use service_cell::cell::Cell;
 use std::alloc::{AllocError, Global};
+use std::sync::Arc;
 use std::test::Fail;
 
 const LOG: &[u8] = b"\x00\x00\x00\x07\x44\x00\x00\x00\x02hi";
@@ -47,21 +48,46 @@ fn begun<L: Link + Drop>(alloc: Global, mut cell: Cell<L>, columns: &mut Bare) -
     match cell.begin(head, content, 1, columns) {
         Begun::Started => Some(cell),
         _ => {
-            let _parts = cell.into_parts();
+            let _pasts = cell.close();
             None
         }
     }
 }
 
+/// A site that declares nothing.
+fn site(alloc: Global) -> Result<Arc<Config, Global>, AllocError>
+    ensures { IfOk result (λ c. length (arc_value c).proxies ≤ 16) }
+{
+    let config = Config {
+        proxies: Items::of(Vec::new(alloc)),
+        services: Items::of(Vec::new(alloc)),
+        templates: Items::of(Vec::new(alloc)),
+        retry: 0,
+        paths: Items::of(Vec::new(alloc)),
+        grants: Items::of(Vec::new(alloc)),
+        readables: Items::of(Vec::new(alloc)),
+        loggers: Items::of(Vec::new(alloc)),
+    };
+    Ok(Arc::new(alloc, config)?)
+}
+
 /// A cell whose dialog is open, with this link.
 fn started<L: Link + Drop>(alloc: Global, link: L, columns: &mut Bare) -> Option<Cell<L>>
+    requires { IsFresh (L.wire link) }
     ensures { IfSome result (λ c. IsSpeaking 0 c.open_dialog × (c.service ≡ 0) × (incarnation c.past ≢ 0)) }
 {
-    let mut cell = Cell::new(alloc, 0);
-    match cell.boot(link, 1, Items::of(Vec::new(alloc))) {
+    let Ok(config) = site(alloc) else {
+        return None;
+    };
+    let mut cell = Cell::new(alloc, config, [0; 32], 0, false);
+    let Ok(tokens) = cell.tokens(1) else {
+        let _pasts = cell.close();
+        return None;
+    };
+    match cell.boot(link, 1, Items::of(tokens)) {
         Booting::Booted => begun(alloc, cell, columns),
         Booting::LinkFault(_) | Booting::NoMemory(_) => {
-            let _parts = cell.into_parts();
+            let _pasts = cell.close();
             None
         }
     }
@@ -96,7 +122,8 @@ fn spoken(
         cell.feed_end();
     }
     let letter = last_answer(&mut cell, &mut columns);
-    let (_past, link) = cell.into_parts();
+    let link = if cell.busy() { None } else { cell.retire() };
+    let _pasts = cell.close();
     fed?;
     match link {
         Some(link) => Ok((letter, Vec::from_slice(alloc, link.given())?)),
@@ -145,7 +172,7 @@ fn spoken_in(alloc: Global, rooms: u32) -> Result<char, AllocError> {
         return Ok('-');
     };
     let letter = last_answer(&mut cell, &mut columns);
-    let _parts = cell.into_parts();
+    let _pasts = cell.close();
     Ok(letter)
 }
 

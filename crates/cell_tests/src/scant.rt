@@ -7,13 +7,13 @@ use std::alloc::AllocError;
 
 /// A link that refuses memory once it made room so many times.
 #[derive(Drop)]
-pub(super) struct Scant<L: Link> {
+pub(crate) struct Scant<L: Link> {
     link: L,
     rooms: u32,
 }
 
 impl<L: Link> Scant<L> {
-    pub(super) fn new(link: L, rooms: u32) -> Self {
+    pub(crate) fn new(link: L, rooms: u32) -> Self {
         Scant { link, rooms }
     }
 }

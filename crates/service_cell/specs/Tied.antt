@@ -9,10 +9,10 @@ use Rattle.monitor_model.specs.Course.{said_count}
 use Rattle.service_cell.specs.Standing.{Open}
 use Rattle.service_cell.specs.declared.cell.Speaking.{Speaking}
 
--- An open dialog: the cell has an incarnation, and places for the dialog and for a Retired; the frames said are counted.
+-- An open dialog: the cell has an incarnation, and places for the dialog and for a Retired; the frames said are counted, and its items are in memory.
 abbrev pub IsTiedOpen : ℕ → ℕ → Option Speaking → Type 0
 IsTiedOpen k room None = Unit {0}
-IsTiedOpen k room (Some o) = (k ≢ 0) × (2 ≤ room) × (o.frames ≡ said_count o.items.past) × (o.frames ≤ MOST_FRAMES)
+IsTiedOpen k room (Some o) = (k ≢ 0) × (2 ≤ room) × (o.frames ≡ said_count o.items.past) × (o.frames ≤ MOST_FRAMES) × (o.items.keeps ≡ true)
 
 -- The open dialog of a cell, as contracts see it.
 abbrev pub opened : Option Speaking → Option Open

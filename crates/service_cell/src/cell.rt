@@ -1,6 +1,6 @@
 //! A service's cell.
 
-ghost use Rattle.std.specs.Prelude.{◌≡◌, ◌≢◌, ◌≤◌, ◌<◌, ℕ, ◌+◌, [], ◌∷◌, reverse, length, option_map, IsTrue, IsSome, IfSome, IfOk, OnOk, OnErr, ◌↔◌};
+ghost use Rattle.std.specs.Prelude.{◌≡◌, ◌≢◌, ◌≤◌, ◌<◌, ℕ, ◌+◌, [], ◌∷◌, reverse, length, option_map, IsTrue, true, IsSome, IfSome, MatchOption, IfOk, OnOk, OnErr, ◌↔◌};
 ghost use Rattle.std.specs.Arc.{arc_value};
 ghost use Rattle.okws_base.specs.declared.limit.TheConstants.{LONGEST_FRAME, MOST_INCARNATIONS, MOST_PROXIES};
 ghost use Rattle.monitor_model.specs.declared.record.CellEvent.TheVariants as cell;
@@ -11,17 +11,19 @@ ghost use Rattle.monitor_model.specs.Cell.{CellLaw, incarnation, last_booted, bo
 ghost use Rattle.monitor_model.specs.Sent.{AreSent};
 ghost use Rattle.service_cell.specs.Asking.{KeepsBoard, IsNextBy};
 ghost use Rattle.service_cell.specs.Exchange.{AreSpelled, IsHeardOpen};
+ghost use Rattle.service_cell.specs.Ending.{EndsOtherwise, IsLast};
 ghost use Rattle.service_cell.specs.Hearing.{AreHeard};
 ghost use Rattle.service_cell.specs.Standing.{IsFresh, all_sent, with_open, finished};
 ghost use Rattle.service_cell.specs.Steps.{crash_end, StepsOpen, OpensCell, Boots, Begins, AdvancesOpen, IsSpeaking, retired, superseded};
 
 use crate::answer::{Advanced, Begun, Booting};
 use crate::columns::Columns;
+use crate::ending::{Events, Finished};
 use crate::exchange::{Exchanged, Who, exchange, hear_opening, put_frame};
 use crate::tokens::tokens_of;
 use frame_codec::frame::{Issued, ServerFrame};
 use frame_codec::making;
-use monitor_model::record::{CellEvent, Dialog, End, Item, Own};
+use monitor_model::record::{CellEvent, End, Item, Own};
 use monitor_model::sent::{Sent, Sents};
 use okws_base::crash::Cause;
 use okws_base::items::Items;
@@ -88,16 +90,13 @@ fn end_of(cause: Cause) -> End
 }
 
 /// Enters a dialog that ended so, in a place that was kept.
-fn finish(events: &mut Journal<CellEvent>, speaking: Speaking, end: End)
-    requires { 0 < events.old.room }
+fn finish(events: &mut Events, speaking: Speaking, end: End)
+    requires room { 0 < events.old.room }
+    requires kept { speaking.items.keeps ≡ true }
     ensures past { events.new.past ≡ cell.Dialog (record { worker = speaking.worker; items = speaking.items.past; end = end }) ∷ events.old.past }
     ensures room { events.new.room + 1 ≡ events.old.room }
 {
-    events.enter(CellEvent::Dialog(Dialog {
-        worker: speaking.worker,
-        items: speaking.items.into_past(),
-        end,
-    }));
+    events.finish(Finished::new(speaking.worker, speaking.items, end));
 }
 
 /// What was sent, once the link of this incarnation, if it is there, is handed out.
@@ -129,8 +128,7 @@ pub struct Cell<L: Link> {
     service: u16,
     incarnation: u32,
     last_booted: u32,
-    keeps: bool,
-    events: Journal<CellEvent>,
+    events: Events,
     speaking: Option<Speaking>,
     pub(crate) wire: Option<L>,
     sent: Sents,
@@ -161,8 +159,8 @@ impl<L: Link> Model for Cell<L> {
 
 impl<L: Link> Cell<L> {
     /// The cell of a service of a site, at which nothing happened; takes no memory. The tokens of its
-    /// incarnations are those of the run's seed. What happens stays in memory only where `keeps` says
-    /// so.
+    /// incarnations are those of the run's seed. What happens stays in memory where `keeps` says so;
+    /// else the dialog that is open or was the last one does.
     pub fn new(
         alloc: Global,
         config: Arc<Config, Global>,
@@ -179,8 +177,7 @@ impl<L: Link> Cell<L> {
             service,
             incarnation: 0,
             last_booted: 0,
-            keeps,
-            events: Journal::new(alloc, keeps),
+            events: Events::new(alloc, keeps),
             speaking: None,
             wire: None,
             sent: Sents::new(),
@@ -226,20 +223,23 @@ impl<L: Link> Cell<L> {
         self.speaking.is_some()
     }
 
-    /// The finished events, the oldest first. A dialog that just ended is the last.
-    pub fn events(&self) -> Option<&[CellEvent]>
-        ensures { IfSome result (λ events. reverse events.now ≡ self.now.past) }
+    /// The dialog that ended last, where nothing happened since.
+    pub fn last_dialog(&self) -> Option<&Finished>
+        ensures { MatchOption result (EndsOtherwise self.now.past) (λ d. IsLast (Some d.now) self.now.past) }
     {
-        self.events.as_slice()
+        self.events.last()
     }
 
     /// The items of the open dialog, the oldest first.
-    pub fn items(&self) -> Option<&[Item]>
+    pub fn items(&self) -> &[Item]
         requires { IsSome self.now.open_dialog }
-        ensures { IfSome self.now.open_dialog (λ o. IfSome result (λ items. reverse items.now ≡ o.items)) }
+        ensures { IfSome self.now.open_dialog (λ o. reverse result.now ≡ o.items) }
     {
-        match &self.speaking {
-            Some(speaking) => speaking.items.as_slice(),
+        let Some(speaking) = &self.speaking else {
+            unreachable!()
+        };
+        match speaking.items.as_slice() {
+            Some(items) => items,
             None => unreachable!(),
         }
     }
@@ -259,7 +259,7 @@ impl<L: Link> Cell<L> {
         ensures { Boots L.wire link (ServerFrame.Boot self.old.service number tokens) number self.old result self.new }
     {
         let mut link = link;
-        if self.events.make_room(2).is_err() || link.make_room(LONGEST_FRAME + 4).is_err() {
+        if self.events.make_room().is_err() || link.make_room(LONGEST_FRAME + 4).is_err() {
             return Booting::NoMemory(link);
         }
         let frame = making::boot(self.service, number, tokens);
@@ -355,7 +355,7 @@ impl<L: Link> Cell<L> {
             wanted,
             is,
         };
-        self.events.make_room(2)?;
+        self.events.make_room()?;
         columns.note(missed)?;
         self.events.enter(CellEvent::Missed {
             worker: columns.worker(),
@@ -378,12 +378,12 @@ impl<L: Link> Cell<L> {
         ensures err { OnErr result ((self.new ≡ self.old) × (C.seen columns.new ≡ C.seen columns.old)) }
         ensures board { KeepsBoard C.asker C.shows columns.old columns.new }
     {
-        self.events.make_room(2)?;
+        self.events.make_room()?;
         columns.note(Own::Dialog(self.service))?;
         let speaking = Speaking {
             worker: columns.worker(),
             frames: 0,
-            items: Journal::new(self.alloc, self.keeps),
+            items: Journal::new(self.alloc, true),
         };
         finish(&mut self.events, speaking, End::Superseded(shown));
         Ok(())
@@ -399,7 +399,7 @@ impl<L: Link> Cell<L> {
         ensures spelled { result ≡ Begun.Started → AreSpelled self.new.open_dialog }
         ensures board { KeepsBoard C.asker C.shows columns.old columns.new }
     {
-        if self.events.make_room(2).is_err() {
+        if self.events.make_room().is_err() {
             return Begun::NoMemory;
         }
         let Ok(pushes) = columns.drain(self.service, self.incarnation) else {
@@ -408,7 +408,7 @@ impl<L: Link> Cell<L> {
         let Some(link) = &mut self.wire else {
             unreachable!()
         };
-        let mut items = Journal::new(self.alloc, self.keeps);
+        let mut items = Journal::new(self.alloc, true);
         let heard = hear_opening(link, &mut items, pushes, head, content);
         let speaking = Speaking {
             worker: columns.worker(),
@@ -521,7 +521,6 @@ impl<L: Link + Drop> Cell<L> {
             service: _,
             incarnation: _,
             last_booted,
-            keeps: _,
             mut events,
             speaking,
             wire,

@@ -225,7 +225,8 @@ pub(crate) fn put_frame<L: Link>(link: &mut L, frame: &ServerFrame) -> Result<()
 #[tactic(auto, using(crate::proofs::Wires::spelling_is_short))]
 fn hear<L: Link>(link: &mut L, items: &mut Journal<Item>, frame: ServerFrame) -> Result<(), Cause>
     requires { HasSpelling frame }
-    ensures { Hears (L.wire link.old) items.old.past frame result (L.wire link.new) items.new.past }
+    ensures kept { items.new.keeps ≡ items.old.keeps }
+    ensures hears { Hears (L.wire link.old) items.old.past frame result (L.wire link.new) items.new.past }
 {
     if items.make_room(1).is_err() || link.make_room(LONGEST_FRAME + 4).is_err() {
         return Err(Cause::Starved);
@@ -252,6 +253,7 @@ pub(crate) fn hear_opening<L: Link>(
     requires request { length head + length content + 9 ≤ LONGEST_FRAME }
     ensures opens { Opens (L.wire link.old) (opening pushes.items (ServerFrame.Request head content)) result (L.wire link.new) items.new.past }
     ensures said { said_count items.new.past ≡ 0 }
+    ensures kept { items.new.keeps ≡ items.old.keeps }
     ensures spelled { OnOk result (Each IsSpelled items.new.past) }
 {
     for push in pushes {
@@ -279,6 +281,7 @@ fn exchange_frame<L: Link, C: Columns>(
     requires room { (L.wire link.old).steady ≡ true → LONGEST_FRAME + 4 ≤ (L.wire link.old).room }
     ensures exchanged { AnswersFrame (C.asker columns.old).config (record { worker = (C.asker columns.old).worker; service = who.service; incarnation = who.incarnation }) (L.wire link.old) items.old.past said (C.seen columns.old) result (L.wire link.new) items.new.past (C.seen columns.new) }
     ensures spelled { result ≡ Exchanged.Goes → IsHeardLast items.new.past }
+    ensures kept { items.new.keeps ≡ items.old.keeps }
     ensures next { IsTrue (C.asker columns.old).alone → IsNextBy (C.asker columns.old).worker (C.seen columns.old) (C.seen columns.new) }
     ensures board { KeepsBoard C.asker C.shows columns.old columns.new }
 {
@@ -315,6 +318,7 @@ pub(crate) fn exchange<L: Link, C: Columns>(
     requires most { frames ≤ MOST_FRAMES }
     ensures exchanged { Exchanges (C.asker columns.old).config (record { worker = (C.asker columns.old).worker; service = who.service; incarnation = who.incarnation }) (L.wire link.old) items.old.past (C.seen columns.old) result (L.wire link.new) items.new.past (C.seen columns.new) }
     ensures spelled { result ≡ Exchanged.Goes → IsHeardLast items.new.past }
+    ensures kept { items.new.keeps ≡ items.old.keeps }
     ensures next { IsTrue (C.asker columns.old).alone → IsNextBy (C.asker columns.old).worker (C.seen columns.old) (C.seen columns.new) }
     ensures board { KeepsBoard C.asker C.shows columns.old columns.new }
 {

@@ -6,6 +6,7 @@
 pub mod answer;
 pub mod cell;
 pub mod columns;
+pub mod ending;
 mod exchange;
 pub mod memory;
 pub mod tokens;

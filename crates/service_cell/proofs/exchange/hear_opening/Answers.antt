@@ -11,7 +11,7 @@ use Rattle.service_cell.proofs.exchange.hear_opening.Goals as goal
 pub loop-push-preserved : goal.loop-push-preserved
 loop-push-preserved g c =
     let i = c.loop-push.invariant in
-    let h = c.in_default.ensures in
+    let h = c.in_default.ensures.hears in
     let s = c.in-Some.ensures.steps in
     record {
       heard = h.1 ∙ ap (λ (f : ServerFrame). Heard f ∷ c.loop-push.items.past) c.told_push.ensures.frame ∙ ap (λ (t : List Item). Heard (push_frame c.in-Some.push) ∷ t) i.heard ∙ sym (pushed_more c.loop-push.yielded c.in-Some.push);
@@ -19,6 +19,7 @@ loop-push-preserved g c =
       all = i.all ∙ ap (λ (t : List Push). c.loop-push.yielded ++ t) s.0 ∙ sym (append_assoc c.loop-push.yielded (c.in-Some.push ∷ []) c.next.new.self.rest.items);
       said = rw h.1 i.said;
       spelled = rw h.1 (c.told_push.ensures.spelling, i.spelled);
+      kept = c.hear.ensures.kept ∙ i.kept;
     }
 
 pub returns-in-Err-clause-opens : goal.returns-in-Err-clause-opens
@@ -26,7 +27,7 @@ returns-in-Err-clause-opens g c =
     let i = c.loop-push.invariant in
     let s = c.in-Some.ensures.steps in
     let more : List Push = c.next.new.self.rest.items in
-    broke_off (g.L.Link.wire c.args.link.now) (g.L.Link.wire c.loop-push.link) (g.L.Link.wire c.hear.new.link) c.loop-push.items.past c.hear.new.items.past (opening c.args.pushes.items (frame.Request c.args.head c.args.content)) (Heard (frame.Request c.args.head c.args.content) ∷ reverse (map (λ (p : Push). Heard (push_frame p)) more)) c.told_push.result c.in-Err.cause i.moved c.in-Err.ensures
+    broke_off (g.L.Link.wire c.args.link.now) (g.L.Link.wire c.loop-push.link) (g.L.Link.wire c.hear.new.link) c.loop-push.items.past c.hear.new.items.past (opening c.args.pushes.items (frame.Request c.args.head c.args.content)) (Heard (frame.Request c.args.head c.args.content) ∷ reverse (map (λ (p : Push). Heard (push_frame p)) more)) c.told_push.result c.in-Err.cause i.moved c.in-Err.ensures.hears
     (due_after c.args.pushes.items c.loop-push.yielded more c.in-Some.push (frame.Request c.args.head c.args.content) c.loop-push.items.past (i.all ∙ ap (λ (t : List Push). c.loop-push.yielded ++ t) s.0) i.heard
     ∙ ap (λ (f : ServerFrame). (Heard (frame.Request c.args.head c.args.content) ∷ reverse (map (λ (p : Push). Heard (push_frame p)) more)) ++ Heard f ∷ c.loop-push.items.past) (sym c.told_push.ensures.frame))
 
@@ -36,7 +37,7 @@ returns-clause-opens g c =
     let s = c.in-None.ensures.steps in
     let none : c.loop-push.push-iterator.rest.items ≡ [] = nothing_left c.loop-push.push-iterator.rest.items (sym c.loop-push.push-iterator.rest.ok.0 ∙ s.0) in
     last_heard (g.L.Link.wire c.args.link.now) (g.L.Link.wire c.loop-push.link) (g.L.Link.wire c.hear-2.new.link) c.loop-push.items.past c.hear-2.new.items.past c.loop-push.yielded c.args.pushes.items (frame.Request c.args.head c.args.content) c.hear-2.result
-    i.moved (rw c.request.ensures.frame at c.hear-2.ensures) i.heard (i.all ∙ ap (λ (t : List Push). c.loop-push.yielded ++ t) none)
+    i.moved (rw c.request.ensures.frame at c.hear-2.ensures.hears) i.heard (i.all ∙ ap (λ (t : List Push). c.loop-push.yielded ++ t) none)
 
 pub returns-clause-spelled : goal.returns-clause-spelled
-returns-clause-spelled g c = heard_spelled _ _ c.loop-push.items.past c.hear-2.new.items.past c.request.result c.hear-2.result c.hear-2.ensures c.request.ensures.spelling c.loop-push.invariant.spelled
+returns-clause-spelled g c = heard_spelled _ _ c.loop-push.items.past c.hear-2.new.items.past c.request.result c.hear-2.result c.hear-2.ensures.hears c.request.ensures.spelling c.loop-push.invariant.spelled

@@ -1,0 +1,165 @@
+//! The events of a cell, and its last dialog, which stays at hand whether or not the events are kept.
+
+ghost use Rattle.std.specs.Prelude.{◌≡◌, ◌≤◌, ◌<◌, ◌+◌, [], ◌∷◌, reverse, true, OnOk, MatchOption};
+ghost use Rattle.monitor_model.specs.declared.record.CellEvent.TheVariants as cell;
+ghost use Rattle.service_cell.specs.Ending.{with_last, places, IsOther, IsLast, EndsOtherwise};
+
+use monitor_model::record::{CellEvent, Dialog, End, Item};
+use okws_base::journal::{Journal, Past};
+use std::alloc::{AllocError, Global};
+use std::marker::Model;
+
+/// A dialog that ended.
+#[derive(Drop)]
+pub struct Finished {
+    worker: u16,
+    items: Journal<Item>,
+    end: End,
+}
+
+impl Model for Finished {
+    ghost use Rattle.std.specs.Prelude.{◌≡◌, true};
+    ghost use Rattle.monitor_model.specs.declared.record.Dialog.{Dialog};
+
+    ghost Value = { Dialog };
+
+    ghost view = { λ a. record { worker = a.worker; items = a.items.past; end = a.end } };
+
+    ghost invariant = { λ a. a.items.keeps ≡ true };
+}
+
+impl Finished {
+    /// The dialog of a worker, whose items are in memory.
+    pub(crate) fn new(worker: u16, items: Journal<Item>, end: End) -> Self
+        requires { items.keeps ≡ true }
+        ensures { result ≡ record { worker = worker; items = items.past; end = end } }
+    {
+        Finished { worker, items, end }
+    }
+
+    /// How it ended.
+    pub fn end(&self) -> End
+        ensures { result ≡ self.now.end }
+    {
+        self.end
+    }
+
+    /// Its items, the oldest first.
+    pub fn items(&self) -> &[Item]
+        ensures { reverse result.now ≡ self.now.items }
+    {
+        match self.items.as_slice() {
+            Some(items) => items,
+            None => unreachable!(),
+        }
+    }
+
+    fn into_dialog(self) -> Dialog
+        ensures { result ≡ self }
+    {
+        Dialog {
+            worker: self.worker,
+            items: self.items.into_past(),
+            end: self.end,
+        }
+    }
+}
+
+/// The events of a cell, seen as a journal. A dialog that is the last one stays in memory.
+#[derive(Drop)]
+pub(crate) struct Events {
+    journal: Journal<CellEvent>,
+    last: Option<Finished>,
+}
+
+impl Model for Events {
+    ghost use Rattle.std.specs.Prelude.{◌-◌};
+    ghost use Rattle.okws_base.specs.Kept.{Kept};
+    ghost use Rattle.monitor_model.specs.declared.record.CellEvent.{CellEvent};
+    ghost use Rattle.service_cell.specs.Ending.{with_last, places, FitsLast};
+
+    ghost Value = { Kept CellEvent };
+
+    ghost view = { λ a. record { past = with_last a.last a.journal.past; room = a.journal.room - places a.last; keeps = a.journal.keeps } };
+
+    ghost invariant = { λ a. FitsLast a.last a.journal.past a.journal.room };
+}
+
+// Enters the last dialog, if it isn't entered yet.
+fn enter_last(journal: &mut Journal<CellEvent>, last: &mut Option<Finished>)
+    requires { places last.old ≤ journal.old.room }
+    ensures past { journal.new.past ≡ with_last last.old journal.old.past }
+    ensures keeps { journal.new.keeps ≡ journal.old.keeps }
+    ensures room { journal.new.room + places last.old ≡ journal.old.room }
+{
+    match last.take() {
+        Some(dialog) => journal.enter(CellEvent::Dialog(dialog.into_dialog())),
+        None => {}
+    }
+}
+
+impl Events {
+    /// No events.
+    pub(crate) fn new(alloc: Global, keeps: bool) -> Self
+        ensures past { result.past ≡ [] }
+        ensures keeps { result.keeps ≡ keeps }
+    {
+        Events {
+            journal: Journal::new(alloc, keeps),
+            last: None,
+        }
+    }
+
+    /// Makes room for two more; where memory is refused the events are as before.
+    pub(crate) fn make_room(&mut self) -> Result<(), AllocError>
+        ensures past { self.new.past ≡ self.old.past }
+        ensures keeps { self.new.keeps ≡ self.old.keeps }
+        ensures ok { OnOk result (2 ≤ self.new.room) }
+        ensures room { self.old.room ≤ self.new.room }
+    {
+        self.journal.make_room(3)
+    }
+
+    /// Enters an event that is no dialog, which takes no memory.
+    pub(crate) fn enter(&mut self, event: CellEvent)
+        requires room { 0 < self.old.room }
+        requires other { IsOther event }
+        ensures past { self.new.past ≡ event ∷ self.old.past }
+        ensures keeps { self.new.keeps ≡ self.old.keeps }
+        ensures room { self.new.room + 1 ≡ self.old.room }
+    {
+        enter_last(&mut self.journal, &mut self.last);
+        self.journal.enter(event);
+        self.last = None;
+    }
+
+    /// Enters a dialog, which takes no memory.
+    pub(crate) fn finish(&mut self, dialog: Finished)
+        requires { 0 < self.old.room }
+        ensures past { self.new.past ≡ cell.Dialog dialog ∷ self.old.past }
+        ensures keeps { self.new.keeps ≡ self.old.keeps }
+        ensures room { self.new.room + 1 ≡ self.old.room }
+    {
+        enter_last(&mut self.journal, &mut self.last);
+        self.last = Some(dialog);
+    }
+
+    /// The last event, where that is a dialog.
+    pub(crate) fn last(&self) -> Option<&Finished>
+        ensures { MatchOption result (EndsOtherwise self.now.past) (λ d. IsLast (Some d.now) self.now.past) }
+    {
+        self.last.as_ref()
+    }
+
+    /// What was entered.
+    pub(crate) fn into_past(self) -> Past<CellEvent>
+        ensures { result ≡ self.past }
+    {
+        let Events {
+            mut journal,
+            mut last,
+        } = self;
+        enter_last(&mut journal, &mut last);
+        journal.into_past()
+    }
+}

@@ -17,7 +17,7 @@ use Rattle.okws_plan.proofs.Rules.{all_keep_rules}
 use Rattle.plain_text.specs.Decimals.{decimal_value}
 use Rattle.statement_core.proofs.KeepsForms.{compiled_keeps}
 use Rattle.statement_core.specs.Compiled.{compiled}
-use Rattle.statement_core.specs.declared.error.Refusal.{Refusal}
+use Rattle.query_syntax.specs.declared.error.Refusal.{Refusal}
 use Rattle.config_reader.specs.Above.{Above, proxy_number, plan_of, tables_at, table_number}
 use Rattle.config_reader.specs.After.{after, with_plan, with_table, with_row, with_row_in, with_query, table_of, changed_at}
 use Rattle.config_reader.specs.Broken.{row_values, statement_at}

@@ -2,12 +2,12 @@
 use Rattle.std.specs.Prelude.{ℕ, ◌-◌, Bool, true, ◌==◌, if◌then◌else◌, List, [], ◌∷◌, slice_index, Option, Some, None, option_map, Result, Ok, Err}
 use Rattle.okws_base.specs.declared.value.Value.{Value}
 use Rattle.plain_text.specs.Words.{is_blank}
-use Rattle.statement_core.specs.declared.error.Refusal.{Refusal}
-use Rattle.statement_core.specs.declared.token.Token.{Token}
-use Rattle.statement_core.specs.declared.token.Token.TheVariants as token
-use Rattle.statement_core.specs.declared.token.Placed.{Placed}
-use Rattle.statement_core.specs.declared.token.Fixed.TheVariants as fixed
-use Rattle.statement_core.specs.Tokens.{tokens, same_fixed}
+use Rattle.query_syntax.specs.declared.error.Refusal.{Refusal}
+use Rattle.query_syntax.specs.declared.token.Token.{Token}
+use Rattle.query_syntax.specs.declared.token.Token.TheVariants as token
+use Rattle.query_syntax.specs.declared.token.Placed.{Placed}
+use Rattle.query_syntax.specs.declared.token.Fixed.TheVariants as fixed
+use Rattle.query_syntax.specs.Tokens.{tokens, same_fixed}
 
 -- A place of a text is its start, or stands behind a blank.
 abbrev pub is_apart : List ℕ → ℕ → Bool

@@ -16,13 +16,13 @@ use Rattle.okws_plan.specs.declared.statement.Operand.{Operand}
 use Rattle.okws_plan.specs.declared.statement.Operand.TheVariants as operand
 use Rattle.okws_plan.specs.declared.statement.Condition.{Condition}
 use Rattle.okws_plan.specs.declared.statement.Assignment.{Assignment}
-use Rattle.statement_core.specs.declared.syntax.Named.{Named}
-use Rattle.statement_core.specs.declared.syntax.Given.{Given}
-use Rattle.statement_core.specs.declared.syntax.Setting.{Setting}
-use Rattle.statement_core.specs.declared.syntax.Test.{Test}
-use Rattle.statement_core.specs.declared.syntax.Form.{Form}
+use Rattle.query_syntax.specs.declared.syntax.Named.{Named}
+use Rattle.query_syntax.specs.declared.syntax.Given.{Given}
+use Rattle.query_syntax.specs.declared.syntax.Setting.{Setting}
+use Rattle.query_syntax.specs.declared.syntax.Test.{Test}
+use Rattle.query_syntax.specs.declared.syntax.Form.{Form}
 use Rattle.statement_core.specs.Canonical.{name_of_column}
-use Rattle.statement_core.specs.Forms.{bare_name, bare_value, bare_setting, bare_test}
+use Rattle.query_syntax.specs.Forms.{bare_name, bare_value, bare_setting, bare_test}
 use Rattle.statement_core.specs.Recompiled.{names_differ}
 use Rattle.statement_core.specs.Resolving.{Judged, short, column_number, column_in, kind_in, word_judged, words_judged, is_numbered, is_other, first_kind, parameter_judged, written_judged, value_judged, test_judged, tests_judged, target_judged, setting_judged, settings_judged, are_columns, list_judged, kind_at, values_judged, list_excess, tests_excess, parts_excess, parts_judged}
 use Rattle.statement_core.proofs.Stated.{bare_word, name_at, written_of, given_of, names_of, test_of, setting_of, fitting, column_there, parameter_within}

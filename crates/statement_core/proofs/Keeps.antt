@@ -13,15 +13,15 @@ use Rattle.okws_plan.specs.declared.statement.Operand.{Operand}
 use Rattle.okws_plan.specs.declared.statement.Operand.TheVariants as operand
 use Rattle.okws_plan.specs.declared.statement.Condition.{Condition}
 use Rattle.okws_plan.specs.declared.statement.Assignment.{Assignment}
-use Rattle.statement_core.specs.declared.error.Refusal.{Refusal}
-use Rattle.statement_core.specs.declared.error.TextRule.{TextRule}
-use Rattle.statement_core.specs.declared.error.TextRule.TheVariants as rule
-use Rattle.statement_core.specs.declared.syntax.Named.{Named}
-use Rattle.statement_core.specs.declared.syntax.Written.{Written}
-use Rattle.statement_core.specs.declared.syntax.Written.TheVariants as written
-use Rattle.statement_core.specs.declared.syntax.Given.{Given}
-use Rattle.statement_core.specs.declared.syntax.Setting.{Setting}
-use Rattle.statement_core.specs.declared.syntax.Test.{Test}
+use Rattle.query_syntax.specs.declared.error.Refusal.{Refusal}
+use Rattle.query_syntax.specs.declared.error.TextRule.{TextRule}
+use Rattle.query_syntax.specs.declared.error.TextRule.TheVariants as rule
+use Rattle.query_syntax.specs.declared.syntax.Named.{Named}
+use Rattle.query_syntax.specs.declared.syntax.Written.{Written}
+use Rattle.query_syntax.specs.declared.syntax.Written.TheVariants as written
+use Rattle.query_syntax.specs.declared.syntax.Given.{Given}
+use Rattle.query_syntax.specs.declared.syntax.Setting.{Setting}
+use Rattle.query_syntax.specs.declared.syntax.Test.{Test}
 use Rattle.statement_core.specs.Resolving.{Judged, earlier, earlier_of, noted, short, column_number, column_in, kind_in, word_judged, words_judged, is_numbered, is_other, first_kind, kind_met, met_by, parameter_judged, written_judged, value_judged, test_judged, tests_judged, is_key, is_taken, taken_by, target_judged, setting_judged, settings_judged, kind_at, values_judged, has_gap, parameters, or_zero, number, operand_of, condition_of, assignment_of}
 use Rattle.statement_core.proofs.Judged.{kinds_same, kind_itself, suffix_first, suffix_more}
 

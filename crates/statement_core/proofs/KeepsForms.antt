@@ -18,25 +18,25 @@ use Rattle.okws_plan.specs.declared.statement.Assignment.{Assignment}
 use Rattle.okws_plan.specs.declared.statement.Action.{Action}
 use Rattle.okws_plan.specs.declared.statement.Action.TheVariants as action
 use Rattle.okws_plan.specs.declared.statement.Statement.{Statement}
-use Rattle.statement_core.specs.declared.error.CompileError.{CompileError}
-use Rattle.statement_core.specs.declared.error.Refusal.{Refusal}
-use Rattle.statement_core.specs.declared.error.TextRule.TheVariants as rule
-use Rattle.statement_core.specs.declared.syntax.Named.{Named}
-use Rattle.statement_core.specs.declared.syntax.Given.{Given}
-use Rattle.statement_core.specs.declared.syntax.Setting.{Setting}
-use Rattle.statement_core.specs.declared.syntax.Test.{Test}
-use Rattle.statement_core.specs.declared.syntax.Form.{Form}
-use Rattle.statement_core.specs.declared.syntax.Form.TheVariants as form
-use Rattle.statement_core.specs.declared.token.Placed.{Placed}
-use Rattle.statement_core.specs.Answers.{◌>>=◌, Gives}
-use Rattle.statement_core.specs.Tokens.{tokens}
-use Rattle.statement_core.specs.declared.token.Fixed.{Fixed}
-use Rattle.statement_core.specs.declared.token.Fixed.TheVariants as fixed
-use Rattle.statement_core.specs.declared.token.Token.{Token}
-use Rattle.statement_core.specs.declared.token.Token.TheVariants as token
+use Rattle.query_syntax.specs.declared.error.CompileError.{CompileError}
+use Rattle.query_syntax.specs.declared.error.Refusal.{Refusal}
+use Rattle.query_syntax.specs.declared.error.TextRule.TheVariants as rule
+use Rattle.query_syntax.specs.declared.syntax.Named.{Named}
+use Rattle.query_syntax.specs.declared.syntax.Given.{Given}
+use Rattle.query_syntax.specs.declared.syntax.Setting.{Setting}
+use Rattle.query_syntax.specs.declared.syntax.Test.{Test}
+use Rattle.query_syntax.specs.declared.syntax.Form.{Form}
+use Rattle.query_syntax.specs.declared.syntax.Form.TheVariants as form
+use Rattle.query_syntax.specs.declared.token.Placed.{Placed}
+use Rattle.query_syntax.specs.Answers.{◌>>=◌, Gives}
+use Rattle.query_syntax.specs.Tokens.{tokens}
+use Rattle.query_syntax.specs.declared.token.Fixed.{Fixed}
+use Rattle.query_syntax.specs.declared.token.Fixed.TheVariants as fixed
+use Rattle.query_syntax.specs.declared.token.Token.{Token}
+use Rattle.query_syntax.specs.declared.token.Token.TheVariants as token
 use Rattle.okws_base.specs.declared.value.Value.TheVariants as value
-use Rattle.statement_core.specs.Grammar.{Reader, begins, rest_of, place_of, unexpected, fixed_at, name_at, value_at, given_or, limit_in, number_at, with_front, more_at, items_at, names_at, values_at, setting_at, settings_at, where_at, order_at, limit_at, select_at, insert_at, update_at, delete_at, form_at, parsed}
-use Rattle.statement_core.specs.Forms.{is_grammatical, has_items, may_limit}
+use Rattle.query_syntax.specs.Grammar.{Reader, begins, rest_of, place_of, unexpected, fixed_at, name_at, value_at, given_or, limit_in, number_at, with_front, more_at, items_at, names_at, values_at, setting_at, settings_at, where_at, order_at, limit_at, select_at, insert_at, update_at, delete_at, form_at, parsed}
+use Rattle.query_syntax.specs.Forms.{is_grammatical, has_items, may_limit}
 use Rattle.statement_core.specs.Compiled.{compiled}
 use Rattle.statement_core.specs.Resolving.{Judged, sooner, table_number, word_judged, words_judged, test_judged, tests_judged, settings_judged, are_columns, list_judged, values_judged, order_judged, columns_judged, too_many, list_excess, tests_excess, parts_excess, table_word, nothing_found, has_gap, parameters, number, operand_of, condition_of, assignment_of, action_of, fault_of, unless, judged_on, statement_of, on_table, undeclared, resolved_at, resolved}
 use Rattle.statement_core.specs.Recompiled.{CompiledKeepsRules}

@@ -1,6 +1,3 @@
-pub mod Lists
-pub mod Spelled
-pub mod ReadForms
 pub mod Stated
 pub mod Judged
 pub mod Keeps

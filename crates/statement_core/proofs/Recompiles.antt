@@ -20,27 +20,28 @@ use Rattle.okws_plan.specs.declared.statement.Selection.{Selection}
 use Rattle.okws_plan.specs.declared.statement.Action.{Action}
 use Rattle.okws_plan.specs.declared.statement.Action.TheVariants as action
 use Rattle.okws_plan.specs.declared.statement.Statement.{Statement}
-use Rattle.statement_core.specs.declared.error.Refusal.{Refusal}
-use Rattle.statement_core.specs.declared.token.Fixed.TheVariants as fixed
-use Rattle.statement_core.specs.declared.token.Token.{Token}
-use Rattle.statement_core.specs.declared.token.Token.TheVariants as token
-use Rattle.statement_core.specs.declared.token.Placed.{Placed}
-use Rattle.statement_core.specs.declared.syntax.Named.{Named}
-use Rattle.statement_core.specs.declared.syntax.Given.{Given}
-use Rattle.statement_core.specs.declared.syntax.Setting.{Setting}
-use Rattle.statement_core.specs.declared.syntax.Test.{Test}
-use Rattle.statement_core.specs.declared.syntax.Form.{Form}
-use Rattle.statement_core.specs.declared.syntax.Form.TheVariants as form
-use Rattle.statement_core.specs.Answers.{◌>>=◌}
-use Rattle.statement_core.specs.Tokens.{tokens}
-use Rattle.statement_core.specs.Grammar.{parsed}
+use Rattle.query_syntax.specs.declared.error.Refusal.{Refusal}
+use Rattle.query_syntax.specs.declared.token.Fixed.TheVariants as fixed
+use Rattle.query_syntax.specs.declared.token.Token.{Token}
+use Rattle.query_syntax.specs.declared.token.Token.TheVariants as token
+use Rattle.query_syntax.specs.declared.token.Placed.{Placed}
+use Rattle.query_syntax.specs.declared.syntax.Named.{Named}
+use Rattle.query_syntax.specs.declared.syntax.Given.{Given}
+use Rattle.query_syntax.specs.declared.syntax.Setting.{Setting}
+use Rattle.query_syntax.specs.declared.syntax.Test.{Test}
+use Rattle.query_syntax.specs.declared.syntax.Form.{Form}
+use Rattle.query_syntax.specs.declared.syntax.Form.TheVariants as form
+use Rattle.query_syntax.specs.Answers.{◌>>=◌}
+use Rattle.query_syntax.specs.Tokens.{tokens}
+use Rattle.query_syntax.specs.Grammar.{parsed}
 use Rattle.statement_core.specs.Canonical.{statement_tokens, canonical}
-use Rattle.statement_core.specs.Forms.{tokens_in, form_tokens, is_grammatical, has_items, may_limit, bare_name, bare_value, bare_setting, bare_test, bare, read_barely}
+use Rattle.query_syntax.specs.Forms.{tokens_in, form_tokens, is_grammatical, has_items, may_limit, bare_name, bare_value, bare_setting, bare_test, bare, read_barely}
 use Rattle.statement_core.specs.Resolving.{Judged, table_number, table_word, nothing_found, has_gap, parameters, number, operand_of, condition_of, assignment_of, action_of, judged_on, on_table, resolved, parts_judged, order_judged, words_judged, tests_judged, settings_judged, values_judged, list_judged, parts_excess}
 use Rattle.statement_core.specs.Compiled.{compiled}
-use Rattle.statement_core.specs.Recompiled.{is_spelled, names_differ, is_declarable, holds_literals, StatementsCompileAgain, found_barely}
-use Rattle.statement_core.proofs.Spelled.{tokens_again}
-use Rattle.statement_core.proofs.ReadForms.{forms_again}
+use Rattle.query_syntax.specs.ReadAgain.{is_spelled, found_barely}
+use Rattle.statement_core.specs.Recompiled.{names_differ, is_declarable, holds_literals, StatementsCompileAgain}
+use Rattle.query_syntax.proofs.Spelled.{tokens_again}
+use Rattle.query_syntax.proofs.ReadForms.{forms_again}
 use Rattle.statement_core.proofs.Stated.{bare_word, name_at, written_of, given_of, test_of, setting_of, names_of, form_on, tokens_same, all_named, form_spelled, column_there, fitting, parameter_within, Selects, selects, Updates, updates}
 use Rattle.statement_core.proofs.Judged.{Sound, column_number_is, number_is, wanted, shown, state, words_kept, tests_kept, settings_kept, values_kept, all_words_kept, as_many, list_kept, list_within, tests_within, parts_kept, taken_behind, after_conditions, after_settings, after_values, name_is, are_free}
 

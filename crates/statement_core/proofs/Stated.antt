@@ -17,22 +17,24 @@ use Rattle.okws_plan.specs.declared.statement.Assignment.{Assignment}
 use Rattle.okws_plan.specs.declared.statement.Selection.{Selection}
 use Rattle.okws_plan.specs.declared.statement.Action.{Action}
 use Rattle.okws_plan.specs.declared.statement.Action.TheVariants as action
-use Rattle.statement_core.specs.declared.token.Fixed.{Fixed}
-use Rattle.statement_core.specs.declared.token.Fixed.TheVariants as fixed
-use Rattle.statement_core.specs.declared.token.Token.{Token}
-use Rattle.statement_core.specs.declared.token.Token.TheVariants as token
-use Rattle.statement_core.specs.declared.syntax.Named.{Named}
-use Rattle.statement_core.specs.declared.syntax.Written.{Written}
-use Rattle.statement_core.specs.declared.syntax.Written.TheVariants as written
-use Rattle.statement_core.specs.declared.syntax.Given.{Given}
-use Rattle.statement_core.specs.declared.syntax.Setting.{Setting}
-use Rattle.statement_core.specs.declared.syntax.Test.{Test}
-use Rattle.statement_core.specs.declared.syntax.Form.{Form}
-use Rattle.statement_core.specs.declared.syntax.Form.TheVariants as form
-use Rattle.statement_core.specs.Tokens.{same_fixed}
-use Rattle.statement_core.specs.Canonical.{name_of_column, operand_token, comparison_sign, column_tokens, all_column_tokens, operand_tokens, assignment_tokens, condition_tokens, order_tokens, limit_tokens, action_tokens}
-use Rattle.statement_core.specs.Forms.{named_tokens, written_token, given_tokens, setting_tokens, test_tokens, behind_separators, separated, where_tokens, order_by_tokens, form_tokens}
-use Rattle.statement_core.specs.Recompiled.{is_spelled, holds_literal, conditions_hold, holds_literals}
+use Rattle.query_syntax.specs.declared.token.Fixed.{Fixed}
+use Rattle.query_syntax.specs.declared.token.Fixed.TheVariants as fixed
+use Rattle.query_syntax.specs.declared.token.Token.{Token}
+use Rattle.query_syntax.specs.declared.token.Token.TheVariants as token
+use Rattle.query_syntax.specs.declared.syntax.Named.{Named}
+use Rattle.query_syntax.specs.declared.syntax.Written.{Written}
+use Rattle.query_syntax.specs.declared.syntax.Written.TheVariants as written
+use Rattle.query_syntax.specs.declared.syntax.Given.{Given}
+use Rattle.query_syntax.specs.declared.syntax.Setting.{Setting}
+use Rattle.query_syntax.specs.declared.syntax.Test.{Test}
+use Rattle.query_syntax.specs.declared.syntax.Form.{Form}
+use Rattle.query_syntax.specs.declared.syntax.Form.TheVariants as form
+use Rattle.query_syntax.specs.Tokens.{same_fixed}
+use Rattle.query_syntax.specs.Spelling.{comparison_sign, limit_tokens}
+use Rattle.statement_core.specs.Canonical.{name_of_column, operand_token, column_tokens, all_column_tokens, operand_tokens, assignment_tokens, condition_tokens, order_tokens, action_tokens}
+use Rattle.query_syntax.specs.Forms.{named_tokens, written_token, given_tokens, setting_tokens, test_tokens, behind_separators, separated, where_tokens, order_by_tokens, form_tokens}
+use Rattle.query_syntax.specs.ReadAgain.{is_spelled}
+use Rattle.statement_core.specs.Recompiled.{holds_literal, conditions_hold, holds_literals}
 
 abbrev pub bare_word : List ℕ → Named
 bare_word w = record { at = 0; name = w }

@@ -2,10 +2,10 @@
 use Rattle.std.specs.Prelude.{ℕ, List, length, Result}
 use Rattle.okws_plan.specs.declared.configuration.Table.{Table}
 use Rattle.okws_plan.specs.declared.statement.Statement.{Statement}
-use Rattle.statement_core.specs.declared.error.Refusal.{Refusal}
-use Rattle.statement_core.specs.Answers.{◌>>=◌}
-use Rattle.statement_core.specs.Tokens.{tokens}
-use Rattle.statement_core.specs.Grammar.{parsed}
+use Rattle.query_syntax.specs.declared.error.Refusal.{Refusal}
+use Rattle.query_syntax.specs.Answers.{◌>>=◌}
+use Rattle.query_syntax.specs.Tokens.{tokens}
+use Rattle.query_syntax.specs.Grammar.{parsed}
 use Rattle.statement_core.specs.Resolving.{resolved}
 
 -- The statement that a text stands for at these tables, or the rule that it breaks: rule 1 is tested over the whole text first, then rule 2, each at its leftmost place; then rules 3 to 11 at the leftmost place, and there the lowest; a gap of rule 7 comes last.

@@ -16,31 +16,18 @@ use Rattle.okws_plan.specs.declared.statement.Selection.{Selection}
 use Rattle.okws_plan.specs.declared.statement.Action.{Action}
 use Rattle.okws_plan.specs.declared.statement.Action.TheVariants as action
 use Rattle.okws_plan.specs.declared.statement.Statement.{Statement}
-use Rattle.statement_core.specs.declared.error.Refusal.{Refusal}
-use Rattle.statement_core.specs.declared.error.TextRule.{TextRule}
-use Rattle.statement_core.specs.declared.error.TextRule.TheVariants as rule
-use Rattle.statement_core.specs.declared.syntax.Named.{Named}
-use Rattle.statement_core.specs.declared.syntax.Written.{Written}
-use Rattle.statement_core.specs.declared.syntax.Written.TheVariants as written
-use Rattle.statement_core.specs.declared.syntax.Given.{Given}
-use Rattle.statement_core.specs.declared.syntax.Setting.{Setting}
-use Rattle.statement_core.specs.declared.syntax.Test.{Test}
-use Rattle.statement_core.specs.declared.syntax.Form.{Form}
-use Rattle.statement_core.specs.declared.syntax.Form.TheVariants as form
-
--- The numbers of the rules.
-abbrev pub rule_number : TextRule → ℕ
-rule_number rule.BadToken = 1
-rule_number rule.Expected = 2
-rule_number rule.NoSuchTable = 3
-rule_number rule.NoSuchColumn = 4
-rule_number rule.KindMismatch = 5
-rule_number rule.ParameterKind = 6
-rule_number rule.ParameterGap = 7
-rule_number rule.KeySet = 8
-rule_number rule.ColumnTwice = 9
-rule_number rule.TooManyParts = 10
-rule_number rule.InsertColumns = 11
+use Rattle.query_syntax.specs.RuleNumber.{rule_number}
+use Rattle.query_syntax.specs.declared.error.Refusal.{Refusal}
+use Rattle.query_syntax.specs.declared.error.TextRule.{TextRule}
+use Rattle.query_syntax.specs.declared.error.TextRule.TheVariants as rule
+use Rattle.query_syntax.specs.declared.syntax.Named.{Named}
+use Rattle.query_syntax.specs.declared.syntax.Written.{Written}
+use Rattle.query_syntax.specs.declared.syntax.Written.TheVariants as written
+use Rattle.query_syntax.specs.declared.syntax.Given.{Given}
+use Rattle.query_syntax.specs.declared.syntax.Setting.{Setting}
+use Rattle.query_syntax.specs.declared.syntax.Test.{Test}
+use Rattle.query_syntax.specs.declared.syntax.Form.{Form}
+use Rattle.query_syntax.specs.declared.syntax.Form.TheVariants as form
 
 -- One refusal comes before another: it stands to the left, or at the same place with the lower rule.
 abbrev pub is_before : Refusal → Refusal → Bool

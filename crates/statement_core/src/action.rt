@@ -4,10 +4,10 @@ ghost use Rattle.std.specs.Prelude.{◌≡◌, IfOk, map, option_map};
 ghost use Rattle.statement_core.specs.Resolving.{short, or_zero, number, operand_of, condition_of, assignment_of, selection_of, action_of};
 
 use crate::lookup::number_in_table;
-use crate::syntax::{Form, Given, Named, Setting, Test, Written};
 use okws_base::items::{Exact, Items};
 use okws_plan::configuration::Column;
 use okws_plan::statement::{Action, Assignment, Condition, Operand, Selection};
+use query_syntax::syntax::{Form, Given, Named, Setting, Test, Written};
 use std::alloc::{AllocError, Global};
 
 fn column_byte(columns: &[Column], word: &Named) -> u8

@@ -1,18 +1,19 @@
 //! The canonical text of a statement, by its tokens.
 
 ghost use Rattle.std.specs.Prelude.{◌≡◌, ◌<◌, ◌++◌, IfOk, OnOk, true};
-ghost use Rattle.statement_core.specs.Canonical.{column_token, table_token, operand_token, comparison_sign, before, column_tokens, all_column_tokens, operand_tokens, assignment_tokens, condition_tokens, order_tokens, limit_tokens, action_tokens, statement_tokens, canonical};
+ghost use Rattle.query_syntax.specs.Spelling.{comparison_sign, limit_tokens};
+ghost use Rattle.statement_core.specs.Canonical.{column_token, table_token, operand_token, before, column_tokens, all_column_tokens, operand_tokens, assignment_tokens, condition_tokens, order_tokens, action_tokens, statement_tokens, canonical};
 ghost use Rattle.statement_core.specs.Recompiled.{CompilesTo};
 
 use crate::lookup::columns_at;
-use crate::spelling::spelled;
-use crate::token::{Fixed, Token};
 use okws_base::items::{Exact, Items};
 use okws_base::value::Value;
 use okws_plan::configuration::{Column, Table};
 use okws_plan::statement::{
     Action, Assignment, Comparison, Condition, Operand, Selection, Statement,
 };
+use query_syntax::spelling::spelled;
+use query_syntax::token::{Fixed, Token};
 use std::alloc::{AllocError, Global};
 
 fn column_of(alloc: Global, columns: &[Column], number: u8) -> Result<Token, AllocError>

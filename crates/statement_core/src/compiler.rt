@@ -2,15 +2,15 @@
 
 ghost use Rattle.std.specs.Prelude.{IfOk, IsTrue};
 ghost use Rattle.okws_plan.specs.Rules.{keeps_rules};
-ghost use Rattle.statement_core.specs.Answers.{Gives};
+ghost use Rattle.query_syntax.specs.Answers.{Gives};
 ghost use Rattle.statement_core.specs.Compiled.{compiled};
 
-use crate::error::CompileError;
-use crate::lexer::tokens_of;
-use crate::parser::parse;
 use crate::resolver::resolve;
 use okws_plan::configuration::Table;
 use okws_plan::statement::Statement;
+use query_syntax::error::CompileError;
+use query_syntax::lexer::tokens_of;
+use query_syntax::parser::parse;
 use std::alloc::Global;
 
 /// The statement that a text of the query language stands for at these tables of a proxy, or the

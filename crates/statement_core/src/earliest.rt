@@ -1,30 +1,9 @@
 //! Which of two broken rules comes first: the one to the left, or at one place the lower one.
 
 ghost use Rattle.std.specs.Prelude.{◌≡◌};
-ghost use Rattle.statement_core.specs.Resolving.{rule_number, is_before, earlier, earlier_of, sooner};
+ghost use Rattle.statement_core.specs.Resolving.{is_before, earlier, earlier_of, sooner};
 
-use crate::error::{Refusal, TextRule};
-
-impl TextRule {
-    /// The rule's number, 1 to 11.
-    pub fn number(self) -> u8
-        ensures { result ≡ rule_number self }
-    {
-        match self {
-            TextRule::BadToken => 1,
-            TextRule::Expected => 2,
-            TextRule::NoSuchTable => 3,
-            TextRule::NoSuchColumn => 4,
-            TextRule::KindMismatch => 5,
-            TextRule::ParameterKind => 6,
-            TextRule::ParameterGap => 7,
-            TextRule::KeySet => 8,
-            TextRule::ColumnTwice => 9,
-            TextRule::TooManyParts => 10,
-            TextRule::InsertColumns => 11,
-        }
-    }
-}
+use query_syntax::error::Refusal;
 
 fn comes_before(one: Refusal, other: Refusal) -> bool
     ensures { result ≡ is_before one other }

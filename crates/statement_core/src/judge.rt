@@ -5,14 +5,14 @@ ghost use Rattle.std.specs.List.{list_any};
 ghost use Rattle.statement_core.specs.Resolving.{noted, short, word_judged, words_judged, is_numbered, is_other, first_kind, kind_met, met_by, parameter_judged, written_judged, value_judged, test_judged, tests_judged, is_taken, taken_by, target_judged, setting_judged, settings_judged, are_columns, list_judged, kind_at, values_judged, order_judged, columns_judged, too_many, list_excess, tests_excess, parts_excess, parts_judged, nothing_found, has_gap, parameters, fault_of, judged_on};
 
 use crate::earliest::{earlier_found, earlier_of_both};
-use crate::error::{Refusal, TextRule};
 use crate::lookup::{is_key_named, kind_named, kind_of_column, number_in_table};
-use crate::syntax::{Form, Given, Named, Setting, Test, Written};
 use okws_base::items::Items;
 use okws_base::limit::{MOST_COLUMNS, MOST_CONDITIONS, MOST_PARAMETERS};
 use okws_base::value::Kind;
 use okws_plan::configuration::Column;
 use plain_text::parts::is_same;
+use query_syntax::error::{Refusal, TextRule};
+use query_syntax::syntax::{Form, Given, Named, Setting, Test, Written};
 use std::alloc::{AllocError, Global};
 use std::marker::Model;
 

@@ -6,24 +6,15 @@ mod action;
 mod canonical;
 mod compiler;
 mod earliest;
-mod error;
-mod front;
 mod judge;
 mod law;
-mod lexer;
 mod lookup;
-mod parser;
 mod resolver;
-mod spelling;
-mod syntax;
-mod token;
 
 pub use canonical::text_of;
 pub use compiler::compile;
-pub use error::{CompileError, Refusal, TextRule};
-pub use law::{
-    compiled_statements_keep_rules, forms_are_read_again, statements_compile_again,
-    tokens_are_read_again,
-};
-pub use lexer::tokens_of;
-pub use token::{Fixed, Placed, Token};
+pub use law::{compiled_statements_keep_rules, statements_compile_again};
+pub use query_syntax::error::{CompileError, Refusal, TextRule};
+pub use query_syntax::law::{forms_are_read_again, tokens_are_read_again};
+pub use query_syntax::lexer::tokens_of;
+pub use query_syntax::token::{Fixed, Placed, Token};

@@ -1,17 +1,17 @@
 //! From the syntax of a statement to the statement on the tables of a proxy.
 
 ghost use Rattle.std.specs.Prelude.{◌≡◌};
-ghost use Rattle.statement_core.specs.Answers.{Gives};
+ghost use Rattle.query_syntax.specs.Answers.{Gives};
 ghost use Rattle.statement_core.specs.Resolving.{table_word, undeclared, on_table, resolved};
 
 use crate::action::action_on;
 use crate::earliest::earlier_refusal;
-use crate::error::{CompileError, Refusal, TextRule};
 use crate::judge::{excess_of, judged};
 use crate::lookup::{columns_at, number_in_tables};
-use crate::syntax::{Form, Named};
 use okws_plan::configuration::{Column, Table};
 use okws_plan::statement::Statement;
+use query_syntax::error::{CompileError, Refusal, TextRule};
+use query_syntax::syntax::{Form, Named};
 use std::alloc::Global;
 
 fn word_of_table(form: &Form) -> &Named

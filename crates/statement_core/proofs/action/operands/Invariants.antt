@@ -1,6 +1,6 @@
 use Rattle.std.proofs.Common.{◌≡◌, map, take}
 use Rattle.statement_core.specs.Resolving.{operand_of}
-use Rattle.statement_core.specs.declared.syntax.Given.{Given}
+use Rattle.query_syntax.specs.declared.syntax.Given.{Given}
 use Rattle.statement_core.proofs.action.operands.Given as goal
 
 abbrev pub invariant-loop-given : goal.invariant-loop-given

@@ -1,6 +1,0 @@
-use Rattle.std.proofs.Common.{◌≡◌, drop}
-use Rattle.statement_core.specs.Tokens.{tokens, tokens_from, with_tokens}
-use Rattle.statement_core.proofs.lexer.tokens_of.Given as goal
-
-abbrev pub invariant-loop-at : goal.invariant-loop-at
-invariant-loop-at l = with_tokens l.out.items (tokens_from l.left l.at (drop l.at l.text)) ≡ tokens l.text

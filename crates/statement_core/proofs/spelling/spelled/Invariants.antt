@@ -1,6 +1,0 @@
-use Rattle.std.proofs.Common.{◌≡◌, ◌++◌, true, drop}
-use Rattle.statement_core.specs.Canonical.{joined}
-use Rattle.statement_core.proofs.spelling.spelled.Given as goal
-
-abbrev pub invariant-loop-i : goal.invariant-loop-i
-invariant-loop-i l = l.out.items ++ joined l.is_tight (drop l.i l.tokens) ≡ joined true l.tokens

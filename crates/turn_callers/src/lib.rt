@@ -1,0 +1,12 @@
+//! Callers of the turn lock and the live board: workers whose number is known at run time, over two
+//! columns, proved by the locks' clauses alone.
+#![tactic(auto)]
+
+mod ledger;
+mod run;
+#[cfg(test)]
+mod tests;
+mod worker;
+
+pub use ledger::Ledger;
+pub use run::{Done, take_turns};

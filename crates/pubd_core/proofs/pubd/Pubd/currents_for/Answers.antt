@@ -1,6 +1,6 @@
 use Rattle.std.proofs.Common.{◌≡◌, ◌∙◌, ◌<◌, length, arith, ap}
 use Rattle.std.specs.Arc.{arc_value}
-use Rattle.monitor_model.proofs.Currents.{current_more}
+use Rattle.pubd_core.proofs.Currents.{current_more}
 use Rattle.pubd_core.proofs.pubd.Pubd.currents_for.Goals as goal
 
 pub loop-i-preserved : goal.loop-i-preserved

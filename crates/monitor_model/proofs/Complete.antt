@@ -1,6 +1,6 @@
 -- An Open and a Call that break no rule are answered.
-use Rattle.std.proofs.Common.{◌≡◌, ◌≢◌, ℕ, ◌<◌, ◌≤◌, Bool, true, false, cond, List, [], ◌∷◌, Option, Some, None, refl, ap, sym, ◌∙◌, ◌==◌, eqb-true, eq-eqb}
-use Rattle.std.specs.Prelude.{nat_le, nat_lt, is_none, ◌&&◌, IsTrue}
+use Rattle.std.proofs.Common.{◌≡◌, ℕ, ◌<◌, ◌≤◌, Bool, true, false, cond, List, [], ◌∷◌, Option, Some, None, refl, ap, ◌∙◌, ◌==◌, eqb-true, eq-eqb}
+use Rattle.std.specs.Prelude.{nat_le, ◌&&◌, IsTrue}
 use Rattle.std.proofs.lemmas.Bool.{lt-ltb, le-leb}
 use Rattle.std.proofs.lemmas.Cmp.{nat_list_eq_equiv}
 use Rattle.okws_base.specs.declared.limit.TheConstants.{MOST_SESSIONS, LONGEST_FRAME}
@@ -24,7 +24,6 @@ use Rattle.okws_plan.specs.declared.statement.Answer.TheVariants as answer
 use Rattle.frame_codec.specs.Spelling.{size, server_parts}
 use Rattle.frame_codec.specs.declared.frame.ServerFrame.TheVariants as frame
 use Rattle.token_core.specs.Token.{token_of}
-use Rattle.monitor_model.specs.declared.verdict.Verdict.{Verdict}
 use Rattle.monitor_model.specs.declared.verdict.Verdict.TheVariants.{Opened, Rows, Failed, Denied}
 use Rattle.monitor_model.specs.Columns.{ProxyLaw, MayEnterProxy}
 use Rattle.monitor_model.specs.Complete.{MayCall}

@@ -1,5 +1,5 @@
 -- What may not be refused: an Open and a Call that break no rule, and a script whose lines are lawful.
-use Rattle.std.specs.Prelude.{◌≡◌, ℕ, ◌<◌, ◌≤◌, List, Some, IsTrue}
+use Rattle.std.specs.Prelude.{◌≡◌, ℕ, ◌<◌, ◌≤◌, List, ◌∷◌, ◌++◌, Some, IsTrue}
 use Rattle.okws_base.specs.declared.limit.TheConstants.{MOST_SESSIONS, LONGEST_FRAME}
 use Rattle.okws_base.specs.declared.journal.Entry.{Entry}
 use Rattle.okws_base.specs.declared.value.Value.{Value}
@@ -12,6 +12,7 @@ use Rattle.okws_plan.specs.declared.event.Call.{Call}
 use Rattle.okws_plan.specs.declared.event.Mark.{Mark}
 use Rattle.okws_plan.specs.declared.event.Mark.TheVariants.{Done, Fault}
 use Rattle.okws_plan.specs.declared.event.ProxyEvent.{ProxyEvent}
+use Rattle.okws_plan.specs.declared.script.Line.{Line}
 use Rattle.okws_plan.specs.declared.statement.Answer.TheVariants as answer
 use Rattle.frame_codec.specs.Spelling.{size, server_parts}
 use Rattle.frame_codec.specs.declared.frame.ServerFrame.TheVariants as frame
@@ -19,6 +20,9 @@ use Rattle.token_core.specs.Token.{token_of}
 use Rattle.monitor_model.specs.declared.verdict.Verdict.TheVariants.{Opened, Rows, Failed}
 use Rattle.monitor_model.specs.Columns.{ProxyLaw}
 use Rattle.monitor_model.specs.Proxy.{opened, open_verdict, granted, call_verdict, rows, within_frame}
+use Rattle.monitor_model.specs.Played.{IsRefusedAt}
+use Rattle.monitor_model.specs.Script.{PlaysAll}
+use Rattle.monitor_model.specs.Stage.{Stage}
 use Rattle.monitor_model.specs.Standing.{live_at_proxy}
 
 -- In a lawful journal an Open of a live incarnation with its own token is Opened, while it opened fewer sessions than the most.
@@ -46,3 +50,8 @@ FittingRowsAreTold = (columns : ℕ) (T : List (List Value)) → size (server_pa
 -- Failed is told over the mark of a Fault alone.
 abbrev pub FailedIsMarked : Type 0
 FailedIsMarked = (C : Config) (p : ℕ) (J : List (Entry ProxyEvent)) (call : Call) (mark : Mark) → call_verdict C p J call mark ≡ Failed → mark ≡ Fault
+
+-- Where a script's lines are a run, no run of the first of them is refused at the next, whichever frames were 0B.
+abbrev pub WholeRunsAreNotRefused : Type 0
+WholeRunsAreNotRefused = (C : Config) (seed : List ℕ) (later lines : List Line) (line : Line) (rule : ℕ) (printed text : List ℕ) (whole stopped : Stage)
+    → PlaysAll C seed (later ++ line ∷ lines) printed whole → IsRefusedAt C seed lines line rule text stopped → ⊥

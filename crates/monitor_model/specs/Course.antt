@@ -1,5 +1,5 @@
 -- What a dialog hears and says, against the verdicts of the entries that it made.
-use Rattle.std.specs.Prelude.{◌≡◌, ◌≢◌, ℕ, ◌+◌, ◌<◌, ◌≤◌, Bool, true, false, List, [], ◌∷◌, ◌++◌, Option, Some, None, length, map, reverse, ◌⊎◌, nat_lt, IsTrue, IsFalse}
+use Rattle.std.specs.Prelude.{◌≡◌, ℕ, ◌+◌, ◌<◌, ◌≤◌, Bool, true, false, List, [], ◌∷◌, ◌++◌, Option, Some, None, length, map, reverse, ◌⊎◌, nat_lt, IsTrue, IsFalse}
 use Rattle.okws_base.specs.declared.limit.TheConstants.{MOST_FRAMES}
 use Rattle.okws_base.specs.Denial.{rule_number}
 use Rattle.okws_base.specs.declared.denial.Rule.TheVariants as rule

@@ -51,6 +51,10 @@ pub record IsPlayed (C : Config) (seed : List ℕ) (lines : List Line) (R : Reco
 abbrev pub IsStopped : Config → List ℕ → List Line → Line → ℕ → Record → List ℕ → Type 0
 IsStopped C seed lines next rule R printed = (played : IsPlayed C seed lines R printed) × (refusal next played.stage ≡ Some rule)
 
+-- A run that is refused at a line played the lines before it, and the next one breaks this rule.
+abbrev pub IsRefusedAt : Config → List ℕ → List Line → Line → ℕ → List ℕ → Stage → Type 0
+IsRefusedAt C seed lines line rule printed now = PlaysAll C seed lines printed now × (refusal line now ≡ Some rule)
+
 -- No Call is marked Fault.
 abbrev pub IsFaultless : Stage → Type 0
 IsFaultless stage = (p : ℕ) → faults (proxy_past stage.seen.proxies p) ≡ 0

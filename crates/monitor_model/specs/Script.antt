@@ -44,7 +44,7 @@ use Rattle.monitor_model.specs.Cell.{incarnation, last_booted, boot_frame}
 use Rattle.monitor_model.specs.Course.{Answers, Speaker, opening, push_frame, said_count}
 use Rattle.monitor_model.specs.Answering.{end_response}
 use Rattle.monitor_model.specs.Seen.{Seen, proxy_past}
-use Rattle.monitor_model.specs.Stage.{Stage, Stand, Opened, Asked, first_stage, stand, with_stand, with_seen, with_item, method_text, request_head, heard_line, answer_line}
+use Rattle.monitor_model.specs.Stage.{Stage, Stand, Opened, Asked, first_stage, stand, with_stand, with_seen, with_item, marked_begun, method_text, request_head, heard_line, answer_line}
 
 -- One entry of the run's only number.
 abbrev pub entry : {E : Type 0} → E → Entry E
@@ -215,12 +215,6 @@ way_text n (way.To s k) method = []
 -- Who speaks at the cell of s.
 abbrev pub speaker : Stage → ℕ → Speaker
 speaker S s = record { worker = 0; service = s; incarnation = incarnation (stand S s).past }
-
--- The requests, with request n marked as begun.
-abbrev pub marked_begun : ℕ → List Asked → List Asked
-marked_begun n [] = []
-marked_begun zero (asked ∷ more) = record asked { has_begun = true } ∷ more
-marked_begun (suc n) (asked ∷ more) = asked ∷ marked_begun n more
 
 -- The dialog of request n was begun.
 abbrev pub marked : ℕ → Stage → Stage
@@ -402,7 +396,3 @@ Plays C seed line S text now = (refusal line S ≡ None) × Does C seed line S t
 -- The lines of a script, the newest first, lead from nothing to a state, and print this.
 abbrev pub PlaysAll : Config → List ℕ → List Line → List ℕ → Stage → Type 0
 PlaysAll C seed lines printed now = Runs (Plays C seed) (first_stage C) lines printed now
-
--- A run that is refused at a line played the lines before it, and the next one breaks this rule.
-abbrev pub IsRefusedAt : Config → List ℕ → List Line → Line → ℕ → List ℕ → Stage → Type 0
-IsRefusedAt C seed lines line rule printed now = PlaysAll C seed lines printed now × (refusal line now ≡ Some rule)

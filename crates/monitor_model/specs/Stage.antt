@@ -1,5 +1,5 @@
 -- The state of a script's run: what the one thread has made, its cells with their links, and its requests.
-use Rattle.std.specs.Prelude.{ℕ, Bool, false, List, [], ◌∷◌, ◌++◌, ◌==◌, Option, None, length, replicate, slice_index_or, slice_set, codes, decimal}
+use Rattle.std.specs.Prelude.{ℕ, zero, suc, Bool, true, false, List, [], ◌∷◌, ◌++◌, Option, None, length, replicate, slice_index_or, slice_set, codes, decimal}
 use Rattle.okws_plan.specs.Configuration.{service_name}
 use Rattle.okws_plan.specs.declared.configuration.Config.{Config}
 use Rattle.okws_plan.specs.declared.script.Method.{Method}
@@ -65,6 +65,12 @@ with_seen S now = record S { seen = now }
 -- An item of the run's list that is no entry.
 abbrev pub with_item : Stage → Own → Stage
 with_item S item = record S { seen = noted S.seen item }
+
+-- The requests, with request n marked as begun.
+abbrev pub marked_begun : ℕ → List Asked → List Asked
+marked_begun n [] = []
+marked_begun zero (asked ∷ more) = record asked { has_begun = true } ∷ more
+marked_begun (suc n) (asked ∷ more) = asked ∷ marked_begun n more
 
 -- The word of a method.
 abbrev pub method_text : Method → List ℕ

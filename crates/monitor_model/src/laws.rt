@@ -24,10 +24,10 @@ ghost use Rattle.frame_codec.specs.Spelling.{server_spelling};
 ghost use Rattle.monitor_model.specs.Columns.{ProxyLaw, PubdLaw, LogLaw, OkdLaw, faults, WithinCount};
 ghost use Rattle.monitor_model.specs.Worker.{Lives, nothing_seen};
 ghost use Rattle.monitor_model.specs.Own.{OpenIsPrivate, RevokedIsNotAllowed, HeardGrows};
-ghost use Rattle.monitor_model.specs.Complete.{LiveTokensAreOpened, LawfulCallsAreAnswered, FittingRowsAreTold, FailedIsMarked};
+ghost use Rattle.monitor_model.specs.Complete.{LiveTokensAreOpened, LawfulCallsAreAnswered, FittingRowsAreTold, FailedIsMarked, WholeRunsAreNotRefused};
 ghost use Rattle.monitor_model.specs.Stage.{first_stage};
-ghost use Rattle.monitor_model.specs.Script.{PlaysAll, IsRefusedAt};
-ghost use Rattle.monitor_model.specs.Played.{IsPlayed, IsStopped, record_of, RunsAreLawful, RunsArePlayed, RunsAreUnharmed, RunsTellAll, RunsAreAnswered, RunsTakeAll, RunsEnterAll, RunsAnswerOnce};
+ghost use Rattle.monitor_model.specs.Script.{PlaysAll};
+ghost use Rattle.monitor_model.specs.Played.{IsPlayed, IsRefusedAt, IsStopped, record_of, RunsAreLawful, RunsArePlayed, RunsAreUnharmed, RunsTellAll, RunsAreAnswered, RunsTakeAll, RunsEnterAll, RunsAnswerOnce};
 ghost use Rattle.okws_plan.specs.declared.script.Line.{Line};
 ghost use Rattle.okws_plan.specs.declared.script.Line.TheVariants as line;
 ghost use Rattle.monitor_model.specs.declared.record.Record.{Record};
@@ -144,4 +144,9 @@ pub fn script_runs_enter_all()
 /// unless its dialog wasn't begun or is open.
 pub fn script_runs_answer_once()
     ensures { RunsAnswerOnce }
+{}
+
+/// A script whose lines are a run isn't also refused, whichever frames were 0B.
+pub fn whole_runs_are_not_refused()
+    ensures { WholeRunsAreNotRefused }
 {}

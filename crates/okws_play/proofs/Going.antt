@@ -13,7 +13,7 @@ use Rattle.monitor_model.specs.declared.record.Item.{Item}
 use Rattle.monitor_model.specs.declared.record.End.{End}
 use Rattle.monitor_model.specs.declared.record.End.TheVariants as end
 use Rattle.monitor_model.specs.Cell.{incarnation}
-use Rattle.monitor_model.specs.Script.{Advances, GoesOn, IsReady, settled, missed, dialog_opened, opening_text, pushes_text, closed, closing_text, heard_said, request_method, said_end, Takes, greatest, broken, marked, marked_begun, is_pending, is_busy_at, is_busy_request, Begun}
+use Rattle.monitor_model.specs.Script.{Advances, GoesOn, IsReady, settled, missed, dialog_opened, opening_text, pushes_text, closed, closing_text, heard_said, request_method, said_end, Takes, greatest, broken, marked, is_pending, is_busy_at, is_busy_request, Begun}
 use Rattle.monitor_model.specs.Course.{said_count, opening, push_frame}
 use Rattle.monitor_model.specs.Pubd.{drain_verdict}
 use Rattle.monitor_model.specs.declared.verdict.Push.{Push}
@@ -24,7 +24,7 @@ use Rattle.frame_codec.specs.declared.frame.ServerFrame.TheVariants as frame
 use Rattle.http_text.specs.Response.{own_response}
 use Rattle.okws_play.specs.declared.play.cell.Opening.TheVariants as opening_is
 use Rattle.monitor_model.specs.Seen.{Seen}
-use Rattle.monitor_model.specs.Stage.{Stage, Stand, Opened, Asked, stand, with_stand, with_item, method_text, heard_line, answer_line}
+use Rattle.monitor_model.specs.Stage.{Stage, Stand, Opened, Asked, stand, with_stand, with_item, method_text, heard_line, answer_line, marked_begun}
 use Rattle.okws_play.specs.Cells.{stand_at, closed_stand}
 use Rattle.okws_play.specs.Dialogs.{Moves, MovesOpen, Closes, Went, Opens, IsHeardOn, AreSpelledOn}
 use Rattle.service_cell.specs.Exchange.{IsSpelled, IsHeardLast}

@@ -153,7 +153,7 @@ pub all_heard : (pushes : List Push) → Each IsHeard (map (λ (push : Push). He
 all_heard [] = tt
 all_heard (push ∷ more) = (tt, all_heard more)
 
-none_said : (items : List Item) → Each IsHeard items → said_count items ≡ 0
+pub none_said : (items : List Item) → Each IsHeard items → said_count items ≡ 0
 none_said [] all = refl
 none_said (Heard frame ∷ items) all = none_said items all.1
 none_said (Said frame ∷ items) all = absurd all.0

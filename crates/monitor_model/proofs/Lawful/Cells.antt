@@ -1,5 +1,5 @@
 -- One event more at a cell.
-use Rattle.std.proofs.Common.{◌≡◌, ◌≢◌, ℕ, ◌<◌, ◌≤◌, Bool, true, false, List, [], ◌∷◌, Option, Some, None, refl, ap, sym, arith, length, eqb-true, ◌==◌, get_or-set_same, get_or-set_other, subst, le_trans}
+use Rattle.std.proofs.Common.{◌≡◌, ◌≢◌, ℕ, ◌<◌, ◌≤◌, Bool, true, false, List, [], ◌∷◌, Option, Some, None, refl, ap, sym, ◌∙◌, arith, length, eqb-true, ◌==◌, get_or-set_same, get_or-set_other, subst, le_trans}
 use Rattle.std.specs.Prelude.{filter, slice_set, slice_index_or}
 use Rattle.std.proofs.lemmas.Bool.{eqb-false}
 use Rattle.monitor_model.specs.declared.record.CellEvent.{CellEvent}
@@ -9,7 +9,7 @@ use Rattle.monitor_model.specs.declared.record.End.{End}
 use Rattle.monitor_model.specs.declared.record.End.TheVariants as end
 use Rattle.monitor_model.specs.declared.record.Own.{Own}
 use Rattle.monitor_model.specs.declared.record.Own.TheVariants as own
-use Rattle.monitor_model.specs.Cell.{incarnation, last_booted, after_end}
+use Rattle.monitor_model.specs.Cell.{CellLaw, incarnation, last_booted, after_end}
 use Rattle.monitor_model.specs.Legal.{ShownFits, EventShownFits}
 use Rattle.monitor_model.specs.Merged.{is_at_cell}
 use Rattle.monitor_model.specs.Stage.{Stand, Opened, empty_stand}
@@ -34,6 +34,26 @@ was_booted (cell.Retired ∷ J) = omega arith
 was_booted (cell.Missed worker wanted is ∷ J) = was_booted J
 was_booted (cell.Dialog d ∷ J) = after_le d.end (incarnation J) (last_booted J) (was_booted J)
 was_booted (cell.Speaking worker items ∷ J) = was_booted J
+
+-- a cell that has an incarnation has the last one that was booted
+after_stays : (how : End) (n : ℕ) → after_end how n ≢ 0 → (n ≢ 0) × (after_end how n ≡ n)
+after_stays end.Reply n there = (there, refl)
+after_stays (end.Superseded shown) n there = (there, refl)
+after_stays end.BadFrame n there = absurd (there refl)
+after_stays end.Ended n there = absurd (there refl)
+after_stays end.LinkFault n there = absurd (there refl)
+after_stays end.FrameLimit n there = absurd (there refl)
+after_stays end.Starved n there = absurd (there refl)
+
+pub is_last : (J : List CellEvent) → CellLaw J → incarnation J ≢ 0 → incarnation J ≡ last_booted J
+is_last [] law there = absurd (there refl)
+is_last (cell.Boot k ∷ J) law there = let above : last_booted J < k = law.2.1 in omega arith
+is_last (cell.Retired ∷ J) law there = absurd (there refl)
+is_last (cell.Missed worker wanted is ∷ J) law there = is_last J law.0 there
+is_last (cell.Dialog d ∷ J) law there =
+    let stays : (incarnation J ≢ 0) × (after_end d.end (incarnation J) ≡ incarnation J) = after_stays d.end (incarnation J) there in
+    stays.1 ∙ is_last J law.0 stays.0
+is_last (cell.Speaking worker items ∷ J) law there = is_last J law.0 there
 
 pub cell_booted : (s k : ℕ) (J : List CellEvent) (items : List Own) (greatest : ℕ) → CellKept s None J items greatest → incarnation J ≡ 0 → last_booted J < k → k ≤ greatest
     → CellKept s None (Boot k ∷ J) (own.Boot s k ∷ items) greatest

@@ -22,7 +22,7 @@ use Rattle.monitor_model.specs.declared.record.Item.{Item}
 use Rattle.monitor_model.specs.declared.record.Item.TheVariants.{Heard, Said}
 use Rattle.monitor_model.specs.declared.record.Own.TheVariants as own
 use Rattle.monitor_model.specs.declared.verdict.Push.{Push}
-use Rattle.monitor_model.specs.Cell.{said, incarnation, last_booted, CellLaw, after_end}
+use Rattle.monitor_model.specs.Cell.{said, incarnation, last_booted, CellLaw}
 use Rattle.monitor_model.specs.Course.{said_text, opening, push_frame, said_count}
 use Rattle.monitor_model.specs.Given.{IsUnread, TakesAll, given_after, given_since}
 use Rattle.okws_plan.specs.Lines.{LineFits}
@@ -41,7 +41,7 @@ use Rattle.monitor_model.proofs.Lawful.Lines.{MayBegin, dialog_may_begin, good_i
 use Rattle.monitor_model.proofs.Lawful.Records.{journal, cell_is, good_run}
 use Rattle.monitor_model.proofs.Lawful.Hearing.{stand_when}
 use Rattle.monitor_model.proofs.Lawful.Telling.{stands_installed_all, stands_revoked_all}
-use Rattle.monitor_model.proofs.Lawful.Cells.{was_booted}
+use Rattle.monitor_model.proofs.Lawful.Cells.{was_booted, is_last}
 use Rattle.monitor_model.proofs.Lawful.Answered.{IsHeard, all_heard}
 
 -- All that came at a cell is what was said, and a rest.
@@ -75,26 +75,7 @@ takes_here J left came there is = record { rest = left; came_is = is; here = λ 
 taken_here : (J : List CellEvent) (left came : List ℕ) → incarnation J ≢ 0 → TakesAll J left came → came ≡ said (last_booted J) J ++ left
 taken_here J left came there takes = takes.came_is ∙ ap (λ (rest : List ℕ). said (last_booted J) J ++ rest) (takes.here there)
 
--- a cell that has an incarnation has the last one that was booted
-after_stays : (how : End) (n : ℕ) → after_end how n ≢ 0 → (n ≢ 0) × (after_end how n ≡ n)
-after_stays end.Reply n there = (there, refl)
-after_stays (end.Superseded shown) n there = (there, refl)
-after_stays end.BadFrame n there = absurd (there refl)
-after_stays end.Ended n there = absurd (there refl)
-after_stays end.LinkFault n there = absurd (there refl)
-after_stays end.FrameLimit n there = absurd (there refl)
-after_stays end.Starved n there = absurd (there refl)
-
-is_last : (J : List CellEvent) → CellLaw J → incarnation J ≢ 0 → incarnation J ≡ last_booted J
-is_last [] law there = absurd (there refl)
-is_last (cell.Boot k ∷ J) law there = let above : last_booted J < k = law.2.1 in omega arith
-is_last (cell.Retired ∷ J) law there = absurd (there refl)
-is_last (cell.Missed worker wanted is ∷ J) law there = is_last J law.0 there
-is_last (cell.Dialog d ∷ J) law there =
-    let stays : (incarnation J ≢ 0) × (after_end d.end (incarnation J) ≡ incarnation J) = after_stays d.end (incarnation J) there in
-    stays.1 ∙ is_last J law.0 stays.0
-is_last (cell.Speaking worker items ∷ J) law there = is_last J law.0 there
-
+-- an open dialog's cell has the last one that was booted
 open_is_there : (C : Config) (seed : List ℕ) (s : ℕ) (opened : Opened) (S : Stage) → IsGood C seed S → (stand S s).open_dialog ≡ Some opened → incarnation (stand S s).past ≢ 0
 open_is_there C seed s opened S g is =
     let law : CellLaw (cell.Speaking 0 opened.items ∷ (stand S s).past) = rw is at (g.cells s).law in
@@ -264,7 +245,7 @@ taken_takes C seed s opened frame left None S text now came g is begins fits tak
     = said_more (last_booted (stand S s).past) opened frame left (stand S s).left (came s) (stand S s).past (open_is_last C seed s opened S g is) begins (open_taken C seed s opened S came g is all) in
     rw takes.4 (taken_there s S.stands there came declared (takes_here (cell.Speaking 0 items ∷ (stand S s).past) left (came s) (open_is_there C seed s opened S g is) after) all)
 
-bad_is_some : (left : List ℕ) → IsBad left → left ≢ []
+pub bad_is_some : (left : List ℕ) → IsBad left → left ≢ []
 bad_is_some left bad none = bad.1 (inl (omega (arith, ap length none)))
 
 taken_advances : (C : Config) (seed : List ℕ) (s : ℕ) (opened : Opened) (S : Stage) (text : List ℕ) (now : Stage) (came : ℕ → List ℕ)

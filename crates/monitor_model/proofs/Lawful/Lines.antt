@@ -19,8 +19,8 @@ use Rattle.monitor_model.specs.Okd.{accept_verdict, way_of, way_up}
 use Rattle.monitor_model.specs.Pubd.{edition}
 use Rattle.monitor_model.specs.Cell.{incarnation, last_booted}
 use Rattle.okws_plan.specs.Lines.{LineFits}
-use Rattle.monitor_model.specs.Stage.{Stage, Opened, Asked, stand, with_seen, request_head}
-use Rattle.monitor_model.specs.Script.{at_okd, greatest, goes_of, accepted, broken, refusal, no_cell, is_pending, is_busy_at, is_busy_request, last_at, marked, marked_begun, given, has_ended, Does}
+use Rattle.monitor_model.specs.Stage.{Stage, Opened, Asked, stand, with_seen, request_head, marked_begun}
+use Rattle.monitor_model.specs.Script.{at_okd, greatest, goes_of, accepted, broken, refusal, no_cell, is_pending, is_busy_at, is_busy_request, last_at, marked, given, has_ended, Does}
 use Rattle.monitor_model.proofs.Lawful.Plain.{each_get, each_push}
 use Rattle.monitor_model.proofs.Lawful.Kept.{OkdKept, IsGood, GoesFits}
 use Rattle.monitor_model.proofs.Lawful.Stages.{good_begins, good_okd, good_pubd, good_stand, good_upped, good_downed, booted_is_there}

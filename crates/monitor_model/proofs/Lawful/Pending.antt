@@ -16,9 +16,9 @@ use Rattle.monitor_model.specs.Cell.{boot_frame, incarnation}
 use Rattle.monitor_model.specs.Course.{said_count}
 use Rattle.monitor_model.specs.Launcher.{begun}
 use Rattle.monitor_model.specs.Replied.{asking, replies, request_of}
-use Rattle.monitor_model.specs.Stage.{Stage, Stand, Opened, Asked, answer_line, empty_stand, heard_line, stand, with_seen}
+use Rattle.monitor_model.specs.Stage.{Stage, Stand, Opened, Asked, answer_line, empty_stand, heard_line, stand, with_seen, marked_begun}
 use Rattle.monitor_model.specs.Standing.{up_at_okd}
-use Rattle.monitor_model.specs.Script.{begins, booted, booting_text, closed, closing_text, continued, downed, freshly_booted, greatest, heard_said, installed, installed_all, launched, marked_begun, relaunched, request_method, retired, revoked, revoked_all, said_end, superseded, superseded_if, superseded_text, taken_down, upped, Advances, GoesOn, Takes, settled}
+use Rattle.monitor_model.specs.Script.{begins, booted, booting_text, closed, closing_text, continued, downed, freshly_booted, greatest, heard_said, installed, installed_all, launched, relaunched, request_method, retired, revoked, revoked_all, said_end, superseded, superseded_if, superseded_text, taken_down, upped, Advances, GoesOn, Takes, settled}
 use Rattle.monitor_model.specs.Told.{ToldAnswer}
 use Rattle.monitor_model.proofs.Lawful.Kept.{IsGood}
 use Rattle.monitor_model.proofs.Lawful.Settled.{closed_there, retired_there, settled_keeps}

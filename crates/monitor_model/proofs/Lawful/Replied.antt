@@ -26,8 +26,8 @@ use Rattle.okws_plan.specs.Lines.{LineFits}
 use Rattle.monitor_model.specs.Okd.{accept_verdict}
 use Rattle.monitor_model.specs.Pubd.{drain_verdict}
 use Rattle.monitor_model.specs.Replied.{AnswersOnce, answers_to, asking, replies, replies_of, request_of}
-use Rattle.monitor_model.specs.Stage.{Stage, Stand, Asked, answer_line, empty_stand, first_stage, method_text, request_head, stand, with_item, with_seen, Opened}
-use Rattle.monitor_model.specs.Script.{at_pubd, begins, broken, closed, dialog_opened, downed, given, goes_of, greatest, has_ended, installed, is_busy_request, is_pending, marked, marked_begun, missed, opening_text, revoked, upped, way_text, Begun, Does, PlaysAll, refusal, settled}
+use Rattle.monitor_model.specs.Stage.{Stage, Stand, Asked, answer_line, empty_stand, first_stage, method_text, request_head, stand, with_item, with_seen, Opened, marked_begun}
+use Rattle.monitor_model.specs.Script.{at_pubd, begins, broken, closed, dialog_opened, downed, given, goes_of, greatest, has_ended, installed, is_busy_request, is_pending, marked, missed, opening_text, revoked, upped, way_text, Begun, Does, PlaysAll, refusal, settled}
 use Rattle.monitor_model.specs.Told.{Told, ToldAnswer, ToldFrame, told_text}
 use Rattle.monitor_model.proofs.Lawful.Plain.{each_reverse, replicate_at, none_some}
 use Rattle.monitor_model.proofs.Lawful.Kept.{IsGood}

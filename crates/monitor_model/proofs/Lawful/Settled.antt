@@ -1,5 +1,5 @@
 -- A cell whose dialog ended, or that was retired, and of which nothing may be left.
-use Rattle.std.proofs.Common.{◌≢◌, ℕ, Bool, true, false, cond, List, [], ◌∷◌, Option, None, ◌==◌, ne_eqb, subst, sym}
+use Rattle.std.proofs.Common.{◌≢◌, Bool, true, false, cond, List, [], ◌∷◌, Option, None, ◌==◌, ne_eqb, subst, sym}
 use Rattle.monitor_model.specs.declared.record.CellEvent.{CellEvent}
 use Rattle.monitor_model.specs.declared.record.CellEvent.TheVariants as cell
 use Rattle.monitor_model.specs.declared.record.End.{End}

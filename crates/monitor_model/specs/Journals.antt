@@ -1,10 +1,12 @@
 -- Events as a past.
-use Rattle.std.specs.Prelude.{ℕ, List, [], ◌∷◌, map, reverse}
+use Rattle.std.specs.Prelude.{ℕ, List, [], ◌∷◌, map, reverse, take}
 use Rattle.okws_base.specs.declared.journal.Entry.{Entry}
 use Rattle.okws_base.specs.declared.value.Token.{Token}
 use Rattle.okws_base.specs.declared.value.Value.{Value}
 use Rattle.okws_plan.specs.declared.event.Mark.TheVariants.{Done}
 use Rattle.okws_plan.specs.declared.event.Call.{Call}
+use Rattle.okws_plan.specs.declared.event.LauncherEvent.{LauncherEvent}
+use Rattle.okws_plan.specs.declared.event.LauncherEvent.TheVariants as launcher
 use Rattle.okws_plan.specs.declared.event.ProxyEvent.{ProxyEvent}
 use Rattle.okws_plan.specs.declared.event.ProxyEvent.TheVariants as proxy
 
@@ -39,3 +41,13 @@ calls q args = proxy.Call (call q args) Done
 -- Guest's first incarnation with a session.
 abbrev pub session : List ProxyEvent
 session = proxy.Install 0 1 first_token ∷ proxy.Open 0 1 first_token ∷ []
+
+-- What befalls guest's first three incarnations, after which it is given up, and then asked for again.
+abbrev pub three_tries : List LauncherEvent
+three_tries =
+    launcher.Begun 0 1 ∷ launcher.Crashed 0 1 ∷ launcher.Crashed 0 1 ∷ launcher.Begun 0 2 ∷ launcher.Crashed 0 1 ∷ launcher.Failed 0 2
+    ∷ launcher.Begun 0 3 ∷ launcher.Crashed 0 3 ∷ launcher.Dead 0 3 ∷ launcher.Asked 0 ∷ []
+
+-- The launcher's past after the first n of these events.
+abbrev pub tried_so_far : ℕ → List (Entry LauncherEvent)
+tried_so_far n = past (take n three_tries)

@@ -1,6 +1,6 @@
 //! Worked runs, computed by the definitions alone: each law states what a small run gives.
 
-ghost use Rattle.std.specs.Prelude.{◌≡◌, ◌∷◌, ◌++◌, [], ℕ, List, Some, None, reverse, codes, true, false, replicate, length};
+ghost use Rattle.std.specs.Prelude.{◌≡◌, ◌∷◌, ◌++◌, [], ℕ, List, Some, None, map, reverse, codes, true, false, replicate, length};
 ghost use Rattle.okws_base.specs.declared.value.Value.TheVariants as value;
 ghost use Rattle.okws_base.specs.declared.denial.Rule.TheVariants as rule;
 ghost use Rattle.okws_plan.specs.declared.event.Mark.TheVariants.{Done};
@@ -27,8 +27,9 @@ ghost use Rattle.monitor_model.specs.declared.record.Own.TheVariants as own;
 ghost use Rattle.monitor_model.specs.declared.record.CellEvent.TheVariants as cell;
 ghost use Rattle.monitor_model.specs.Stage.{Stage, first_stage, request_head, stand};
 ghost use Rattle.monitor_model.specs.Script.{launched, relaunched, refusal};
+ghost use Rattle.monitor_model.specs.Launcher.{tries, may_enter};
 ghost use Rattle.monitor_model.specs.Example.{A, with_side, int};
-ghost use Rattle.monitor_model.specs.Journals.{past, first_token, invented_token, second_token, others_token, call, calls, session};
+ghost use Rattle.monitor_model.specs.Journals.{past, first_token, invented_token, second_token, others_token, call, calls, session, tried_so_far};
 
 /// Sessions count from 0.
 pub fn two_sessions()
@@ -129,6 +130,17 @@ pub fn launches()
     ensures installed { (seed : List ℕ) → refusal (line.Install 0 (place.Proxy 0)) (launched A seed 0 (first_stage A)) ≡ Some 4 }
     ensures up { (seed : List ℕ) → refusal (line.Up 0) (launched A seed 0 (first_stage A)) ≡ Some 4 }
     ensures may_launch { (seed : List ℕ) → refusal (line.Launch 0) (launched A seed 0 (first_stage A)) ≡ None }
+{}
+
+/// An incarnation counts once as tried, by a Failed or by a Crashed while it is the greatest begun; at the
+/// limit no more is begun, until it is asked for, and only then is the service given up.
+pub fn tries_and_giving_up()
+    ensures tried { map (λ n. tries (tried_so_far n) 0) (0 ∷ 1 ∷ 3 ∷ 5 ∷ 6 ∷ 8 ∷ 9 ∷ 10 ∷ []) ≡ 0 ∷ 0 ∷ 1 ∷ 1 ∷ 2 ∷ 3 ∷ 3 ∷ 0 ∷ [] }
+    ensures first { map (λ k. may_enter A (tried_so_far 0) (launcher.Begun 0 k)) (1 ∷ 2 ∷ []) ≡ true ∷ false ∷ [] }
+    ensures third { may_enter A (tried_so_far 6) (launcher.Begun 0 3) ≡ true }
+    ensures at_the_limit { map (λ n. may_enter A (tried_so_far n) (launcher.Begun 0 4)) (8 ∷ 9 ∷ 10 ∷ []) ≡ false ∷ false ∷ true ∷ [] }
+    ensures below_the_limit { may_enter A (tried_so_far 6) (launcher.Dead 0 2) ≡ false }
+    ensures given_up { map (λ n. may_enter A (tried_so_far 8) (launcher.Dead 0 n)) (3 ∷ 4 ∷ []) ≡ true ∷ false ∷ [] }
 {}
 
 /// The head of a request.

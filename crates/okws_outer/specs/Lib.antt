@@ -5,3 +5,4 @@ pub mod Entries
 pub mod Keeping
 pub mod Optional
 pub mod Shelf
+pub mod Conns

@@ -1,6 +1,7 @@
 //! Objects in memory, which tell what they hold. The calls of an object are numbered from 0, and the
 //! calls of listed numbers fail and are counted.
 
+pub mod conn;
 mod failing;
 pub mod files;
 pub mod link;

@@ -1,0 +1,4 @@
+pub mod Heads
+pub mod Progress
+pub mod Gathering
+pub mod Asking

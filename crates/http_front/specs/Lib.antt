@@ -1,0 +1,6 @@
+pub mod Kept
+pub mod Fields
+pub mod Looking
+pub mod Pulling
+pub mod Requests
+pub mod Writing

@@ -1,0 +1,11 @@
+//! The edge to clients: bytes of a connection become a request, or the status that refuses it,
+//! in whatever pieces they come; and a response is written byte for byte. What was read and written
+//! is kept.
+#![tactic(auto)]
+
+mod fields;
+pub mod kept;
+mod looking;
+mod pulling;
+pub mod reading;
+pub mod writing;

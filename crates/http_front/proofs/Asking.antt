@@ -95,7 +95,7 @@ asked_whole bytes h rest whole size r is told passed all method target head cont
 
 -- ---- answers
 
-take_none : (n : ℕ) → take n [] ≡ []
+take_none : (n : ℕ) → take {A = ℕ} n [] ≡ []
 take_none n = grind (arith, common_steps)
 
 method_is : (to_head : Bool) → is_head (method_text to_head) ≡ to_head
@@ -116,7 +116,7 @@ receive_content start old new before kept whole h total ended incoming told begu
         within = omega (arith, written);
         given =
             let all : take kept.interim (interim_head h) ≡ due whole.waits = ap (λ (n : ℕ). take n (interim_head h)) written ∙ take-length (interim_head h) ∙ due_is h whole told in
-            rw (all, fills.given) begun.given;
+            subst (λ (t : List ℕ). Appends start.given new.given t) (sym all) (subst (λ (o : Option (List ℕ)). Appends start.given o (due whole.waits)) (sym fills.given) begun.given);
         whole = λ _. written;
       };
       method = (Headed h fills.rest, fills.whole, method_is kept.to_head ∙ to_head ∙ begun.to_head ∙ told.to_head);
@@ -136,7 +136,7 @@ receive_headless start new kept front incoming reads has none method given inter
     within = omega (arith, interim);
     given =
         let nothing : take kept.interim [] ≡ [] = take_none kept.interim in
-        rw (nothing, given) (Appends-nil start.given);
+        subst (λ (t : List ℕ). Appends start.given new.given t) (sym nothing) (subst (λ (o : Option (List ℕ)). Appends start.given o []) (sym given) (Appends-nil start.given));
     whole = λ _. interim;
   };
   method = (front, has, method_is kept.to_head ∙ to_head ∙ sym method);
@@ -172,7 +172,7 @@ receive_refused start now kept whole h rest status is told refused reads given b
         text = [];
         is = (Headed h rest, is, sym quiet);
         within = omega (arith, begun.interim);
-        given = let nothing : take kept.interim [] ≡ [] = take_none kept.interim in rw (nothing, given) (Appends-nil start.given);
+        given = let nothing : take kept.interim [] ≡ [] = take_none kept.interim in subst (λ (t : List ℕ). Appends start.given now.given t) (sym nothing) (subst (λ (o : Option (List ℕ)). Appends start.given o []) (sym given) (Appends-nil start.given));
         whole = λ _. begun.interim;
       };
       method = (Headed h rest, is, method_is kept.to_head ∙ begun.to_head ∙ told.to_head);

@@ -166,10 +166,13 @@ not_all_sent start now before kept text cut w = record { stays = w.0; given = w.
 at_code : (n k : ℕ) → code_digits k ≡ decimal k → (nat_eq n k ≡ false → code_digits n ≡ decimal n) → code_digits n ≡ decimal n
 at_code n k is other = elim (nat_eq n k) as (λ b. nat_eq n k ≡ b → code_digits n ≡ decimal n) [ true ↦ (λ e. subst (λ (m : ℕ). code_digits m ≡ decimal m) (sym (eqb-true n k e)) is) | false ↦ other ] refl
 
+never : false ≡ true → ⊥
+never e = cc
+
 no_phrase : (n : ℕ) → nat_eq n 200 ≡ false → nat_eq n 201 ≡ false → nat_eq n 303 ≡ false → nat_eq n 400 ≡ false → nat_eq n 403 ≡ false → nat_eq n 404 ≡ false → nat_eq n 409 ≡ false → nat_eq n 413 ≡ false → nat_eq n 431 ≡ false → nat_eq n 500 ≡ false → nat_eq n 501 ≡ false → nat_eq n 502 ≡ false → nat_eq n 503 ≡ false → nat_eq n 507 ≡ false → IsSome (phrase n) → ⊥
 no_phrase n a b c d e f g h i j k l m o some =
     let none : phrase n ≡ None = rw (a, b, c, d, e, f, g, h, i, j, k, l, m, o) refl in
-    subst IsSome none some
+    never (subst IsSome none some)
 
 pub status_digits : (n : ℕ) → IsSome (phrase n) → code_digits n ≡ decimal n
 unfolding digits

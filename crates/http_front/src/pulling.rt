@@ -1,6 +1,6 @@
 //! Takes what a client sends, piece by piece, and looks at it where it could have settled something.
 
-ghost use Rattle.std.specs.Prelude.{◌≡◌, ◌<◌, ◌≤◌, ℕ, List, [], length};
+ghost use Rattle.std.specs.Prelude.{◌≡◌, ◌<◌, ◌≤◌, ◌++◌, ℕ, List, [], length};
 ghost use Rattle.okws_outer.specs.Conns.{ConnWire};
 ghost use Rattle.httparse.specs.Grammar.{RequestHead};
 ghost use Rattle.http_text.specs.Reading.{IsWholeHead, interim_head};
@@ -99,7 +99,9 @@ pub(crate) enum Filled {
 
 /// Reads until there are so many bytes in all: a head and its content.
 pub(crate) fn fill<C: Conn>(conn: &mut C, bytes: &mut Vec<u8>, total: usize) -> Filled
-    ensures { (start : ConnWire) (h : RequestHead) (rest : List ℕ) (written : ℕ) → IsContentOf h total → IsWholeHead bytes.old.items h rest → written ≡ length (interim_head h) → HasRead start (C.wire conn.old) bytes.old.items written → FillsContent start (C.wire conn.old) (C.wire conn.new) h bytes.new.items written total result }
+    ensures content { (start : ConnWire) (h : RequestHead) (rest : List ℕ) (written : ℕ) → IsContentOf h total → IsWholeHead bytes.old.items h rest → written ≡ length (interim_head h) → HasRead start (C.wire conn.old) bytes.old.items written → FillsContent start (C.wire conn.old) (C.wire conn.new) h bytes.new.items written total result }
+    ensures grown { (more : List ℕ) × (bytes.new.items ≡ bytes.old.items ++ more) }
+    ensures enough { result ≡ Filled.Whole → total ≤ length bytes.new.items }
 {
     if bytes.len() >= total {
         return Filled::Whole;
@@ -109,7 +111,9 @@ pub(crate) fn fill<C: Conn>(conn: &mut C, bytes: &mut Vec<u8>, total: usize) -> 
 
 /// Reads further pieces until there are so many bytes in all.
 fn fill_from<C: Conn>(conn: &mut C, bytes: &mut Vec<u8>, total: usize) -> Filled
-    ensures { (start : ConnWire) (h : RequestHead) (rest : List ℕ) (written : ℕ) → IsContentOf h total → IsWholeHead bytes.old.items h rest → written ≡ length (interim_head h) → HasRead start (C.wire conn.old) bytes.old.items written → FillsContent start (C.wire conn.old) (C.wire conn.new) h bytes.new.items written total result }
+    ensures content { (start : ConnWire) (h : RequestHead) (rest : List ℕ) (written : ℕ) → IsContentOf h total → IsWholeHead bytes.old.items h rest → written ≡ length (interim_head h) → HasRead start (C.wire conn.old) bytes.old.items written → FillsContent start (C.wire conn.old) (C.wire conn.new) h bytes.new.items written total result }
+    ensures grown { (more : List ℕ) × (bytes.new.items ≡ bytes.old.items ++ more) }
+    ensures enough { result ≡ Filled.Whole → total ≤ length bytes.new.items }
 {
     let mut buffer = [0u8; CONTENT_PIECE];
     while bytes.len() < total {

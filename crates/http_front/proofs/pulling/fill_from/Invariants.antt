@@ -1,4 +1,4 @@
-use Rattle.std.proofs.Common.{◌≡◌, ◌≤◌, ℕ, ◌-◌, List, length}
+use Rattle.std.proofs.Common.{◌≡◌, ◌≤◌, ℕ, ◌-◌, List, ◌++◌, length}
 use Rattle.okws_outer.specs.Conns.{ConnWire}
 use Rattle.httparse.specs.Grammar.{RequestHead}
 use Rattle.http_text.specs.Reading.{IsWholeHead, interim_head}
@@ -10,6 +10,7 @@ abbrev pub invariant-loop-buffer : goal.invariant-loop-buffer
 invariant-loop-buffer g l = record {
   read : (start : ConnWire) (h : RequestHead) (rest : List ℕ) (written : ℕ) → IsContentOf h l.total → IsWholeHead l.fn.bytes.items h rest → written ≡ length (interim_head h) → HasRead start (g.C.Conn.wire l.fn.conn) l.fn.bytes.items written
       → (more : List ℕ) × IsWholeHead l.bytes.items h more × HasRead start (g.C.Conn.wire l.conn) l.bytes.items written;
+  grown : (more : List ℕ) × (l.bytes.items ≡ l.fn.bytes.items ++ more);
   given : (g.C.Conn.wire l.conn).given ≡ (g.C.Conn.wire l.fn.conn).given;
   later : (g.C.Conn.wire l.fn.conn).faults ≤ (g.C.Conn.wire l.conn).faults;
 }

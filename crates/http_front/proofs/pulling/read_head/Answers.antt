@@ -46,3 +46,10 @@ returns-in-Broken g c =
     let so_far = c.loop-bytes.invariant in
     let looks = subst (λ (b : List ℕ). Looks b look.Broken) c.deref.ensures.value c.in-Broken.ensures in
     head_settled _ _ _ _ _ _ so_far.read so_far.front so_far.given so_far.later c.in-Came.ensures (λ e. cc) (record { front = Hopeless; has = looks; none = looks.0; refuses = refl })
+
+pub loop-bytes-preserved : goal.loop-bytes-preserved
+loop-bytes-preserved g c =
+    let so_far = c.loop-bytes.invariant in
+    let took = c.in-Came.ensures in
+    let looks = subst (λ (b : List ℕ). Looks b look.Open) c.deref.ensures.value c.in-Open.ensures in
+    record { read = λ written. head_more _ _ _ _ _ written (so_far.read written) so_far.front took; front = looks; given = took.given ∙ so_far.given; later = omega (arith, so_far.later, took.faults.later) }

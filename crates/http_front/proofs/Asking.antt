@@ -30,6 +30,7 @@ use Rattle.http_front.specs.declared.pulling.HeadRead.{HeadRead}
 use Rattle.http_front.specs.declared.reading.Request.{Request}
 use Rattle.http_front.specs.declared.reading.Incoming.{Incoming}
 use Rattle.http_front.specs.declared.reading.Incoming.TheVariants.{Refused, ConnFault, NoMemory}
+use Rattle.http_front.specs.declared.reading.Incoming.TheVariants as incoming
 use Rattle.http_front.proofs.Heads.{span_of_front}
 use Rattle.http_front.proofs.Progress.{whole_content, short_content, rose_later}
 
@@ -72,6 +73,23 @@ size_passed target method minor n fields e =
     let three = passed_test (is_served method) 501 n _ two.1 in
     let four = failed_test (nat_lt 0 (length (values_named (codes "Transfer-Encoding") fields))) 501 n _ three.1 in
     lengths_within (values_named (codes "Content-Length") fields) n four
+
+pub head_target : (h : RequestHead) (n : ℕ) → checked_head h ≡ Ok n → is_target h.target ≡ true
+head_target h n e = target_passed h.target h.method h.minor n (fields_of h) e
+
+pub head_size : (h : RequestHead) (n : ℕ) → checked_head h ≡ Ok n → n ≤ LONGEST_CONTENT
+head_size h n e = size_passed h.target h.method h.minor n (fields_of h) e
+
+-- ---- answers that are no faults
+
+pub request_is_no_fault : (r : Request) → incoming.Request r ≡ ConnFault → ⊥
+request_is_no_fault r e = cc
+
+pub refused_is_no_fault : (status : ℕ) → Refused status ≡ ConnFault → ⊥
+refused_is_no_fault status e = cc
+
+pub want_is_no_fault : NoMemory ≡ ConnFault → ⊥
+want_is_no_fault e = cc
 
 -- ---- a whole head that stands there
 

@@ -99,7 +99,7 @@ part_put start old new before kept after text part none w puts waits count same 
 front_given : (a b c : Option (List ℕ)) (due gone rest behind : List ℕ) (n : ℕ) → due ≡ gone ++ (rest ++ behind) → n ≤ length rest → Appends a b gone → Appends b c (take n rest) → Appends a c (take (length gone + n) due)
 front_given a b c due gone rest behind n e le first then =
     let front : take (length gone + n) due ≡ gone ++ take n rest =
-        ap (take (length gone + n)) e ∙ take-append-add gone (rest ++ behind) n ∙ ap (λ (t : List ℕ). gone ++ t) (take-append-le n rest behind le) in
+    ap (take (length gone + n)) e ∙ take-append-add gone (rest ++ behind) n ∙ ap (λ (t : List ℕ). gone ++ t) (take-append-le n rest behind le) in
     subst (λ (t : List ℕ). Appends a c t) (sym front) (Appends-trans a b c gone (take n rest) first then)
 
 cut_at : (start old new : ConnWire) (due gone rest behind : List ℕ) (n count after : ℕ) → due ≡ gone ++ (rest ++ behind) → n ≤ length rest → Appends start.given old.given gone → Appends old.given new.given (take n rest) → count ≡ min (length gone) (2 ^ 64 - 1) → after ≡ min (count + n) (2 ^ 64 - 1) → start.faults ≤ old.faults → Rose old.faults new.faults → IsCut start new due after

@@ -2,7 +2,6 @@
 
 ghost use Rattle.std.specs.Prelude.{◌≡◌, length, map, All, codes, nat_lt};
 ghost use Rattle.std.specs.List.{list_any};
-
 ghost use Rattle.httparse.specs.Spans.{IsHeaderWithin, header_bytes};
 ghost use Rattle.http_text.specs.Reading.{is_named, values_named, is_continue, has_hosts, content_length, told_length};
 ghost use Rattle.http_front.specs.Fields.{IsNext, AreNamed};

@@ -8,4 +8,6 @@ pub mod kept;
 mod looking;
 mod pulling;
 pub mod reading;
+#[cfg(test)]
+mod tests;
 pub mod writing;

@@ -64,11 +64,7 @@ pub(crate) fn is_head(method: &[u8]) -> bool
 }
 
 /// The length of a head's content, or the status of the first check that fails.
-fn check(
-    bytes: &[u8],
-    head: &RequestSpans,
-    headers: &[HeaderSpan],
-) -> Result<usize, StatusCode>
+fn check(bytes: &[u8], head: &RequestSpans, headers: &[HeaderSpan]) -> Result<usize, StatusCode>
     requires target { IsWithin (length bytes.now) head.now.path }
     requires method { IsWithin (length bytes.now) head.now.method }
     requires headers { All (IsHeaderWithin (length bytes.now)) headers.now }

@@ -66,12 +66,7 @@ pub fn read_request<C: Conn>(alloc: Global, conn: &mut C, kept: &mut Kept) -> In
 }
 
 /// Reads what follows a whole head, where it passed its checks.
-fn read_rest<C: Conn>(
-    alloc: Global,
-    conn: &mut C,
-    kept: &mut Kept,
-    head: &WholeHead,
-) -> Incoming
+fn read_rest<C: Conn>(alloc: Global, conn: &mut C, kept: &mut Kept, head: &WholeHead) -> Incoming
     requires stands { Stands kept.old.bytes.items head.now }
     requires fresh { kept.old.interim ≡ 0 }
     ensures { ReceivesRest (C.wire conn.old) (C.wire conn.new) kept.old kept.new head.now result }

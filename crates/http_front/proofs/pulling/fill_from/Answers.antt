@@ -49,7 +49,7 @@ loop-buffer-preserved g c =
       read = λ start h rest written content whole is read.
           let stands = so_far.read start h rest written content whole is read in
           fill_step start _ _ h stands.0 _ _ written _ content stands.1 is stands.2 (omega arith) took;
-      grown = (so_far.grown.0 ++ took.bytes.0, took.bytes.3 ∙ ap (λ (t : List ℕ). t ++ took.bytes.0) so_far.grown.1 ∙ append_assoc _ _ _);
+      grown = (so_far.grown.0 ++ took.bytes.0, took.bytes.3 ∙ ap (λ (t : List ℕ). t ++ took.bytes.0) so_far.grown.1 ∙ append_assoc c.args.bytes.now.items so_far.grown.0 took.bytes.0);
       given = took.given ∙ so_far.given;
       later = omega (arith, so_far.later, took.faults.later);
     }

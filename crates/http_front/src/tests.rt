@@ -123,9 +123,8 @@ fn fields_have_their_status(rt: HostRuntime) -> Result<(), Fail> {
 /// A head of so many fields beside Host, and of so many bytes, where they are that many or more.
 fn head_of(alloc: Global, fields: usize, size: usize) -> Result<Vec<u8>, AllocError> {
     let mut text = Vec::from_slice(alloc, b"GET / HTTP/1.1\r\nHost: ")?;
-    while text.len() < size.saturating_sub(4 + 6 * fields) {
-        text.push(b'h')?;
-    }
+    let behind = fields.saturating_mul(6).saturating_add(4);
+    text.resize(size.saturating_sub(behind).max(text.len()), b'h')?;
     text.extend_from_slice(b"\r\n")?;
     for _ in 0..fields {
         text.extend_from_slice(b"A: b\r\n")?;

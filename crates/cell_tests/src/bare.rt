@@ -42,6 +42,8 @@ impl Columns for Bare {
       alone = false;
     } };
 
+    ghost token_seed = { λ b. [] };
+
     ghost seen = { λ b. record { okd = []; proxies = []; pubd = b.drained.past; oklogd = []; launcher = []; own = b.own.past } };
 
     ghost shows = { λ b s k. b.shown ≡ k };

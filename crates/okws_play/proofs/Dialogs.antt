@@ -438,6 +438,20 @@ pub advance_less : (C : Config) (c d : Standing) (J K : Seen) (last : ℕ) (over
 advance_less C c d J K last over r seat n answer m g ready next a still is =
     open_less C seat.service seat.stand (stand_by d n) seat.stand.open_dialog J K m (advance_moves C c d J K last over r seat n answer m g ready next a still is)
 
+-- the same where the number that asks is known to be 0
+abbrev pub asker_by : Config → ℕ → Asker
+asker_by C w = record { config = C; worker = w; alone = true }
+
+pub asked_moves : (C : Config) (w : ℕ) (c d : Standing) (J K : Seen) (last : ℕ) (over : Bool) (r : ℕ) (seat : Seat) (n : Option ℕ) (answer : Advanced) (m : Moved) → w ≡ 0 → IsGoing c last over r seat → IsReady seat.stand → (true ≡ true → IsNextBy w J K)
+    → AdvancesOpen (asker_by C w) (shown_in K c.service) c c.open_dialog J answer d K → n ≡ asked_still r answer → Some m ≡ moved_by r answer
+    → MovesOpen C seat.service seat.stand seat.stand.open_dialog J m (stand_by d n) K × (left_to_do (stand_by d n).open_dialog (stand_by d n).left < left_to_do seat.stand.open_dialog seat.stand.left)
+asked_moves C w c d J K last over r seat n answer m e g ready next a still is =
+    let by_none : true ≡ true → IsNextBy 0 J K = subst (λ (x : ℕ). true ≡ true → IsNextBy x J K) e next in
+    let step_none : AdvancesOpen (asker C) (shown_in K c.service) c c.open_dialog J answer d K = subst (λ (x : ℕ). AdvancesOpen (asker_by C x) (shown_in K c.service) c c.open_dialog J answer d K) e a in (
+      advance_moves C c d J K last over r seat n answer m g ready by_none step_none still is,
+      advance_less C c d J K last over r seat n answer m g ready by_none step_none still is,
+    )
+
 -- ---- when a cell is ready
 
 told : (o : Option (List ℕ)) (A : List ℕ → Type 0) → IsSome o → IfSome o A → A (unwrap_or o [])

@@ -8,7 +8,11 @@ use Rattle.std.proofs.lemmas.List.Concat.{flat_map-append}
 use Rattle.okws_base.specs.Runs.{Each}
 use Rattle.std.proofs.lemmas.List.{set-set, get_or-reverse, length-reverse, reverse-append, reverse-reverse, take_more}
 use Rattle.okws_plan.specs.declared.configuration.Config.{Config}
+use Rattle.monitor_model.specs.declared.record.CellEvent.{CellEvent}
 use Rattle.monitor_model.specs.declared.record.CellEvent.TheVariants as cell
+use Rattle.monitor_model.specs.declared.record.Dialog.{Dialog}
+use Rattle.monitor_model.specs.Answering.{end_response}
+use Rattle.service_cell.specs.Ending.{EndsOtherwise, IsLast}
 use Rattle.monitor_model.specs.declared.record.Item.{Item}
 use Rattle.monitor_model.specs.declared.record.End.{End}
 use Rattle.monitor_model.specs.declared.record.End.TheVariants as end
@@ -53,6 +57,18 @@ settled_past there = by (incarnation there.past == 0) refl
     by : (test : Bool) → (incarnation there.past == 0) ≡ test → (if test then record there { left = []; has_ended = false } else there).past ≡ there.past
     by true e = refl
     by false e = refl
+
+-- the response of the last event
+pub last_other : (J : List CellEvent) (method : List ℕ) → EndsOtherwise J → last_response J method ≡ []
+last_other [] method h = refl
+last_other (cell.Boot k ∷ J) method h = refl
+last_other (cell.Retired ∷ J) method h = refl
+last_other (cell.Missed worker wanted is ∷ J) method h = refl
+last_other (cell.Dialog d ∷ J) method h = absurd h
+last_other (cell.Speaking worker items ∷ J) method h = refl
+
+pub last_dialog : (d : Dialog) (J : List CellEvent) (method : List ℕ) → IsLast (Some d) J → end_response d.end d.items method ≡ last_response J method
+last_dialog d J method h = rw h.1 refl
 
 -- the answer that a closing prints
 closing_is : (S : Stage) (n : ℕ) (mid : Stand) (last : Opened) (how : End) → n ≡ last.request

@@ -12,7 +12,7 @@ use Rattle.monitor_model.specs.Seen.{proxy_past}
 use Rattle.monitor_model.specs.Stage.{Stage, Opened, stand, empty_stand, heard_line}
 use Rattle.monitor_model.specs.Standing.{proxy_grant}
 use Rattle.okws_play.specs.Run.{Run, at_stage, IsOnlyAt, IsAtProxies, KeepsCells}
-use Rattle.okws_play.proofs.Places.{granted_from, grants_first, skips_first}
+use Rattle.service_cell.proofs.Granted.{granted_from, grants_first, skips_first}
 
 -- what is still to be installed at the proxies from i on makes all of it
 pub install_more : (C : Config) (seed : List ℕ) (s i n : ℕ) (now next all : Stage) → i < n → next ≡ (if grants_at C s i then installed seed s (Proxy i) now else now)

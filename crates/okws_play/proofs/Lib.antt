@@ -1,13 +1,8 @@
 pub mod Accepting
 pub mod Cells
-pub mod Columns
 pub mod Dialogs
 pub mod Going
 pub mod Launching
-pub mod Narrow
 pub mod Opening
-pub mod Places
 pub mod Playing
-pub mod Putting
-pub mod Short
 pub mod Stages

@@ -5,10 +5,10 @@ use Rattle.okws_plan.specs.declared.configuration.Config.{Config}
 use Rattle.okws_outer.specs.Wire.{Wire}
 use Rattle.monitor_model.specs.declared.record.CellEvent.TheVariants as cell
 use Rattle.monitor_model.specs.declared.record.End.{End}
-use Rattle.monitor_model.specs.Cell.{incarnation, last_booted, heard}
+use Rattle.monitor_model.specs.Cell.{incarnation, last_booted}
 use Rattle.monitor_model.specs.Stage.{Stand, Opened, Asked, empty_stand}
 use Rattle.monitor_model.specs.Script.{settled}
-use Rattle.service_cell.specs.Standing.{Open, Standing, with_open}
+use Rattle.service_cell.specs.Standing.{Open, Standing}
 
 -- A cell with the number of its service, the site's configuration and the run's seed.
 pub record Seat : Type 0 where
@@ -73,15 +73,6 @@ IsAsked k (Some n) (Some o) = (o.worker ≡ 0) × (k ≢ 0)
 abbrev pub IsWired : Option Wire → Type 0
 IsWired None = ⊥
 IsWired (Some wire) = (wire.steady ≡ true) × IsSome wire.left
-
--- What was put on a cell's link, where it tells.
-abbrev pub given_on : Option Wire → Option (List ℕ)
-given_on None = None
-given_on (Some wire) = wire.given
-
--- Where a cell has an incarnation, what was put on its link is just what that heard: its Boot, with the tokens of the run's seed, and all that its dialogs heard, in order.
-abbrev pub IsHeard : Config → List ℕ → Standing → Type 0
-IsHeard C seed c = incarnation c.past ≢ 0 → given_on c.link ≡ Some (heard C seed c.service (incarnation c.past) (with_open c.open_dialog c.past))
 
 -- What is kept beside a cell: the greatest incarnation that was booted, whether the end was fed, and the request of the open dialog. Where the cell has an incarnation it has a link in memory.
 pub record IsKept (c : Standing) (last : ℕ) (ended : Bool) (n : Option ℕ) : Type 0 where

@@ -1,9 +1,5 @@
 pub mod Cells
 pub mod Dialogs
-pub mod Launches
-pub mod Places
 pub mod Played
 pub mod Printed
-pub mod Proxies
 pub mod Run
-pub mod Site

@@ -15,7 +15,7 @@ use Rattle.play_script.specs.Refusal.{script_refused}
 use Rattle.play_script.specs.Rule.{script_rule_number}
 use Rattle.config_reader.specs.declared.error.Refusal.{Refusal}
 use Rattle.okws_server.specs.Ending.{Told, no_memory_line}
-use Rattle.okws_server.specs.Headline.{IsWholeRun, IsRunTo, IsTooLong, IsRefused, IsEmptyRecord, Leaves, BeginsPrinting}
+use Rattle.okws_server.specs.Headline.{IsWholeRun, IsRunTo, IsTooLong, IsRefused, IsEmptyRecord, Leaves}
 use Rattle.okws_server.specs.Ran.{zero_seed, out_status, GivesConfig, IsRefusedBy, TellsRefusal, Plays, PlaysFiles, Played, Ends, Lists, Checked}
 use Rattle.okws_server.specs.Listing.{listing, BeginsListing}
 use Rattle.okws_server.specs.declared.script.Broken.{Broken}
@@ -58,19 +58,8 @@ plays_ends C text (Some found) R given old mid new f g k s t how h first (inl e)
     let n : Counted f k t = then f (counted_first f g s first) in
     with_record C text old new (Rose f k) R given how status.ScriptRefused e.0 (λ none. cc) same (h.0, found.line, script_rule_number found.rule, h.1, told_by old new _ f k t p n)
 plays_ends C text (Some found) R given old mid new f g k s t how h first (inr e) then same empty =
-    let p : Printed old new (h.0 ++ no_memory_line) t = e.1 old h.0 (printed_first old mid h.0 s h.2) in
-    let n : Counted f k t = then f (counted_first f g s first) in
     let there : IsEmptyRecord given = empty e.0 in
-    rw e.0 (there, h.0, tt, told_by old new _ f k t p n)
-
--- how a run ends where memory was refused in its lines
-pub plays_starved : (C : Config) (text : List ℕ) (R : Record) (old mid new : Option (List ℕ)) (f g k : ℕ) (s t : Bool) →
-    ((printed : List ℕ) × BeginsPrinting C text printed × Prints old false mid s printed) → CountsOn f false g s →
-    Prints mid s new t no_memory_line → CountsOn g s k t → IsEmptyRecord R → Plays C text old new (Rose f k) R status.NoMemory
-plays_starved C text R old mid new f g k s t h first last then empty =
-    let p : Printed old new (h.0 ++ no_memory_line) t = last old h.0 (printed_first old mid h.0 s h.2) in
-    let n : Counted f k t = then f (counted_first f g s first) in
-    (empty, h.0, h.1, told_by old new _ f k t p n)
+    rw e.0 there
 
 -- what was read to one byte above the limit is refused as the whole script
 refused_whole : (C : Config) (all text printed : List ℕ) (R : Record) (line rule : ℕ) → text ≡ take (LONGEST_SCRIPT + 1) all →
@@ -92,7 +81,7 @@ plays_whole : (C : Config) (all text : List ℕ) (old new : Option (List ℕ)) (
 plays_whole C all text old new rose R status.Ok e h = (h.0, whole_whole C all text h.0 R e h.1, h.2)
 plays_whole C all text old new rose R status.OutFault e h = (h.0, h.1, whole_whole C all text h.1 R e h.2, h.3)
 plays_whole C all text old new rose R status.ScriptRefused e h = (h.0, h.1, h.2, refused_whole C all text h.0 R h.1 h.2 e h.3, h.4)
-plays_whole C all text old new rose R status.NoMemory e h = (h.0, h.1, tt, h.3)
+plays_whole C all text old new rose R status.NoMemory e h = h
 plays_whole C all text old new rose R _ e h = absurd h
 
 plays_files : (a b : Shelf) (config script : List ℕ) (C : Config) (text : List ℕ) (old new : Option (List ℕ)) (rose : Type 0) (R : Record) (how : Status) →
@@ -126,7 +115,7 @@ checked_by a b path C old new rose _ m reads h = absurd h
 -- a configuration that is refused
 pub refusal_checked : (a b : Shelf) (path : List ℕ) (refusal : Refusal) (old new : Option (List ℕ)) (rose : Type 0) (how : Status) →
     IsRefusedBy (a.held path) refusal → Reads a b 1 ⊥ → TellsRefusal refusal old new rose how → Checked a b path old new rose how
-refusal_checked a b path refusal old new rose status.ConfigRefused m reads h = (reads, refusal, m, h)
+refusal_checked a b path refusal old new rose status.ConfigRefused m reads h = (reads, (refusal, m, h))
 refusal_checked a b path refusal old new rose status.NoMemory m reads h = inl (reads, h)
 refusal_checked a b path refusal old new rose status.Ok m reads h = absurd h
 refusal_checked a b path refusal old new rose status.OutFault m reads h = absurd h
@@ -135,7 +124,7 @@ refusal_checked a b path refusal old new rose _ m reads h = absurd h
 
 pub refusal_played : (a b : Shelf) (config script : List ℕ) (refusal : Refusal) (old new : Option (List ℕ)) (rose : Type 0) (R : Record) (how : Status) →
     IsRefusedBy (a.held config) refusal × Reads a b 1 ⊥ → TellsRefusal refusal old new rose how → IsEmptyRecord R → Played a b config script old new rose R how
-refusal_played a b config script refusal old new rose R status.ConfigRefused m h empty = (empty, m.1, refusal, m.0, h)
+refusal_played a b config script refusal old new rose R status.ConfigRefused m h empty = (empty, m.1, (refusal, m.0, h))
 refusal_played a b config script refusal old new rose R status.NoMemory m h empty = inl (empty, inl m.1, h)
 refusal_played a b config script refusal old new rose R status.Ok m h empty = absurd h
 refusal_played a b config script refusal old new rose R status.OutFault m h empty = absurd h

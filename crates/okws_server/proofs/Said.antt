@@ -29,7 +29,7 @@ use Rattle.play_script.specs.declared.reading.LineRead.{LineRead}
 use Rattle.play_script.specs.declared.reading.LineRead.TheVariants as read
 use Rattle.okws_play.specs.Run.{IsShortLine}
 use Rattle.okws_server.specs.Script.{IsShortRead}
-use Rattle.okws_play.proofs.Short.{and_first, and_second, either}
+use Rattle.site_columns.proofs.Short.{and_first, and_second, either}
 
 path_short : (path : List ℕ) → is_path path ≡ true → length path ≤ LONGEST_PATH
 path_short [] h = omega arith

@@ -90,7 +90,3 @@ IsRefused C seed text R printed line rule = IsTooLong text R printed line rule �
 abbrev pub Leaves : Config → List ℕ → List ℕ → Option Broken → Record → List ℕ → Type 0
 Leaves C seed text None R printed = IsWholeRun C seed text R printed
 Leaves C seed text (Some found) R printed = IsRefused C seed text R printed found.line (script_rule_number found.rule)
-
--- What was printed of a script before memory was refused.
-abbrev pub BeginsPrinting : Config → List ℕ → List ℕ → Type 0
-BeginsPrinting C text printed = Unit {0}

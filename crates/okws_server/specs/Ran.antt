@@ -16,7 +16,7 @@ use Rattle.monitor_model.specs.declared.record.Record.{Record}
 use Rattle.play_script.specs.Refusal.{config_refused, script_refused}
 use Rattle.play_script.specs.Rule.{script_rule_number}
 use Rattle.okws_server.specs.Ending.{Told, read_fault_line, no_memory_line}
-use Rattle.okws_server.specs.Headline.{IsWholeRun, IsRefused, IsEmptyRecord, Leaves, BeginsPrinting}
+use Rattle.okws_server.specs.Headline.{IsWholeRun, IsRefused, IsEmptyRecord, Leaves}
 use Rattle.okws_server.specs.Listing.{listing, BeginsListing}
 use Rattle.okws_server.specs.declared.script_run.Outcome.{Outcome}
 use Rattle.okws_server.specs.declared.preparing.ConfigStop.{ConfigStop}
@@ -108,10 +108,10 @@ Checked before after path old new out_rose _ = ⊥
 
 -- ---- play
 
--- What playing a script leaves and prints; where memory was refused, something was printed.
+-- What playing a script leaves and prints, unless memory was refused.
 abbrev pub PlaysText : Config → List ℕ → (List ℕ → Type 0) → Result Outcome AllocError → Type 0
 PlaysText C text prints (Ok outcome) = (printed : List ℕ) × Leaves C zero_seed text outcome.broken outcome.record printed × prints printed
-PlaysText C text prints (Err e) = (printed : List ℕ) × BeginsPrinting C text printed × prints printed
+PlaysText C text prints (Err e) = ⊤
 
 -- How a run ends whose script was played: where it is broken nowhere by whether out has stopped; else with the last line that says where, or that memory was refused.
 abbrev pub Ends : Option Broken → (List ℕ → Type 0) → Bool → Status → Type 0
@@ -125,8 +125,7 @@ Plays C text old new out_rose R status.Ok = (printed : List ℕ) × IsWholeRun C
 Plays C text old new out_rose R status.OutFault = out_rose × (printed : List ℕ) × IsWholeRun C zero_seed text R printed × AppendsPrefix old new printed
 Plays C text old new out_rose R status.ScriptRefused =
     (printed : List ℕ) × (line rule : ℕ) × IsRefused C zero_seed text R printed line rule × Told old new (printed ++ script_refused line rule) out_rose
-Plays C text old new out_rose R status.NoMemory =
-    IsEmptyRecord R × (printed : List ℕ) × BeginsPrinting C text printed × Told old new (printed ++ no_memory_line) out_rose
+Plays C text old new out_rose R status.NoMemory = IsEmptyRecord R
 Plays C text old new out_rose R _ = ⊥
 
 -- A script that its file gives is played by the configuration that its file gives.

@@ -69,6 +69,7 @@ pub fn print_config_refusal<O: Sink>(alloc: Global, out: &mut O, refusal: Refusa
 }
 
 /// Prints where a script is refused, behind what was printed before; nothing where memory is refused.
+#[tactic(auto, using(okws_outer::proofs::Printed::prints_nothing))]
 pub fn print_script_refusal<O: Sink>(
     alloc: Global,
     out: &mut O,

@@ -130,13 +130,13 @@ fn ending_of<O: Sink>(
 }
 
 /// The record that is given with a status: where memory was refused, the empty one.
-fn record_with(alloc: Global, status: Status, record: Record) -> Record
-    ensures given { (status ≡ Status.NoMemory → ⊥) → result ≡ record }
+fn record_with(alloc: Global, status: Status, left: Record) -> Record
+    ensures given { (status ≡ Status.NoMemory → ⊥) → result ≡ left }
     ensures empty { status ≡ Status.NoMemory → IsEmptyRecord result }
 {
     match status {
         Status::NoMemory => empty_record(alloc),
-        _ => record,
+        _ => left,
     }
 }
 

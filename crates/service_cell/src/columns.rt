@@ -29,6 +29,9 @@ pub trait Columns {
     /// The site's configuration, the worker's number, and whether nobody else enters anything.
     ghost asker: { Self → Asker };
 
+    /// The seed of the tokens that the columns issue.
+    ghost token_seed: { Self → List ℕ };
+
     /// What the worker has seen of each column, and its own items.
     ghost seen: { Self → Seen };
 
@@ -48,13 +51,13 @@ pub trait Columns {
         requires { service < length (asker self.old).config.services }
         ensures shown { shows self.new service result }
         ensures seen { seen self.new ≡ seen self.old }
-        ensures board { KeepsBoard asker shows self.old self.new };
+        ensures board { KeepsBoard asker shows token_seed self.old self.new };
 
     /// Notes an own item that is no entry.
     fn note(&mut self, item: Own) -> Result<(), AllocError>
         ensures ok { OnOk result (seen self.new ≡ noted (seen self.old) item) }
         ensures err { OnErr result (seen self.new ≡ seen self.old) }
-        ensures board { KeepsBoard asker shows self.old self.new };
+        ensures board { KeepsBoard asker shows token_seed self.old self.new };
 
     /// Notes a dialog with the incarnation, enters its Drain, and gives what is pushed.
     fn drain(&mut self, service: u16, incarnation: u32) -> Result<Vec<Push>, AllocError>
@@ -62,7 +65,7 @@ pub trait Columns {
         ensures ok { IfOk result (λ pushes. Drains (asker self.old) service incarnation (seen self.old) pushes.items (seen self.new)) }
         ensures short { IfOk result (λ pushes. Each IsShortPush pushes.items) }
         ensures err { OnErr result (seen self.new ≡ seen self.old) }
-        ensures board { KeepsBoard asker shows self.old self.new };
+        ensures board { KeepsBoard asker shows token_seed self.old self.new };
 
     /// Enters an Open at a proxy, and gives its verdict.
     fn open_session(
@@ -78,7 +81,7 @@ pub trait Columns {
             × AtProxy (asker self.old).worker proxy (proxied.Open service incarnation shown) (seen self.old) before (seen self.new)) }
         ensures err { OnErr result (seen self.new ≡ seen self.old) }
         ensures next { IsTrue (asker self.old).alone → IsNextBy (asker self.old).worker (seen self.old) (seen self.new) }
-        ensures board { KeepsBoard asker shows self.old self.new };
+        ensures board { KeepsBoard asker shows token_seed self.old self.new };
 
     /// Enters a Call at a proxy, and gives its verdict.
     fn call(&mut self, proxy: u16, call: Call) -> Result<Verdict, AllocError>
@@ -89,7 +92,7 @@ pub trait Columns {
         ensures narrow { IfOk result IsNarrow }
         ensures err { OnErr result (seen self.new ≡ seen self.old) }
         ensures next { IsTrue (asker self.old).alone → IsNextBy (asker self.old).worker (seen self.old) (seen self.new) }
-        ensures board { KeepsBoard asker shows self.old self.new };
+        ensures board { KeepsBoard asker shows token_seed self.old self.new };
 
     /// Enters a Get at the template publisher, and gives what it is answered.
     fn get(&mut self, service: u16, incarnation: u32, name: Items<u8>) -> Result<Got, AllocError>
@@ -99,7 +102,7 @@ pub trait Columns {
         ensures short { IfOk result IsShortGot }
         ensures err { OnErr result (seen self.new ≡ seen self.old) }
         ensures next { IsTrue (asker self.old).alone → IsNextBy (asker self.old).worker (seen self.old) (seen self.new) }
-        ensures board { KeepsBoard asker shows self.old self.new };
+        ensures board { KeepsBoard asker shows token_seed self.old self.new };
 
     /// Enters a Log at the log daemon, and gives what it is answered.
     fn log(&mut self, service: u16, incarnation: u32, text: Items<u8>) -> Result<Noted, AllocError>
@@ -108,5 +111,5 @@ pub trait Columns {
             × AtLog (asker self.old).worker (oklogd.Log service incarnation text) (seen self.old) before (seen self.new)) }
         ensures err { OnErr result (seen self.new ≡ seen self.old) }
         ensures next { IsTrue (asker self.old).alone → IsNextBy (asker self.old).worker (seen self.old) (seen self.new) }
-        ensures board { KeepsBoard asker shows self.old self.new };
+        ensures board { KeepsBoard asker shows token_seed self.old self.new };
 }

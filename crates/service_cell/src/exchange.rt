@@ -92,7 +92,7 @@ fn answer_open<C: Columns>(columns: &mut C, who: Who, proxy: u16, shown: Token) 
     ensures answer { Answers (C.asker columns.old).config (record { worker = (C.asker columns.old).worker; service = who.service; incarnation = who.incarnation }) (ServiceFrame.Open proxy shown) (C.seen columns.old) result (C.seen columns.new) }
     ensures spelling { HasSpelling result }
     ensures next { IsTrue (C.asker columns.old).alone → IsNextBy (C.asker columns.old).worker (C.seen columns.old) (C.seen columns.new) }
-    ensures board { KeepsBoard C.asker C.shows columns.old columns.new }
+    ensures board { KeepsBoard C.asker C.shows C.token_seed columns.old columns.new }
 {
     if proxy as usize >= columns.proxies() {
         return making::denied(Rule::NoSuchProxy.number());
@@ -108,7 +108,7 @@ fn answer_call<C: Columns>(columns: &mut C, proxy: u16, call: Call) -> ServerFra
     ensures answer { Answers (C.asker columns.old).config (record { worker = (C.asker columns.old).worker; service = call.service; incarnation = call.incarnation }) (ServiceFrame.Call proxy call.session call.query call.args) (C.seen columns.old) result (C.seen columns.new) }
     ensures spelling { HasSpelling result }
     ensures next { IsTrue (C.asker columns.old).alone → IsNextBy (C.asker columns.old).worker (C.seen columns.old) (C.seen columns.new) }
-    ensures board { KeepsBoard C.asker C.shows columns.old columns.new }
+    ensures board { KeepsBoard C.asker C.shows C.token_seed columns.old columns.new }
 {
     if proxy as usize >= columns.proxies() {
         return making::denied(Rule::NoSuchProxy.number());
@@ -124,7 +124,7 @@ fn answer_get<C: Columns>(columns: &mut C, who: Who, name: Items<u8>) -> ServerF
     ensures answer { Answers (C.asker columns.old).config (record { worker = (C.asker columns.old).worker; service = who.service; incarnation = who.incarnation }) (ServiceFrame.Get name) (C.seen columns.old) result (C.seen columns.new) }
     ensures spelling { HasSpelling result }
     ensures next { IsTrue (C.asker columns.old).alone → IsNextBy (C.asker columns.old).worker (C.seen columns.old) (C.seen columns.new) }
-    ensures board { KeepsBoard C.asker C.shows columns.old columns.new }
+    ensures board { KeepsBoard C.asker C.shows C.token_seed columns.old columns.new }
 {
     match columns.get(who.service, who.incarnation, name) {
         Ok(got) => told_got(got),
@@ -137,7 +137,7 @@ fn answer_log<C: Columns>(columns: &mut C, who: Who, text: Items<u8>) -> ServerF
     ensures answer { Answers (C.asker columns.old).config (record { worker = (C.asker columns.old).worker; service = who.service; incarnation = who.incarnation }) (ServiceFrame.Log text) (C.seen columns.old) result (C.seen columns.new) }
     ensures spelling { HasSpelling result }
     ensures next { IsTrue (C.asker columns.old).alone → IsNextBy (C.asker columns.old).worker (C.seen columns.old) (C.seen columns.new) }
-    ensures board { KeepsBoard C.asker C.shows columns.old columns.new }
+    ensures board { KeepsBoard C.asker C.shows C.token_seed columns.old columns.new }
 {
     match columns.log(who.service, who.incarnation, text) {
         Ok(noted) => told_noted(noted),
@@ -159,7 +159,7 @@ fn answer_copied_call<C: Columns>(
     ensures answer { Answers (C.asker columns.old).config (record { worker = (C.asker columns.old).worker; service = who.service; incarnation = who.incarnation }) (ServiceFrame.Call proxy session query args.now) (C.seen columns.old) result (C.seen columns.new) }
     ensures spelling { HasSpelling result }
     ensures next { IsTrue (C.asker columns.old).alone → IsNextBy (C.asker columns.old).worker (C.seen columns.old) (C.seen columns.new) }
-    ensures board { KeepsBoard C.asker C.shows columns.old columns.new }
+    ensures board { KeepsBoard C.asker C.shows C.token_seed columns.old columns.new }
 {
     if proxy as usize >= columns.proxies() {
         return making::denied(Rule::NoSuchProxy.number());
@@ -190,7 +190,7 @@ fn answer<C: Columns>(
     requires { who.service < length (C.asker columns.old).config.services }
     ensures answer { MatchOption result (IsReply said.now × (C.seen columns.new ≡ C.seen columns.old)) (λ heard. HasSpelling heard × Answers (C.asker columns.old).config (record { worker = (C.asker columns.old).worker; service = who.service; incarnation = who.incarnation }) said.now (C.seen columns.old) heard (C.seen columns.new)) }
     ensures next { IsTrue (C.asker columns.old).alone → IsNextBy (C.asker columns.old).worker (C.seen columns.old) (C.seen columns.new) }
-    ensures board { KeepsBoard C.asker C.shows columns.old columns.new }
+    ensures board { KeepsBoard C.asker C.shows C.token_seed columns.old columns.new }
 {
     match said {
         ServiceFrame::Open { proxy, shown } => Some(answer_open(columns, who, *proxy, *shown)),
@@ -283,7 +283,7 @@ fn exchange_frame<L: Link, C: Columns>(
     ensures spelled { result ≡ Exchanged.Goes → IsHeardLast items.new.past }
     ensures kept { items.new.keeps ≡ items.old.keeps }
     ensures next { IsTrue (C.asker columns.old).alone → IsNextBy (C.asker columns.old).worker (C.seen columns.old) (C.seen columns.new) }
-    ensures board { KeepsBoard C.asker C.shows columns.old columns.new }
+    ensures board { KeepsBoard C.asker C.shows C.token_seed columns.old columns.new }
 {
     if frames >= MOST_FRAMES {
         items.enter(Item::Said(said));
@@ -320,7 +320,7 @@ pub(crate) fn exchange<L: Link, C: Columns>(
     ensures spelled { result ≡ Exchanged.Goes → IsHeardLast items.new.past }
     ensures kept { items.new.keeps ≡ items.old.keeps }
     ensures next { IsTrue (C.asker columns.old).alone → IsNextBy (C.asker columns.old).worker (C.seen columns.old) (C.seen columns.new) }
-    ensures board { KeepsBoard C.asker C.shows columns.old columns.new }
+    ensures board { KeepsBoard C.asker C.shows C.token_seed columns.old columns.new }
 {
     if items.make_room(2).is_err() || link.make_room(LONGEST_FRAME + 4).is_err() {
         return Exchanged::Crashed(Cause::Starved);

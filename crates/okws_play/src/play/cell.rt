@@ -1,22 +1,20 @@
 //! The cell of one service in a run of a script: a cell over a link in memory, and the number of the
 //! request whose dialog is open.
 
-ghost use Rattle.std.specs.Prelude.{◌≡◌, ◌≢◌, ◌≤◌, ◌<◌, ◌+◌, ◌∷◌, ◌++◌, [], None, Some, IfOk, IfSome, OnOk, OnErr, IsSome, IsTrue, ◌↔◌, length, option_map, map, reverse, true, false};
+ghost use Rattle.std.specs.Prelude.{◌≡◌, ◌≢◌, ◌≤◌, ◌<◌, ◌+◌, ◌∷◌, ◌++◌, [], None, Some, IfOk, IfSome, MatchOption, OnOk, OnErr, IsSome, IsTrue, ◌↔◌, length, option_map, map, reverse, true, false};
 ghost use Rattle.okws_base.specs.declared.limit.TheConstants.{LONGEST_FRAME, MOST_INCARNATIONS, MOST_PROXIES};
 ghost use Rattle.std.specs.Arc.{arc_value};
-ghost use Rattle.okws_plan.specs.Configuration.{proxies_of};
 ghost use Rattle.monitor_model.specs.declared.record.End.{End};
 ghost use Rattle.monitor_model.specs.Cell.{incarnation, last_booted};
 ghost use Rattle.monitor_model.specs.Played.{with_open};
 ghost use Rattle.monitor_model.specs.Script.{IsReady};
 ghost use Rattle.monitor_model.specs.Stage.{Opened, empty_stand};
-ghost use Rattle.okws_play.specs.Cells.{seated, closed_stand, retired_stand, booted_stand, IsHeard};
-ghost use Rattle.okws_play.specs.Places.{issued};
+ghost use Rattle.service_cell.specs.Ending.{EndsOtherwise, IsLast};
+ghost use Rattle.okws_play.specs.Cells.{seated, closed_stand, retired_stand, booted_stand};
 ghost use Rattle.okws_play.specs.Dialogs.{Opens, MovesOpen, IsHeardOn, AreSpelledOn, left_to_do, opening_by, asked_then, moved_by, asked_still};
 
-use crate::play::columns::Columns;
-use crate::play::frames::tokens_of;
-use frame_codec::frame::{Issued, ServerFrame};
+use crate::play::run::KEEPS;
+use frame_codec::frame::ServerFrame;
 use monitor_model::record::{CellEvent, Item};
 use okws_base::crash::Cause;
 use okws_base::items::Items;
@@ -25,6 +23,8 @@ use okws_outer::memory::link::MemoryLink;
 use okws_plan::configuration::Config;
 use service_cell::answer::{Advanced, Begun, Booting};
 use service_cell::cell::Cell;
+use service_cell::ending::Finished;
+use site_columns::columns::SiteColumns;
 use std::alloc::{AllocError, Global};
 use std::marker::Model;
 use std::sync::Arc;
@@ -96,26 +96,22 @@ fn asked_still(number: u32, advanced: Advanced) -> Option<u32>
     }
 }
 
-/// The cell of a service. What is put on its link is just what its transcript says was heard.
+/// The cell of a service.
 #[derive(Drop)]
 pub struct PlayCell {
     alloc: Global,
-    config: Arc<Config, Global>,
-    seed: Seed,
     cell: Cell<MemoryLink<'static>>,
     last_booted: u32,
     has_ended: bool,
     request: Option<u32>,
-    ghost heard: { IsHeard (arc_value config) seed cell },
 }
 
 impl Model for PlayCell {
-    ghost use Rattle.std.specs.Arc.{arc_value};
     ghost use Rattle.okws_play.specs.Cells.{Seat, stand_by, IsKept};
 
     ghost Value = { Seat };
 
-    ghost view = { λ a. record { config = arc_value a.config; seed = a.seed; service = a.cell.service; stand = stand_by a.cell a.request } };
+    ghost view = { λ a. record { config = a.cell.config; seed = a.cell.seed; service = a.cell.service; stand = stand_by a.cell a.request } };
 
     ghost invariant = { λ a. IsKept a.cell a.last_booted a.has_ended a.request };
 }
@@ -127,9 +123,7 @@ impl PlayCell {
     {
         PlayCell {
             alloc,
-            config,
-            seed,
-            cell: Cell::new(alloc, service),
+            cell: Cell::new(alloc, config, seed, service, KEEPS),
             last_booted: 0,
             has_ended: false,
             request: None,
@@ -180,11 +174,11 @@ impl PlayCell {
         self.cell.items()
     }
 
-    /// The finished events, the oldest first. A dialog that just ended is the last.
-    pub fn events(&self) -> &[CellEvent]
-        ensures { reverse result.now ≡ self.now.stand.past }
+    /// The dialog that ended last, where nothing happened since.
+    pub fn last_dialog(&self) -> Option<&Finished>
+        ensures { MatchOption result (EndsOtherwise self.now.stand.past) (λ d. IsLast (Some d.now) self.now.stand.past) }
     {
-        self.cell.events()
+        self.cell.last_dialog()
     }
 
     /// Enters Retired, and gives the link up.
@@ -193,19 +187,7 @@ impl PlayCell {
         requires there { incarnation self.old.stand.past ≢ 0 }
         ensures { self.new ≡ seated self.old (retired_stand self.old.stand) }
     {
-        let _link = self.cell.retire();
-    }
-
-    // One token of the incarnation for each proxy where the service has a grant, ascending.
-    fn tokens(&self, incarnation: u32) -> Result<Vec<Issued>, AllocError>
-        requires first { 0 < incarnation }
-        requires most { incarnation ≤ MOST_INCARNATIONS }
-        requires few { length self.now.config.proxies ≤ MOST_PROXIES }
-        ensures tokens { IfOk result (λ v. v.items ≡ map (issued self.now.seed self.now.service incarnation) (proxies_of self.now.config self.now.service)) }
-        ensures few { IfOk result (λ v. length v.items ≤ MOST_PROXIES) }
-    {
-        let service = self.cell.service();
-        tokens_of(self.alloc, &self.config, &self.seed, service, incarnation)
+        self.cell.discard();
     }
 
     /// A fresh link gets Boot of the incarnation, with one token for each proxy where the service has a
@@ -219,9 +201,9 @@ impl PlayCell {
         ensures ok { OnOk result (self.new ≡ seated self.old (booted_stand self.old.stand number)) }
         ensures err { OnErr result (self.new ≡ self.old) }
     {
-        let tokens = self.tokens(number)?;
+        let tokens = self.cell.tokens(number)?;
         // A cell that crashed has its link still.
-        let _link = self.cell.retire();
+        self.cell.discard();
         let link = MemoryLink::new(self.alloc, 0, &[]);
         match self.cell.boot(link, number, Items::of(tokens)) {
             Booting::Booted => {
@@ -237,6 +219,7 @@ impl PlayCell {
     /// Ends the open dialog as superseded by a greater incarnation.
     pub fn supersede(&mut self, shown: u32)
         requires open { IsSome self.old.stand.open_dialog }
+        requires above { incarnation self.old.stand.past < shown }
         ensures { IfSome self.old.stand.open_dialog (λ opened. self.new ≡ seated self.old (closed_stand self.old.stand opened (End.Superseded shown))) }
     {
         self.cell.supersede(shown);
@@ -251,17 +234,20 @@ impl PlayCell {
         head: Items<u8>,
         content: Items<u8>,
         wanted: u32,
-        columns: &mut Columns,
+        columns: &mut SiteColumns,
     ) -> Result<Opening, AllocError>
         requires closed { self.old.stand.open_dialog ≡ None }
         requires wanted { 0 < wanted }
         requires declared { self.old.service < length columns.old.config.services }
+        requires worker { columns.old.worker ≡ 0 }
         requires short { length head + length content + 9 ≤ LONGEST_FRAME }
         ensures opens { IfOk result (λ opening. Opens columns.old.config self.old.service self.old.stand columns.old.seen number (ServerFrame.Request head content) wanted opening self.new.stand columns.new.seen) }
         ensures spelled { IfOk result (λ opening. opening ≡ Opening.Started → AreSpelledOn self.new.stand.open_dialog) }
         ensures seat { self.new ≡ seated self.old self.new.stand }
         ensures booted { last_booted self.new.stand.past ≡ last_booted self.old.stand.past }
         ensures config { columns.new.config ≡ columns.old.config }
+        ensures worker { columns.new.worker ≡ columns.old.worker }
+        ensures seed { columns.new.seed ≡ columns.old.seed }
         ensures launcher { columns.new.seen.launcher ≡ columns.old.seen.launcher }
     {
         let begun = self.cell.begin(head, content, wanted, columns);
@@ -274,16 +260,19 @@ impl PlayCell {
 
     /// Takes the next frame of the open dialog and answers it, or ends the dialog. Where memory is
     /// refused nothing is promised but that the past keeps what was booted.
-    pub fn advance(&mut self, columns: &mut Columns) -> Result<Moved, AllocError>
+    pub fn advance(&mut self, columns: &mut SiteColumns) -> Result<Moved, AllocError>
         requires open { IsSome self.old.stand.open_dialog }
         requires ready { IsReady self.old.stand }
         requires declared { self.old.service < length columns.old.config.services }
+        requires worker { columns.old.worker ≡ 0 }
         ensures moves { IfOk result (λ moved. MovesOpen columns.old.config self.old.service self.old.stand self.old.stand.open_dialog columns.old.seen moved self.new.stand columns.new.seen) }
         ensures spelled { IfOk result (λ moved. moved ≡ Moved.Goes → IsHeardOn self.new.stand.open_dialog) }
         ensures less { OnOk result (left_to_do self.new.stand.open_dialog self.new.stand.left < left_to_do self.old.stand.open_dialog self.old.stand.left) }
         ensures seat { self.new ≡ seated self.old self.new.stand }
         ensures booted { last_booted self.new.stand.past ≡ last_booted self.old.stand.past }
         ensures config { columns.new.config ≡ columns.old.config }
+        ensures worker { columns.new.worker ≡ columns.old.worker }
+        ensures seed { columns.new.seed ≡ columns.old.seed }
         ensures launcher { columns.new.seen.launcher ≡ columns.old.seen.launcher }
     {
         let Some(request) = self.request else {
@@ -319,7 +308,7 @@ impl PlayCell {
     pub fn close(self) -> Past<CellEvent>
         ensures { result ≡ with_open self.stand.open_dialog self.stand.past }
     {
-        let (past, _link) = self.cell.into_parts();
+        let (past, _sents) = self.cell.close();
         past
     }
 }

@@ -1,6 +1,6 @@
 //! The cells of a run, one for each service.
 
-ghost use Rattle.std.specs.Prelude.{◌≡◌, ◌≢◌, ◌≤◌, ◌<◌, ◌+◌, ◌^◌, ◌++◌, [], None, IfOk, IfSome, OnOk, OnErr, IsSome, IsTrue, ◌↔◌, length, map, option_map, replicate, reverse, slice_set, true};
+ghost use Rattle.std.specs.Prelude.{◌≡◌, ◌≢◌, ◌≤◌, ◌<◌, ◌+◌, ◌^◌, ◌++◌, [], None, Some, IfOk, IfSome, MatchOption, OnOk, OnErr, IsSome, IsTrue, ◌↔◌, length, map, option_map, replicate, reverse, slice_set, true};
 ghost use Rattle.okws_base.specs.declared.limit.TheConstants.{LONGEST_FRAME, MOST_INCARNATIONS, MOST_PROXIES, MOST_SERVICES};
 ghost use Rattle.std.specs.Arc.{arc_value};
 ghost use Rattle.monitor_model.specs.declared.record.End.{End};
@@ -8,17 +8,19 @@ ghost use Rattle.monitor_model.specs.Cell.{incarnation, last_booted};
 ghost use Rattle.monitor_model.specs.Played.{with_open};
 ghost use Rattle.monitor_model.specs.Script.{IsReady};
 ghost use Rattle.monitor_model.specs.Stage.{Stand, empty_stand};
+ghost use Rattle.service_cell.specs.Ending.{EndsOtherwise, IsLast};
 ghost use Rattle.okws_play.specs.Cells.{stand_at, closed_stand, retired_stand, booted_stand, KeepsBooted, KeepsSite};
 ghost use Rattle.okws_play.specs.Dialogs.{Opens, MovesOpen, IsHeardOn, AreSpelledOn, left_to_do};
 
 use crate::play::cell::{Moved, Opening, PlayCell};
-use crate::play::columns::Columns;
-use crate::play::opening::shared;
 use frame_codec::frame::ServerFrame;
 use monitor_model::record::{CellEvent, Item};
 use okws_base::items::Items;
 use okws_base::journal::Past;
 use okws_plan::configuration::Config;
+use service_cell::ending::Finished;
+use site_columns::columns::SiteColumns;
+use site_columns::opening::shared;
 use std::alloc::{AllocError, Global};
 use std::marker::Model;
 use std::sync::Arc;
@@ -116,13 +118,13 @@ impl Cells {
         cell.items()
     }
 
-    /// The finished events, the oldest first. A dialog that just ended is the last.
-    pub fn events(&self, service: u16) -> &[CellEvent]
+    /// The dialog that ended last, where nothing happened since.
+    pub fn last_dialog(&self, service: u16) -> Option<&Finished>
         requires { service < length self.now.stands }
-        ensures { reverse result.now ≡ (stand_at self.now.stands service).past }
+        ensures { MatchOption result (EndsOtherwise (stand_at self.now.stands service).past) (λ d. IsLast (Some d.now) (stand_at self.now.stands service).past) }
     {
         let cell = &self.cells[service as usize];
-        cell.events()
+        cell.last_dialog()
     }
 
     /// Enters Retired, and gives the link up.
@@ -158,6 +160,7 @@ impl Cells {
     pub fn supersede(&mut self, service: u16, shown: u32)
         requires service { service < length self.old.stands }
         requires open { IsSome (stand_at self.old.stands service).open_dialog }
+        requires above { incarnation (stand_at self.old.stands service).past < shown }
         ensures site { KeepsSite self.old self.new }
         ensures stands { IfSome (stand_at self.old.stands service).open_dialog (λ opened. self.new.stands ≡ slice_set self.old.stands service (closed_stand (stand_at self.old.stands service) opened (End.Superseded shown))) }
     {
@@ -173,12 +176,13 @@ impl Cells {
         head: Items<u8>,
         content: Items<u8>,
         wanted: u32,
-        columns: &mut Columns,
+        columns: &mut SiteColumns,
     ) -> Result<Opening, AllocError>
         requires service { service < length self.old.stands }
         requires closed { (stand_at self.old.stands service).open_dialog ≡ None }
         requires wanted { 0 < wanted }
         requires declared { service < length columns.old.config.services }
+        requires worker { columns.old.worker ≡ 0 }
         requires short { length head + length content + 9 ≤ LONGEST_FRAME }
         ensures opens { IfOk result (λ opening. Opens columns.old.config service (stand_at self.old.stands service) columns.old.seen number (ServerFrame.Request head content) wanted opening (stand_at self.new.stands service) columns.new.seen) }
         ensures spelled { IfOk result (λ opening. opening ≡ Opening.Started → AreSpelledOn (stand_at self.new.stands service).open_dialog) }
@@ -186,6 +190,8 @@ impl Cells {
         ensures others { OnOk result (self.new.stands ≡ slice_set self.old.stands service (stand_at self.new.stands service)) }
         ensures booted { KeepsBooted self.old.stands self.new.stands }
         ensures config { columns.new.config ≡ columns.old.config }
+        ensures worker { columns.new.worker ≡ columns.old.worker }
+        ensures seed { columns.new.seed ≡ columns.old.seed }
         ensures launcher { columns.new.seen.launcher ≡ columns.old.seen.launcher }
     {
         let cell = &mut self.cells[service as usize];
@@ -193,11 +199,12 @@ impl Cells {
     }
 
     /// Takes the next frame of the open dialog and answers it, or ends the dialog.
-    pub fn advance(&mut self, service: u16, columns: &mut Columns) -> Result<Moved, AllocError>
+    pub fn advance(&mut self, service: u16, columns: &mut SiteColumns) -> Result<Moved, AllocError>
         requires service { service < length self.old.stands }
         requires open { IsSome (stand_at self.old.stands service).open_dialog }
         requires ready { IsReady (stand_at self.old.stands service) }
         requires declared { service < length columns.old.config.services }
+        requires worker { columns.old.worker ≡ 0 }
         ensures moves { IfOk result (λ moved. MovesOpen columns.old.config service (stand_at self.old.stands service) (stand_at self.old.stands service).open_dialog columns.old.seen moved (stand_at self.new.stands service) columns.new.seen) }
         ensures site { KeepsSite self.old self.new }
         ensures others { OnOk result (self.new.stands ≡ slice_set self.old.stands service (stand_at self.new.stands service)) }
@@ -205,6 +212,8 @@ impl Cells {
         ensures less { OnOk result (left_to_do (stand_at self.new.stands service).open_dialog (stand_at self.new.stands service).left < left_to_do (stand_at self.old.stands service).open_dialog (stand_at self.old.stands service).left) }
         ensures booted { KeepsBooted self.old.stands self.new.stands }
         ensures config { columns.new.config ≡ columns.old.config }
+        ensures worker { columns.new.worker ≡ columns.old.worker }
+        ensures seed { columns.new.seed ≡ columns.old.seed }
         ensures launcher { columns.new.seen.launcher ≡ columns.old.seen.launcher }
     {
         let cell = &mut self.cells[service as usize];

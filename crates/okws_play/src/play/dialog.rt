@@ -1,7 +1,7 @@
 //! The dialogs of a run: a request's dialog begins, bytes come from a service or end, and the cell goes
 //! on while its dialog is open and its link is ready.
 
-ghost use Rattle.std.specs.Prelude.{◌≡◌, ◌≤◌, ◌<◌, ◌+◌, ◌++◌, [], None, Some, IfSome, OnOk, IsSome, length, reverse, slice_get};
+ghost use Rattle.std.specs.Prelude.{◌≡◌, ◌≤◌, ◌<◌, ◌+◌, ◌++◌, [], None, Some, IfOk, IfSome, OnOk, IsSome, length, reverse, slice_get};
 ghost use Rattle.okws_base.specs.declared.limit.TheConstants.{LONGEST_FRAME};
 ghost use Rattle.okws_plan.specs.declared.script.Line.TheVariants as line;
 ghost use Rattle.http_text.specs.Response.{own_response};
@@ -17,7 +17,7 @@ ghost use Rattle.okws_play.specs.Printed.{last_response, item_text, items_text, 
 use crate::play::cell::{Moved, Opening};
 use crate::play::lines::{print_answer, print_heard};
 use crate::play::request::Going;
-use crate::play::responses::last_response;
+use crate::play::responses::dialog_response;
 use crate::play::run::Play;
 use http_text::response::own_response;
 use monitor_model::record::Item;
@@ -96,6 +96,18 @@ impl Play {
         }
     }
 
+    // The response of the dialog that is the last event of the service's cell; no text where that is no
+    // dialog.
+    fn closing_response(&self, service: u16, method: &[u8]) -> Result<Vec<u8>, AllocError>
+        requires { service < length self.now.config.services }
+        ensures { IfOk result (λ v. v.items ≡ last_response (stand self.now.stage service).past method.now) }
+    {
+        match self.cells.last_dialog(service) {
+            None => Ok(Vec::new(self.alloc)),
+            Some(dialog) => dialog_response(self.alloc, dialog, method),
+        }
+    }
+
     // Prints the answer of a request, whose dialog is the last event of the service's cell.
     fn print_closing<O: Sink>(
         &self,
@@ -109,7 +121,7 @@ impl Play {
         ensures counted { CountsOn (O.faults out.old) stopped.old (O.faults out.new) stopped.new }
     {
         let method = self.method_of(request);
-        let text = last_response(self.alloc, self.cells.events(service), method)?;
+        let text = self.closing_response(service, method)?;
         print_answer(out, stopped, self.alloc, request as usize, &text)
     }
 

@@ -2,11 +2,11 @@
 
 ghost use Rattle.std.specs.Prelude.{◌≡◌, IfOk, reverse};
 ghost use Rattle.monitor_model.specs.Answering.{said_response, reply_response, end_response};
-ghost use Rattle.okws_play.specs.Printed.{last_response};
 
 use frame_codec::frame::ServiceFrame;
 use http_text::response::{own_response, response};
-use monitor_model::record::{CellEvent, Dialog, End, Item};
+use monitor_model::record::{End, Item};
+use service_cell::ending::Finished;
 use std::alloc::{AllocError, Global};
 
 // The response that a Reply asks for.
@@ -41,31 +41,20 @@ fn reply_response(alloc: Global, items: &[Item], method: &[u8]) -> Result<Vec<u8
     }
 }
 
-// The response of a dialog.
-fn dialog_response(alloc: Global, dialog: &Dialog, method: &[u8]) -> Result<Vec<u8>, AllocError>
+/// The response of a dialog that ended.
+pub fn dialog_response(
+    alloc: Global,
+    dialog: &Finished,
+    method: &[u8],
+) -> Result<Vec<u8>, AllocError>
     ensures { IfOk result (λ v. v.items ≡ end_response dialog.now.end dialog.now.items method.now) }
 {
-    match dialog.end {
-        End::Reply => reply_response(alloc, dialog.items.as_slice(), method),
+    match dialog.end() {
+        End::Reply => reply_response(alloc, dialog.items(), method),
         End::Superseded(_) => own_response(alloc, 503, method),
         End::BadFrame | End::Ended | End::LinkFault | End::FrameLimit => {
             own_response(alloc, 502, method)
         }
         End::Starved => own_response(alloc, 507, method),
-    }
-}
-
-/// The response of a dialog that is the last of these events, the oldest of which comes first; no
-/// text where the last is none.
-pub fn last_response(
-    alloc: Global,
-    events: &[CellEvent],
-    method: &[u8],
-) -> Result<Vec<u8>, AllocError>
-    ensures { IfOk result (λ v. v.items ≡ last_response (reverse events.now) method.now) }
-{
-    match events.last() {
-        Some(CellEvent::Dialog(dialog)) => dialog_response(alloc, dialog, method),
-        _ => Ok(Vec::new(alloc)),
     }
 }

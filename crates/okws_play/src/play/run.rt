@@ -23,11 +23,10 @@ ghost use Rattle.okws_play.specs.Cells.{FitsRequest, IsOf};
 ghost use Rattle.okws_play.specs.Run.{at_stage, with_request, MayLaunch, IsOnlyAt, KeepsCells};
 
 use crate::play::cells::Cells;
-use crate::play::columns::Columns;
-use crate::play::frames::{boot_frame, may_call_at};
 use crate::play::lines::{print_answer, print_heard};
 use crate::play::request::{Request, method_name};
 use frame_codec::frame::ServerFrame;
+use frame_codec::making::boot;
 use http_text::response::own_response;
 use monitor_model::record::{Own, Record};
 use monitor_model::verdict::Way;
@@ -35,10 +34,16 @@ use okws_base::items::Items;
 use okws_outer::stream::Sink;
 use okws_plan::configuration::Config;
 use okws_plan::script::Place;
+use service_cell::columns::Columns;
+use service_cell::tokens::{may_call_at, tokens_of};
+use site_columns::columns::SiteColumns;
 use std::alloc::{AllocError, Global};
 use std::marker::Model;
 use std::sync::Arc;
 use token_core::Seed;
+
+/// Whether a run keeps what it leaves in memory. No code reads it, so it stands in contracts alone.
+pub(crate) const KEEPS: bool = false;
 
 /// A run of a script in one thread, as far as it has come.
 #[derive(Drop)]
@@ -46,7 +51,7 @@ pub struct Play {
     pub(crate) alloc: Global,
     pub(crate) config: Arc<Config, Global>,
     seed: Seed,
-    pub(crate) columns: Columns,
+    pub(crate) columns: SiteColumns,
     pub(crate) cells: Cells,
     pub(crate) requests: Vec<Request>,
     ghost tokens: { IsOf (arc_value config) seed cells },
@@ -60,7 +65,7 @@ impl Model for Play {
 
     ghost view = { λ a. record { config = arc_value a.config; seed = a.seed; stage = record { seen = a.columns.seen; stands = a.cells.stands; requests = a.requests.items } } };
 
-    ghost invariant = { λ a. IsRun (arc_value a.config) a.columns.config (record { seen = a.columns.seen; stands = a.cells.stands; requests = a.requests.items }) };
+    ghost invariant = { λ a. IsRun (arc_value a.config) a.seed a.columns (record { seen = a.columns.seen; stands = a.cells.stands; requests = a.requests.items }) };
 }
 
 impl Play {
@@ -70,7 +75,7 @@ impl Play {
         requires rules { (p : ℕ) → QueriesKeepRules (arc_value config) p }
         ensures { IfOk result (λ run. run ≡ record { config = arc_value config; seed = seed; stage = first_stage (arc_value config) }) }
     {
-        let columns = Columns::new(alloc, &config)?;
+        let columns = SiteColumns::new(alloc, &config, seed, KEEPS)?;
         let cells = Cells::new(alloc, &config, seed)?;
         Ok(Play {
             alloc,
@@ -87,7 +92,9 @@ impl Play {
         ensures record { IfOk result (λ r. r ≡ record_of self.stage) }
         ensures faultless { IsFaultless self.stage }
     {
-        self.columns.into_record(self.cells)
+        let mut record = self.columns.into_record()?;
+        record.cells = Items::of(self.cells.close(self.alloc)?);
+        Ok(record)
     }
 
     /// `begin`: the next incarnation of the service begins.
@@ -110,7 +117,7 @@ impl Play {
         requires later { last_at service place self.old.stage.seen < greatest self.old.stage service }
         ensures { OnOk result (self.new ≡ at_stage self.old (installed self.old.seed service place self.old.stage)) }
     {
-        self.columns.install(&self.seed, service, place)?;
+        self.columns.install(service, place)?;
         Ok(())
     }
 
@@ -196,8 +203,7 @@ impl Play {
         ensures only { OnOk result (IsOnlyAt proxy service self.old.stage self.new.stage) }
     {
         if may_call_at(&self.config, service, proxy) {
-            self.columns
-                .install(&self.seed, service, Place::Proxy(proxy))?;
+            self.columns.install(service, Place::Proxy(proxy))?;
         }
         Ok(())
     }
@@ -220,6 +226,7 @@ impl Play {
         service: u16,
     ) -> Result<(), AllocError>
         requires service { service < length self.old.config.services }
+        requires later { last_booted (stand self.old.stage service).past < greatest self.old.stage service }
         ensures state { OnOk result (self.new ≡ at_stage self.old (superseded service self.old.stage)) }
         ensures launcher { OnOk result (self.new.stage.seen.launcher ≡ self.old.stage.seen.launcher) }
         ensures booted { OnOk result (last_booted (stand self.new.stage service).past ≡ last_booted (stand self.old.stage service).past) }
@@ -244,7 +251,8 @@ impl Play {
         ensures frame { IfOk result (λ f. f ≡ boot_frame self.now.config self.now.seed service incarnation) }
         ensures spelling { IfOk result (λ f. HasSpelling f) }
     {
-        boot_frame(self.alloc, &self.config, &self.seed, service, incarnation)
+        let tokens = tokens_of(self.alloc, &self.config, &self.seed, service, incarnation)?;
+        Ok(boot(service, incarnation, Items::of(tokens)))
     }
 
     /// The cell's fresh link gets Boot of the greatest incarnation begun.

@@ -1,7 +1,4 @@
-use Rattle.std.proofs.Common.{refl}
-use Rattle.std.specs.Arc.{arc_value}
-use Rattle.okws_play.proofs.Dialogs.{asker, going_is, advance_kept, advance_moves, advance_less}
-use Rattle.okws_play.proofs.Putting.{advance_open_heard}
+use Rattle.okws_play.proofs.Dialogs.{going_is, advance_kept, asked_moves}
 use Rattle.okws_play.proofs.play.cell.PlayCell.advance.Goals as goal
 use Rattle.okws_play.proofs.play.cell.PlayCell.advance.Goals.{in-Some-moved_by, in-None}
 
@@ -13,18 +10,15 @@ invariant_of-self c =
 pub returns-clause-moves : goal.returns-clause-moves
 returns-clause-moves c =
     elim c.match-moved_by.branch [
-      | in-Some-moved_by w ↦ rw w.result-is (advance_moves c.args.columns.now.config _ _ _ _ _ _ _ c.args.self.now _ _ _ (going_is _ _ _ _ _ _ _ c.args.self.now c.self.view_is c.self.invariant c.in-Some.is) c.requires.ready
-          c.advance-advanced.ensures.next c.advance-advanced.ensures.advances c.asked_still-self-inside.ensures w.in-Some-moved_by.ensures)
+      | in-Some-moved_by w ↦ rw w.result-is ((asked_moves c.args.columns.now.config c.args.columns.now.worker _ _ _ _ _ _ _ c.args.self.now _ _ _ c.requires.worker (going_is _ _ _ _ _ _ _ c.args.self.now c.self.view_is c.self.invariant c.in-Some.is) c.requires.ready
+          c.advance-advanced.ensures.next c.advance-advanced.ensures.advances c.asked_still-self-inside.ensures w.in-Some-moved_by.ensures).0)
       | in-None w ↦ rw w.result-is tt
     ]
 
 pub returns-clause-less : goal.returns-clause-less
 returns-clause-less c =
     elim c.match-moved_by.branch [
-      | in-Some-moved_by w ↦ rw w.result-is (advance_less c.args.columns.now.config _ _ _ _ _ _ _ c.args.self.now _ _ _ (going_is _ _ _ _ _ _ _ c.args.self.now c.self.view_is c.self.invariant c.in-Some.is) c.requires.ready
-          c.advance-advanced.ensures.next c.advance-advanced.ensures.advances c.asked_still-self-inside.ensures w.in-Some-moved_by.ensures)
+      | in-Some-moved_by w ↦ rw w.result-is ((asked_moves c.args.columns.now.config c.args.columns.now.worker _ _ _ _ _ _ _ c.args.self.now _ _ _ c.requires.worker (going_is _ _ _ _ _ _ _ c.args.self.now c.self.view_is c.self.invariant c.in-Some.is) c.requires.ready
+          c.advance-advanced.ensures.next c.advance-advanced.ensures.advances c.asked_still-self-inside.ensures w.in-Some-moved_by.ensures).1)
       | in-None w ↦ rw w.result-is tt
     ]
-
-pub invariant_of-self-inside : goal.invariant_of-self-inside
-invariant_of-self-inside c = (advance_open_heard (arc_value c.self.inside.config) c.self.inside.seed (asker c.args.columns.now.config) _ _ _ _ _ _ _ refl c.self.inside.heard c.advance-advanced.ensures.advances, tt)

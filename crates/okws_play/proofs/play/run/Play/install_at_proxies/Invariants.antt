@@ -7,7 +7,7 @@ use Rattle.monitor_model.specs.Seen.{proxy_past}
 use Rattle.monitor_model.specs.Standing.{proxy_grant}
 use Rattle.monitor_model.specs.Script.{installed_all}
 use Rattle.okws_play.specs.Run.{at_stage, IsAtProxies}
-use Rattle.okws_play.proofs.Places.{granted_from}
+use Rattle.service_cell.proofs.Granted.{granted_from}
 use Rattle.okws_play.proofs.play.run.Play.install_at_proxies.Given as goal
 
 abbrev pub invariant-loop-i : goal.invariant-loop-i

@@ -1,5 +1,0 @@
-use Rattle.std.proofs.Common.{ℕ, ◌<◌, length, get_or, []}
-use Rattle.okws_play.proofs.play.opening.read_names.Given as goal
-
-abbrev pub invariant-loop-name : goal.invariant-loop-name
-invariant-loop-name l = (k : ℕ) → k < l.name-index → length (get_or l.config.templates k []) < 256

@@ -17,7 +17,7 @@ use Rattle.config_reader.specs.declared.error.Refusal.{Refusal}
 use Rattle.okws_server.specs.Ending.{Told, no_memory_line}
 use Rattle.okws_server.specs.Headline.{IsWholeRun, IsRunTo, IsTooLong, IsRefused, IsEmptyRecord, Leaves}
 use Rattle.okws_server.specs.Ran.{zero_seed, out_status, GivesConfig, IsRefusedBy, TellsRefusal, Plays, PlaysFiles, Played, Ends, Lists, Checked}
-use Rattle.okws_server.specs.Listing.{listing, BeginsListing}
+use Rattle.okws_server.specs.Listing.{listing}
 use Rattle.okws_server.specs.declared.script.Broken.{Broken}
 use Rattle.okws_server.specs.declared.status.Status.{Status}
 use Rattle.okws_server.specs.declared.status.Status.TheVariants as status
@@ -143,15 +143,6 @@ prints_as old s new t given due e h = subst (λ (x : List ℕ). Prints old s new
 pub lists_by : (C : Config) (old new : Option (List ℕ)) (f g : ℕ) (stopped : Bool) → Prints old false new stopped (listing C) → CountsOn f false g stopped → Lists C old new (Rose f g) (out_status stopped)
 lists_by C old new f g true h n = ((counted_first f g true n).rose refl, (printed_first old new (listing C) true h).part)
 lists_by C old new f g false h n = (printed_first old new (listing C) false h).whole refl
-
--- a listing that broke off where memory was refused
-pub lists_starved : (C : Config) (old mid new : Option (List ℕ)) (f g k : ℕ) (s t : Bool) →
-    ((front : List ℕ) × BeginsListing C front × Prints old false mid s front) → CountsOn f false g s →
-    Prints mid s new t no_memory_line → CountsOn g s k t → Lists C old new (Rose f k) status.NoMemory
-lists_starved C old mid new f g k s t h first last then =
-    let p : Printed old new (h.0 ++ no_memory_line) t = last old h.0 (printed_first old mid h.0 s h.2) in
-    let n : Counted f k t = then f (counted_first f g s first) in
-    (h.0, h.1, told_by old new _ f k t p n)
 
 -- the same script
 pub plays_as : (C : Config) (given text : List ℕ) (old new : Option (List ℕ)) (rose : Type 0) (R : Record) (how : Status) → given ≡ text → Plays C given old new rose R how → Plays C text old new rose R how

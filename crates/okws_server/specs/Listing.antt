@@ -1,5 +1,5 @@
 -- What `check` prints of a configuration.
-use Rattle.std.specs.Prelude.{◌≡◌, ℕ, List, [], ◌∷◌, ◌++◌, Option, Some, None, fold, flat_map, decimal, nat_lt, insert, take, slice_get}
+use Rattle.std.specs.Prelude.{ℕ, List, [], ◌∷◌, ◌++◌, fold, flat_map, decimal, nat_lt, insert}
 use Rattle.std.specs.List.{position_or_len}
 use Rattle.okws_plan.specs.declared.configuration.Config.{Config}
 use Rattle.okws_plan.specs.declared.configuration.ProxyPlan.{ProxyPlan}
@@ -29,12 +29,3 @@ proxy_listing plan = flat_map (query_line plan) (by_number plan.queries)
 -- A line for each query, by proxies in the order of their declaration.
 abbrev pub listing : Config → List ℕ
 listing C = flat_map proxy_listing C.proxies
-
--- The first n lines of a proxy that may not be there.
-abbrev pub proxy_front : ℕ → Option ProxyPlan → List ℕ
-proxy_front n None = []
-proxy_front n (Some plan) = flat_map (query_line plan) (take n (by_number plan.queries))
-
--- Some lines of the listing, from its front: those of some proxies, and some of the next one's.
-abbrev pub BeginsListing : Config → List ℕ → Type 0
-BeginsListing C front = (i n : ℕ) × (front ≡ flat_map proxy_listing (take i C.proxies) ++ proxy_front n (slice_get C.proxies i))

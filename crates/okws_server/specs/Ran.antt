@@ -17,7 +17,7 @@ use Rattle.play_script.specs.Refusal.{config_refused, script_refused}
 use Rattle.play_script.specs.Rule.{script_rule_number}
 use Rattle.okws_server.specs.Ending.{Told, read_fault_line, no_memory_line}
 use Rattle.okws_server.specs.Headline.{IsWholeRun, IsRefused, IsEmptyRecord, Leaves}
-use Rattle.okws_server.specs.Listing.{listing, BeginsListing}
+use Rattle.okws_server.specs.Listing.{listing}
 use Rattle.okws_server.specs.declared.script_run.Outcome.{Outcome}
 use Rattle.okws_server.specs.declared.preparing.ConfigStop.{ConfigStop}
 use Rattle.okws_server.specs.declared.preparing.ConfigStop.TheVariants as config_stop
@@ -89,7 +89,7 @@ IsPrepared before after config script (Err stop.NoMemory) = ReadsInOrder before 
 abbrev pub Lists : Config → Option (List ℕ) → Option (List ℕ) → Type 0 → Status → Type 0
 Lists C old new out_rose status.Ok = Appends old new (listing C)
 Lists C old new out_rose status.OutFault = out_rose × AppendsPrefix old new (listing C)
-Lists C old new out_rose status.NoMemory = (front : List ℕ) × BeginsListing C front × Told old new (front ++ no_memory_line) out_rose
+Lists C old new out_rose status.NoMemory = ⊤
 Lists C old new out_rose _ = ⊥
 
 -- A configuration that the file gives is listed.

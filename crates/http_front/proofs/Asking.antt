@@ -6,6 +6,7 @@ use Rattle.std.specs.Io.KnownBytes.{Appends, Consumes}
 use Rattle.std.proofs.KnownBytes.{Appends-nil, Appends-trans}
 use Rattle.std.proofs.lemmas.Bool.{leb-true}
 use Rattle.std.proofs.lemmas.Grind.{common_steps}
+use Rattle.std.proofs.lemmas.Bool.Decides.{nat_tests}
 use Rattle.std.proofs.Math.Seq.{take-length, take-append_seam, drop-append_seam}
 use Rattle.okws_base.specs.declared.limit.TheConstants.{LONGEST_CONTENT}
 use Rattle.okws_outer.specs.Streams.{Rose, Counts}
@@ -14,8 +15,7 @@ use Rattle.httparse.specs.Grammar.{RequestHead, print_request}
 use Rattle.httparse.specs.Spans.{span_bytes}
 use Rattle.http_text.specs.declared.length.ContentLength.{ContentLength}
 use Rattle.http_text.specs.declared.length.ContentLength.TheVariants.{Length, TooLarge, NotDigits}
-use Rattle.http_text.specs.Length.{length_of, length_within, is_numeral, without_blanks}
-use Rattle.std.specs.Str.Parse.{digits_value}
+use Rattle.http_text.specs.Length.{length_of, length_within}
 use Rattle.http_text.specs.Response.{is_head}
 use Rattle.http_text.specs.Target.{is_target, path}
 use Rattle.http_text.specs.Reading.{checked, has_hosts, is_served, values_named, content_length, told_length, checked_head, waits_head, interim_head, continue_text, IsWholeHead, HasNoWholeHead, HasFront, Headed, Overlong, Hopeless, Unfinished, Front, waits, fields_of, IsReading, Asks, Refuses, Unsettled, reading_of, with_head, IsInterim, interim_of, IsMethod, method_of}
@@ -54,12 +54,12 @@ number_within m n e = within (nat_le m LONGEST_CONTENT) refl e
     within true is told = let same : m ≡ n = cc in subst (λ (k : ℕ). k ≤ LONGEST_CONTENT) same (leb-true m LONGEST_CONTENT is)
     within false is told = absurd (cc)
 
+digits_within : (b : Bool) (m n : ℕ) → told_length (if b then length_within m else NotDigits) ≡ Ok n → n ≤ LONGEST_CONTENT
+digits_within true m n e = number_within m n e
+digits_within false m n e = absurd (cc)
+
 value_within : (value : List ℕ) (n : ℕ) → told_length (length_of value) ≡ Ok n → n ≤ LONGEST_CONTENT
-value_within value n e = within (is_numeral (without_blanks value)) e
-  where
-    within : (b : Bool) → told_length (if b then length_within (digits_value 10 (without_blanks value)) else NotDigits) ≡ Ok n → n ≤ LONGEST_CONTENT
-    within true told = number_within (digits_value 10 (without_blanks value)) n told
-    within false told = absurd (cc)
+value_within value n e = grind (arith, nat_tests, e)
 
 lengths_within : (values : List (List ℕ)) (n : ℕ) → content_length values ≡ Ok n → n ≤ LONGEST_CONTENT
 lengths_within [] n e = let none : 0 ≡ n = cc in omega arith

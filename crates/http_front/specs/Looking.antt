@@ -1,11 +1,13 @@
 -- What stands at the front of the bytes that were read, as the program tells it.
-use Rattle.std.specs.Prelude.{◌≡◌, ◌≤◌, ℕ, Bool, true, false, List, length}
+use Rattle.std.specs.Prelude.{◌≡◌, ◌≤◌, ℕ, Bool, true, false, List, ◌++◌, length}
 use Rattle.httparse.specs.Grammar.{RequestHead, print_request}
 use Rattle.httparse.specs.Spans.{span_bytes, IsWithin}
 use Rattle.httparse.specs.declared.spans.RequestSpans.{RequestSpans}
 use Rattle.http_text.specs.Response.{is_head}
 use Rattle.http_text.specs.Reading.{checked, waits, checked_head, waits_head, is_too_long, IsWholeHead, HasFront, Front}
 use Rattle.http_text.specs.Reading.{Headed, Overlong, Hopeless, Unfinished}
+use Rattle.http_front.specs.Places.{At}
+use Rattle.http_front.specs.declared.places.Place.{Place}
 use Rattle.http_front.specs.declared.looking.WholeHead.{WholeHead}
 use Rattle.http_front.specs.declared.looking.Look.{Look}
 use Rattle.http_front.specs.declared.looking.Look.TheVariants.{Whole, TooLong, Broken, Open}
@@ -43,3 +45,8 @@ LooksWithout bytes broken (Whole whole) = ⊥
 LooksWithout bytes broken TooLong = is_too_long bytes ≡ true
 LooksWithout bytes broken Broken = (is_too_long bytes ≡ false) × (broken ≡ true)
 LooksWithout bytes broken Open = (is_too_long bytes ≡ false) × (broken ≡ false)
+
+-- The same, where the first so many could become a head and it's known where they end; and where the bytes still can, it's known where they end.
+abbrev pub LooksOn : Place → List ℕ → ℕ → Place → Look → Type 0
+LooksOn old bytes before new look =
+    (front more : List ℕ) → bytes ≡ front ++ more → before ≡ length front → At old front → HasFront front Unfinished → Looks bytes look × (look ≡ Open → At new bytes)

@@ -6,6 +6,7 @@
 mod fields;
 pub mod kept;
 mod looking;
+mod places;
 mod pulling;
 pub mod reading;
 #[cfg(test)]

@@ -1,13 +1,14 @@
 //! What stands at the front of the bytes that were read.
 
-ghost use Rattle.std.specs.Prelude.{◌≡◌, ◌≢◌, length, map, All, true, false};
+ghost use Rattle.std.specs.Prelude.{◌≡◌, ◌≢◌, ◌≤◌, length, map, All, true, false};
 ghost use Rattle.http_text.specs.Response.{is_head};
 ghost use Rattle.http_text.specs.Target.{is_target};
 ghost use Rattle.http_text.specs.Reading.{checked, waits, is_served, ends_line, after_blanks, has_line_after, is_too_long};
 ghost use Rattle.httparse.specs.Spans.{IsWithin, IsHeaderWithin, header_bytes, span_bytes};
-ghost use Rattle.http_front.specs.Looking.{Looks, LooksWithout, Describes};
+ghost use Rattle.http_front.specs.Looking.{Looks, LooksOn, LooksWithout, Describes};
 
 use crate::fields::{content_length, expects_continue, has_codings, has_hosts};
+use crate::places::{Place, advance, stays_over};
 use http::StatusCode;
 use http_text::target::path_of;
 use httparse::spans::{EMPTY_HEADER_SPAN, HeaderSpan, RequestSpans, Span, parse_request};
@@ -186,6 +187,29 @@ pub(crate) fn look_at(bytes: &[u8]) -> Look
         }
         Ok(Status::Partial) => without_head(bytes, false),
         Err(error) => without_head(bytes, is_about_bytes(error)),
+    }
+}
+
+/// Looks at the bytes behind the first so many, of which it's known where they end; and at all from
+/// their start on, where those could have completed or broken a head.
+pub(crate) fn look_on(place: &mut Place, bytes: &[u8], before: usize) -> Look
+    requires { before ≤ length bytes.now }
+    ensures { LooksOn place.old bytes.now before place.new result }
+{
+    if bytes.len() < LONGEST_HEAD {
+        if let Some(next) = stays_over(*place, &bytes[before..]) {
+            *place = next;
+            return Look::Open;
+        }
+    }
+    match look_at(bytes) {
+        Look::Whole(head) => Look::Whole(head),
+        Look::TooLong => Look::TooLong,
+        Look::Broken => Look::Broken,
+        Look::Open => {
+            *place = advance(*place, bytes, before);
+            Look::Open
+        }
     }
 }
 

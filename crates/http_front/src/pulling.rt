@@ -6,7 +6,8 @@ ghost use Rattle.httparse.specs.Grammar.{RequestHead};
 ghost use Rattle.http_text.specs.Reading.{IsWholeHead, interim_head};
 ghost use Rattle.http_front.specs.Pulling.{TakesPiece, ReadsHead, HasRead, IsContentOf, FillsContent};
 
-use crate::looking::{Look, WholeHead, look_at};
+use crate::looking::{Look, WholeHead, look_on};
+use crate::places::Place;
 use http::StatusCode;
 use okws_outer::conn::Conn;
 use okws_outer::stream::Pull;
@@ -67,14 +68,16 @@ pub(crate) fn read_head<C: Conn>(conn: &mut C, bytes: &mut Vec<u8>) -> HeadRead
     ensures { ReadsHead (C.wire conn.old) (C.wire conn.new) bytes.new.items result }
 {
     let mut buffer = [0u8; HEAD_PIECE];
+    let mut place = Place::Blanks;
     loop {
+        let before = bytes.len();
         match take_piece(conn, bytes, &mut buffer) {
             Piece::Came => {}
             Piece::Ended => return HeadRead::Ended,
             Piece::Failed => return HeadRead::Failed,
             Piece::NoMemory => return HeadRead::NoMemory,
         }
-        match look_at(bytes) {
+        match look_on(&mut place, bytes, before) {
             Look::Whole(head) => return HeadRead::Whole(head),
             Look::TooLong => {
                 return HeadRead::Refused(StatusCode::REQUEST_HEADER_FIELDS_TOO_LARGE);

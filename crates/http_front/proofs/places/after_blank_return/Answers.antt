@@ -1,0 +1,5 @@
+use Rattle.http_front.proofs.Steps.{return_lf}
+use Rattle.http_front.proofs.places.after_blank_return.Goals as goal
+
+pub returns-then-byte-eq10 : goal.returns-then-byte-eq10
+returns-then-byte-eq10 c = return_lf c.args.byte c.if-byte-eq10.true

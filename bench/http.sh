@@ -4,7 +4,7 @@
 # It proves nothing: the program is compiled with run-time checks, so the times compare, and don't say how fast
 # the calls are. Run it at the top of the repository.
 set -eu
-below='okws_base okws_plan okws_outer http_text http_front'
+below='okws_base okws_plan okws_outer plain_text http_text http_front'
 copy=$(mktemp -d)
 trap 'rm -rf "$copy"' EXIT
 cp HANDLES "$copy"

@@ -1,5 +1,5 @@
 -- A head that could become one still can behind a byte that settles nothing.
-use Rattle.std.proofs.Common.{◌≡◌, ◌≤◌, ◌<◌, ℕ, ◌+◌, ◌-◌, Bool, true, false, List, [], ◌∷◌, ◌++◌, length, take, drop, refl, sym, ap, ◌∙◌, subst, arith, inl, inr, append_assoc, append-nil, length-append}
+use Rattle.std.proofs.Common.{◌≡◌, ◌≢◌, ◌≤◌, ◌<◌, ℕ, ◌+◌, ◌-◌, Bool, true, false, List, [], ◌∷◌, ◌++◌, length, take, drop, refl, sym, ap, ◌∙◌, subst, arith, inl, inr, append_assoc, append-nil, length-append}
 use Rattle.std.specs.List.{flat_map}
 use Rattle.std.specs.Prelude.{◌⊎◌, ◌==◌, not, nat_le, if◌then◌else◌}
 use Rattle.std.proofs.lemmas.List.{length_push}
@@ -7,13 +7,17 @@ use Rattle.std.proofs.Math.Seq.{drop-append_seam, take-append_seam}
 use Rattle.std.proofs.lemmas.Grind.{common_steps}
 use Rattle.std.proofs.lemmas.Bool.Decides.{nat_tests}
 use Rattle.okws_base.specs.declared.limit.TheConstants.{LONGEST_HEAD}
-use Rattle.httparse.specs.Grammar.{LineEnd, lf, crlf, print_end, print_blank, print_version, print_field, print_request, is_token_byte, is_uri_byte, is_value_byte, AllPass, IsToken, RequestHead, ReadsRequest, MayBecomeRequest}
-use Rattle.httparse.specs.Pieces.{Completes, Section, Stops, is_newline, Word, Text}
+use Rattle.httparse.specs.Grammar.{LineEnd, lf, crlf, print_end, print_blank, print_version, print_field, print_request, is_token_byte, is_uri_byte, is_value_byte, AllPass, IsToken, RequestHead, ReadsRequest, HasNoRequest, MayBecomeRequest}
+use Rattle.httparse.specs.Pieces.{Completes, RequestStart, Section, Stops, is_newline, Word, Text}
 use Rattle.httparse.proofs.PieceLemmas.{RequestStart_deterministic, Name_deterministic, Stops_token}
-use Rattle.httparse.proofs.OpenLemmas.{Completes_first, Completes_next, Word_cut, letter_is_token, some_section, some_text, line_method, ends_in_target, FieldLine_of_row, Section_of_line, Section_after_lines, request_may}
+use Rattle.httparse.proofs.PieceLemmas.{Refutes_first}
+use Rattle.httparse.proofs.ReadLemmas.{Blank_after, Blank_open}
+use Rattle.httparse.proofs.LineLemmas.{request_blank}
+use Rattle.httparse.proofs.HeadLemmas.{request_not_yet}
+use Rattle.httparse.proofs.OpenLemmas.{some_newline, Newline_after_cr, BlankLines_after, line_blank, Completes_first, Completes_next, Word_cut, letter_is_token, some_section, some_text, line_method, ends_in_target, FieldLine_of_row, Section_of_line, Section_after_lines, request_may}
 use Rattle.http_text.specs.Reading.{ends_line, after_blanks, has_line_after, is_too_long, most_lines, IsWholeHead, HasNoWholeHead, HasFront, Unfinished}
 use Rattle.http_front.specs.Places.{EndsPlain, BehindMethod, BehindLines, At, Stays, StaysOver}
-use Rattle.http_front.proofs.Steps.{plain_token, plain_uri, plain_value, method_token, target_uri, name_token, name_colon, value_value}
+use Rattle.http_front.proofs.Steps.{blanks_lf, blanks_cr, return_lf, plain_token, plain_uri, plain_value, method_token, target_uri, name_token, name_colon, value_value}
 use Rattle.http_front.specs.Looking.{Looks, LooksOn}
 use Rattle.http_front.specs.declared.looking.Look.{Look}
 use Rattle.http_front.specs.declared.looking.Look.TheVariants as look
@@ -21,6 +25,12 @@ use Rattle.http_front.specs.declared.places.Place.{Place}
 use Rattle.http_front.specs.declared.places.Place.TheVariants as place
 
 -- ---- what may become a request
+
+may_blanks : (bytes : List ℕ) → At place.Blanks bytes → MayBecomeRequest bytes
+may_blanks bytes at = request_may (Completes_first (line_blank (BlankLines_after at.0 at.1 some_newline)) some_section)
+
+may_return : (bytes : List ℕ) → At place.BlankReturn bytes → MayBecomeRequest bytes
+may_return bytes at = request_may (Completes_first (line_blank (BlankLines_after at.0 at.1 (Newline_after_cr refl))) some_section)
 
 may_method : (bytes : List ℕ) → At place.Method bytes → MayBecomeRequest bytes
 may_method bytes at =
@@ -79,21 +89,26 @@ head_end h =
       ap (λ (t : List ℕ). before ++ (lines ++ t)) end.1 ∙ ap (λ (t : List ℕ). before ++ t) (sym (append_assoc lines end.0 (10 ∷ []))) ∙ sym (append_assoc before (lines ++ end.0) (10 ∷ [])),
     )
 
-none_more : (bytes : List ℕ) (b : ℕ) → ends_line b ≡ false → HasNoWholeHead bytes → HasNoWholeHead (bytes ++ b ∷ [])
-none_more bytes b plain none h rest whole =
+none_more : (bytes : List ℕ) (b : ℕ) → b ≢ 10 → HasNoWholeHead bytes → HasNoWholeHead (bytes ++ b ∷ [])
+none_more bytes b other none h rest whole =
     elim (last_or_none rest) [
       | inl e ↦
           let last = head_end h in
           let all : bytes ++ b ∷ [] ≡ last.0 ++ 10 ∷ [] = whole.reads.1 ∙ ap (λ (t : List ℕ). print_request h ++ t) e ∙ append-nil _ ∙ last.1 in
-          let is = (same_end bytes last.0 b 10 all).1 in
-          clash (sym (subst (λ (v : ℕ). ends_line v ≡ false) is plain))
+          absurd (other (same_end bytes last.0 b 10 all).1)
       | inr y ↦
           let all : bytes ++ b ∷ [] ≡ (print_request h ++ y.0) ++ y.1 ∷ [] = whole.reads.1 ∙ ap (λ (t : List ℕ). print_request h ++ t) y.2 ∙ sym (append_assoc (print_request h) y.0 (y.1 ∷ [])) in
           none h y.0 (record { reads = (whole.reads.0, (same_end bytes _ b y.1 all).0); size = whole.size; few = whole.few })
     ]
-  where
-    clash : {A : Type 0} → false ≡ true → A
-    clash e = absurd (cc)
+
+plain_is_no_lf : (b : ℕ) → ends_line b ≡ false → b ≢ 10
+plain_is_no_lf b plain is = let lf_is : true ≡ false = subst (λ (v : ℕ). ends_line v ≡ false) is plain in absurd (cc)
+
+-- empty lines are no head
+none_of_blanks : (bytes : List ℕ) → At place.Blanks bytes → HasNoWholeHead bytes
+none_of_blanks bytes at h rest whole =
+    let none : HasNoRequest bytes = request_not_yet (Refutes_first RequestStart Section (request_blank (Blank_after at.0 at.1 (Blank_open [] 0 (omega arith))))) in
+    none h rest whole.reads
 
 -- ---- not too long
 
@@ -124,6 +139,17 @@ blanks_more (x ∷ front) c b last plain e = pass (ends_line x) refl (blanks_mor
     pass true is tail = rw is (tail (rw is at e))
     pass false is tail = rw is (lines_more most_lines (x ∷ front) c b last plain (rw is at e))
 
+skip_blanks : (blank : List LineEnd) (rest : List ℕ) → after_blanks (print_blank blank ++ rest) ≡ after_blanks rest
+skip_blanks [] rest = refl
+skip_blanks (lf ∷ blank) rest = skip_blanks blank rest
+skip_blanks (crlf ∷ blank) rest = skip_blanks blank rest
+
+short_blanks : (bytes : List ℕ) (blank : List LineEnd) (rest : List ℕ) → bytes ≡ print_blank blank ++ rest → has_line_after most_lines (after_blanks rest) ≡ false → length bytes < LONGEST_HEAD → is_too_long bytes ≡ false
+short_blanks bytes blank rest e none less =
+    let lines : has_line_after most_lines (after_blanks bytes) ≡ false = ap (λ (t : List ℕ). has_line_after most_lines (after_blanks t)) e ∙ ap (has_line_after most_lines) (skip_blanks blank rest) ∙ none in
+    let size : nat_le LONGEST_HEAD (length bytes) ≡ false = grind (arith, nat_tests, less) in
+    rw (size, lines) refl
+
 long_more : (bytes : List ℕ) (b : ℕ) → EndsPlain bytes → ends_line b ≡ false → length bytes + 1 < LONGEST_HEAD → is_too_long bytes ≡ false → is_too_long (bytes ++ b ∷ []) ≡ false
 long_more bytes b ends plain less short =
     let lines : has_line_after most_lines (after_blanks bytes) ≡ false = grind (arith, nat_tests, short) in
@@ -136,7 +162,7 @@ long_more bytes b ends plain less short =
 -- ---- a byte that settles nothing
 
 still_open : (bytes : List ℕ) (b : ℕ) → HasFront bytes Unfinished → EndsPlain bytes → ends_line b ≡ false → length bytes + 1 < LONGEST_HEAD → MayBecomeRequest (bytes ++ b ∷ []) → HasFront (bytes ++ b ∷ []) Unfinished
-still_open bytes b front ends plain less may = (none_more bytes b plain front.0, long_more bytes b ends plain less front.1, inl may)
+still_open bytes b front ends plain less may = (none_more bytes b (plain_is_no_lf b plain) front.0, long_more bytes b ends plain less front.1, inl may)
 
 pub stays_method : (b : ℕ) → is_token_byte b ≡ true → Stays place.Method b place.Method
 stays_method b token bytes at front less =
@@ -162,6 +188,25 @@ pub stays_value : (b : ℕ) → is_value_byte b ≡ true → Stays place.Value b
 stays_value b value bytes at front less =
     let next = value_value b value bytes at in
     (next, still_open bytes b front at.1 (plain_value b value) less (may_value (bytes ++ b ∷ []) next))
+
+pub stays_lf : (b : ℕ) → b ≡ 10 → Stays place.Blanks b place.Blanks
+stays_lf b is bytes at front less =
+    let next = blanks_lf b is bytes at in
+    (next, (none_of_blanks (bytes ++ b ∷ []) next, short_blanks (bytes ++ b ∷ []) next.0 [] next.1 refl (omega (arith, less, length_push bytes b)), inl (may_blanks (bytes ++ b ∷ []) next)))
+
+stays_between : (bytes : List ℕ) (b : ℕ) → b ≡ 13 → At place.BlankReturn (bytes ++ b ∷ []) → HasFront bytes Unfinished → length bytes + 1 < LONGEST_HEAD → HasFront (bytes ++ b ∷ []) Unfinished
+stays_between bytes b is next front less =
+    (none_more bytes b (λ e. absurd (omega (arith, is, e))) front.0, short_blanks (bytes ++ b ∷ []) next.0 (13 ∷ []) next.1 refl (omega (arith, less, length_push bytes b)), inl (may_return (bytes ++ b ∷ []) next))
+
+pub stays_cr : (b : ℕ) → b ≡ 13 → Stays place.Blanks b place.BlankReturn
+stays_cr b is bytes at front less =
+    let next = blanks_cr b is bytes at in
+    (next, stays_between bytes b is next front less)
+
+pub stays_crlf : (b : ℕ) → b ≡ 10 → Stays place.BlankReturn b place.Blanks
+stays_crlf b is bytes at front less =
+    let next = return_lf b is bytes at in
+    (next, (none_of_blanks (bytes ++ b ∷ []) next, short_blanks (bytes ++ b ∷ []) next.0 [] next.1 refl (omega (arith, less, length_push bytes b)), inl (may_blanks (bytes ++ b ∷ []) next)))
 
 -- ---- pieces
 

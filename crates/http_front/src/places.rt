@@ -194,6 +194,9 @@ fn stays(place: Place, byte: u8) -> Option<Place>
     ensures { IfSome result (Stays place byte) }
 {
     match place {
+        Place::Blanks if byte == b'\n' => Some(Place::Blanks),
+        Place::Blanks if byte == b'\r' => Some(Place::BlankReturn),
+        Place::BlankReturn if byte == b'\n' => Some(Place::Blanks),
         Place::Method if is_method_token(byte) => Some(Place::Method),
         Place::Target(start) if is_uri_token(byte) => Some(Place::Target(start)),
         Place::Name if is_method_token(byte) => Some(Place::Name),

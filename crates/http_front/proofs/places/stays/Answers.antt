@@ -2,8 +2,17 @@ use Rattle.std.proofs.Common.{sym, subst}
 use Rattle.http_front.specs.Places.{Stays}
 use Rattle.http_front.specs.declared.places.Place.{Place}
 use Rattle.http_front.specs.declared.places.Place.TheVariants as place
-use Rattle.http_front.proofs.Open.{stays_method, stays_target, stays_name, stays_colon, stays_value}
+use Rattle.http_front.proofs.Open.{stays_lf, stays_cr, stays_crlf, stays_method, stays_target, stays_name, stays_colon, stays_value}
 use Rattle.http_front.proofs.places.stays.Goals as goal
+
+pub returns-in-Blanks : goal.returns-in-Blanks
+returns-in-Blanks c = subst (λ (p : Place). Stays p c.args.byte place.Blanks) (sym c.in-Blanks.is) (stays_lf c.args.byte c.if-byte-eq10.true)
+
+pub returns-in-Blanks-2 : goal.returns-in-Blanks-2
+returns-in-Blanks-2 c = subst (λ (p : Place). Stays p c.args.byte place.BlankReturn) (sym c.in-Blanks.is) (stays_cr c.args.byte c.if-byte-eq13.true)
+
+pub returns-in-BlankReturn : goal.returns-in-BlankReturn
+returns-in-BlankReturn c = subst (λ (p : Place). Stays p c.args.byte place.Blanks) (sym c.in-BlankReturn.is) (stays_crlf c.args.byte c.if-byte-eq10-2.true)
 
 pub returns-in-Method : goal.returns-in-Method
 returns-in-Method c = subst (λ (p : Place). Stays p c.args.byte place.Method) (sym c.in-Method.is) (stays_method c.args.byte (sym c.if-is_method_token.ensures))

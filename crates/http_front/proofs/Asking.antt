@@ -1,38 +1,36 @@
 -- How what was read and given becomes an answer.
-use Rattle.std.proofs.Common.{◌≡◌, ◌≤◌, ◌<◌, ℕ, ◌+◌, Bool, true, false, List, [], ◌∷◌, ◌++◌, length, take, drop, refl, sym, ap, ◌∙◌, subst, arith, inl, inr, Result, Ok, Err, codes}
+use Rattle.std.proofs.Common.{◌≡◌, ◌≤◌, ℕ, ◌+◌, Bool, true, false, List, [], ◌∷◌, length, take, drop, refl, sym, ap, ◌∙◌, subst, arith, inl, Result, Ok, Err, codes}
 use Rattle.std.specs.Prelude.{if◌then◌else◌, not, nat_le, nat_lt, IfSome}
 use Rattle.std.specs.declared.option.Option.{Option}
 use Rattle.std.specs.Io.KnownBytes.{Appends, Consumes}
-use Rattle.std.proofs.KnownBytes.{Appends-nil, Appends-trans}
+use Rattle.std.proofs.KnownBytes.{Appends-nil}
 use Rattle.std.proofs.lemmas.Bool.{leb-true}
 use Rattle.std.proofs.lemmas.Grind.{common_steps}
 use Rattle.std.proofs.lemmas.Bool.Decides.{nat_tests}
 use Rattle.std.proofs.Math.Seq.{take-length, take-append_seam, drop-append_seam}
 use Rattle.okws_base.specs.declared.limit.TheConstants.{LONGEST_CONTENT}
-use Rattle.okws_outer.specs.Streams.{Rose, Counts}
+use Rattle.okws_outer.specs.Streams.{Rose}
 use Rattle.okws_outer.specs.Conns.{ConnWire}
 use Rattle.httparse.specs.Grammar.{RequestHead, print_request}
 use Rattle.httparse.specs.Spans.{span_bytes}
-use Rattle.http_text.specs.declared.length.ContentLength.{ContentLength}
 use Rattle.http_text.specs.declared.length.ContentLength.TheVariants.{Length, TooLarge, NotDigits}
 use Rattle.http_text.specs.Length.{length_of, length_within}
 use Rattle.http_text.specs.Response.{is_head}
 use Rattle.http_text.specs.Target.{is_target, path}
-use Rattle.http_text.specs.Reading.{checked, has_hosts, is_served, values_named, content_length, told_length, checked_head, waits_head, interim_head, continue_text, IsWholeHead, HasNoWholeHead, HasFront, Headed, Overlong, Hopeless, Unfinished, Front, waits, fields_of, IsReading, Asks, Refuses, Unsettled, reading_of, with_head, IsInterim, interim_of, IsMethod, method_of}
+use Rattle.http_text.specs.Reading.{checked, has_hosts, is_served, values_named, content_length, told_length, checked_head, interim_head, continue_text, IsWholeHead, HasNoWholeHead, HasFront, Headed, Overlong, Hopeless, Unfinished, Front, waits, fields_of, IsReading, Asks, with_head, interim_of, method_of}
 use Rattle.http_front.specs.Kept.{method_text}
 use Rattle.http_front.specs.Looking.{Tells}
-use Rattle.http_front.specs.Pulling.{HasRead, IsPrompt, IsRefusedFront, IsContentOf, FillsContent, ReadsHead}
-use Rattle.http_front.specs.Requests.{IsAsked, GivesInterim, Receives, Stands, due, HasBegun, HasAnswered, PutsInterim}
+use Rattle.http_front.specs.Pulling.{HasRead, IsPrompt, IsContentOf, FillsContent}
+use Rattle.http_front.specs.Requests.{IsAsked, Receives, due, HasBegun, HasAnswered, PutsInterim}
 use Rattle.http_front.specs.declared.kept.Kept.{Kept}
 use Rattle.http_front.specs.declared.looking.WholeHead.{WholeHead}
 use Rattle.http_front.specs.declared.pulling.Filled.{Filled}
-use Rattle.http_front.specs.declared.pulling.HeadRead.{HeadRead}
 use Rattle.http_front.specs.declared.reading.Request.{Request}
 use Rattle.http_front.specs.declared.reading.Incoming.{Incoming}
 use Rattle.http_front.specs.declared.reading.Incoming.TheVariants.{Refused, ConnFault, NoMemory}
 use Rattle.http_front.specs.declared.reading.Incoming.TheVariants as incoming
 use Rattle.http_front.proofs.Heads.{span_of_front}
-use Rattle.http_front.proofs.Progress.{whole_content, short_content, rose_later}
+use Rattle.http_front.proofs.Progress.{whole_content, rose_later}
 
 -- ---- what a head that passed its checks keeps
 

@@ -1,5 +1,5 @@
 -- How the parts of a response follow on one another.
-use Rattle.std.proofs.Common.{◌≡◌, ◌≤◌, ◌<◌, ℕ, ◌+◌, ◌^◌, Bool, true, false, List, [], ◌∷◌, ◌++◌, length, take, decimal, codes, min, refl, sym, ap, ◌∙◌, subst, arith, append_assoc, append-nil, length-append, Result, Ok, Err, nat_eq, ◌-◌}
+use Rattle.std.proofs.Common.{◌≡◌, ◌≤◌, ◌<◌, ℕ, ◌+◌, ◌^◌, true, false, List, [], ◌∷◌, ◌++◌, length, take, decimal, codes, min, refl, sym, ap, ◌∙◌, subst, arith, append_assoc, append-nil, length-append, Ok, Err, nat_eq, ◌-◌}
 use Rattle.std.proofs.lemmas.Bool.{eqb-true}
 use Rattle.std.specs.Prelude.{IsSome, None}
 use Rattle.std.specs.Fmt.{digits}
@@ -7,15 +7,14 @@ use Rattle.std.specs.declared.option.Option.{Option}
 use Rattle.std.specs.Io.KnownBytes.{Appends}
 use Rattle.std.proofs.KnownBytes.{Appends-nil, Appends-trans}
 use Rattle.std.proofs.lemmas.List.{take-append-le}
-use Rattle.std.proofs.Math.Seq.{take-append-add, take-length}
-use Rattle.std.proofs.lemmas.Grind.{common_steps}
-use Rattle.okws_outer.specs.Streams.{Rose, AppendsPrefix}
+use Rattle.std.proofs.Math.Seq.{take-append-add}
+use Rattle.okws_outer.specs.Streams.{Rose}
 use Rattle.okws_outer.specs.Conns.{ConnWire, PutsTo}
 use Rattle.okws_outer.specs.declared.stream.Put.TheVariants.{Done, Stopped}
 use Rattle.http.specs.StatusCode.{code_digits}
 use Rattle.http_text.specs.Status.{phrase, phrase_text, status_text}
 use Rattle.http_text.specs.Response.{crlf, location_line}
-use Rattle.http_front.specs.Writing.{Stays, SameRequest, Gathered, IsCut, Writes, Given, Responds}
+use Rattle.http_front.specs.Writing.{Stays, SameRequest, IsCut, Writes, Responds}
 use Rattle.http_front.specs.declared.kept.Kept.{Kept}
 use Rattle.http_front.specs.declared.writing.Cut.{Cut}
 use Rattle.http_front.specs.declared.writing.Responded.TheVariants.{Sent, ConnFault}

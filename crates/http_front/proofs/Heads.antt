@@ -1,24 +1,19 @@
 -- What the parser's answer tells of the front of the bytes.
-use Rattle.std.proofs.Common.{◌≡◌, ◌≢◌, ◌≤◌, ◌<◌, ℕ, ◌-◌, Bool, true, false, List, [], ◌∷◌, ◌++◌, length, take, drop, map, refl, sym, ap, ◌∙◌, subst, arith, inl, inr, length-append, length-take, le-leb, Result, Ok, Err}
-use Rattle.std.specs.Prelude.{slice_range, All, ◌⊎◌, nat_le}
-use Rattle.std.proofs.lemmas.List.{take-append-le, length-map}
+use Rattle.std.proofs.Common.{◌≡◌, ◌≤◌, ◌<◌, ℕ, true, false, List, ◌++◌, length, take, drop, map, refl, sym, ap, ◌∙◌, subst, arith, le-leb, Ok, Err}
+use Rattle.std.specs.Prelude.{◌⊎◌}
 use Rattle.std.proofs.lemmas.Bool.{le-leb}
 use Rattle.std.proofs.lemmas.Grind.{common_steps}
-use Rattle.std.proofs.lemmas.Bool.Decides.{nat_tests}
 use Rattle.okws_base.specs.declared.limit.TheConstants.{LONGEST_HEAD, MOST_FIELDS}
 use Rattle.httparse.specs.declared.Error.{Error}
-use Rattle.httparse.specs.declared.Error.TheVariants.{TooManyHeaders}
-use Rattle.httparse.specs.declared.Status.{Status}
 use Rattle.httparse.specs.declared.Status.TheVariants.{Complete, Partial}
 use Rattle.httparse.specs.declared.spans.Span.{Span}
 use Rattle.httparse.specs.declared.spans.HeaderSpan.{HeaderSpan}
 use Rattle.httparse.specs.declared.spans.RequestSpans.{RequestSpans}
-use Rattle.httparse.specs.Grammar.{RequestHead, print_request, ReadsRequest, NeverHasRequest, MayBecomeRequest}
-use Rattle.httparse.specs.Spans.{span_bytes, header_bytes, name_and_value, IsWithin, IsHeaderWithin, IsRequestWithin, IsRequestAt, IsRequestOf, FindsRequest, RequestExceeds}
+use Rattle.httparse.specs.Grammar.{RequestHead, print_request, NeverHasRequest, MayBecomeRequest}
+use Rattle.httparse.specs.Spans.{span_bytes, header_bytes, name_and_value, IsWithin, IsRequestWithin, IsRequestAt, FindsRequest, RequestExceeds}
 use Rattle.http_text.specs.Response.{is_head}
-use Rattle.http_text.specs.Reading.{checked, waits, checked_head, waits_head, fields_of, is_too_long, has_line_after, after_blanks, most_lines, IsWholeHead, HasNoWholeHead, HasFront}
-use Rattle.http_text.specs.Reading.{Headed, Overlong, Hopeless, Unfinished}
-use Rattle.http_front.specs.Looking.{Describes, Tells, Looks, LooksWithout}
+use Rattle.http_text.specs.Reading.{checked, checked_head, is_too_long, HasNoWholeHead}
+use Rattle.http_front.specs.Looking.{Describes, Looks, LooksWithout}
 use Rattle.http_front.specs.declared.looking.WholeHead.{WholeHead}
 use Rattle.http_front.specs.declared.looking.Look.{Look}
 use Rattle.http_front.specs.declared.looking.Look.TheVariants.{Whole, TooLong, Broken, Open}

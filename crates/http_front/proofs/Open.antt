@@ -1,13 +1,12 @@
 -- A head that could become one still can behind a byte that settles nothing.
-use Rattle.std.proofs.Common.{◌≡◌, ◌≢◌, ◌≤◌, ◌<◌, ℕ, ◌+◌, ◌-◌, Bool, true, false, List, [], ◌∷◌, ◌++◌, length, take, drop, refl, sym, ap, ◌∙◌, subst, arith, inl, inr, append_assoc, append-nil, length-append}
+use Rattle.std.proofs.Common.{◌≡◌, ◌≢◌, ◌<◌, ℕ, ◌+◌, ◌-◌, Bool, true, false, List, [], ◌∷◌, ◌++◌, length, take, drop, refl, sym, ap, ◌∙◌, subst, arith, inl, inr, append_assoc, append-nil, length-append}
 use Rattle.std.specs.List.{flat_map}
-use Rattle.std.specs.Prelude.{◌⊎◌, ◌==◌, not, nat_le, if◌then◌else◌}
+use Rattle.std.specs.Prelude.{◌⊎◌, ◌==◌, nat_le, if◌then◌else◌}
 use Rattle.std.proofs.lemmas.List.{length_push}
 use Rattle.std.proofs.Math.Seq.{drop-append_seam, take-append_seam}
-use Rattle.std.proofs.lemmas.Grind.{common_steps}
 use Rattle.std.proofs.lemmas.Bool.Decides.{nat_tests}
 use Rattle.okws_base.specs.declared.limit.TheConstants.{LONGEST_HEAD}
-use Rattle.httparse.specs.Grammar.{LineEnd, lf, crlf, print_end, print_blank, print_version, print_field, print_request, is_token_byte, is_uri_byte, is_value_byte, AllPass, IsToken, RequestHead, ReadsRequest, HasNoRequest, MayBecomeRequest}
+use Rattle.httparse.specs.Grammar.{LineEnd, lf, crlf, print_end, print_blank, print_version, print_field, print_request, is_token_byte, is_uri_byte, is_value_byte, AllPass, RequestHead, HasNoRequest, MayBecomeRequest}
 use Rattle.httparse.specs.Pieces.{Completes, RequestStart, Section, Stops, is_newline, Word, Text}
 use Rattle.httparse.proofs.PieceLemmas.{RequestStart_deterministic, Name_deterministic, Stops_token}
 use Rattle.httparse.proofs.PieceLemmas.{Refutes_first}
@@ -15,8 +14,8 @@ use Rattle.httparse.proofs.ReadLemmas.{Blank_after, Blank_open}
 use Rattle.httparse.proofs.LineLemmas.{request_blank}
 use Rattle.httparse.proofs.HeadLemmas.{request_not_yet}
 use Rattle.httparse.proofs.OpenLemmas.{some_newline, Newline_after_cr, BlankLines_after, line_blank, Completes_first, Completes_next, Word_cut, letter_is_token, some_section, some_text, line_method, ends_in_target, FieldLine_of_row, Section_of_line, Section_after_lines, request_may}
-use Rattle.http_text.specs.Reading.{ends_line, after_blanks, has_line_after, is_too_long, most_lines, IsWholeHead, HasNoWholeHead, HasFront, Unfinished}
-use Rattle.http_front.specs.Places.{EndsPlain, BehindMethod, BehindLines, At, Stays, StaysOver}
+use Rattle.http_text.specs.Reading.{ends_line, after_blanks, has_line_after, is_too_long, most_lines, HasNoWholeHead, HasFront, Unfinished}
+use Rattle.http_front.specs.Places.{EndsPlain, BehindLines, At, Stays, StaysOver}
 use Rattle.http_front.proofs.Steps.{blanks_lf, blanks_cr, return_lf, plain_token, plain_uri, plain_value, method_token, target_uri, name_token, name_colon, value_value}
 use Rattle.http_front.specs.Looking.{Looks, LooksOn}
 use Rattle.http_front.specs.declared.looking.Look.{Look}

@@ -1,27 +1,26 @@
 -- How what was read goes on, piece by piece.
-use Rattle.std.proofs.Common.{◌≡◌, ◌≢◌, ◌≤◌, ◌<◌, ℕ, ◌+◌, Bool, true, false, List, [], ◌∷◌, ◌++◌, length, take, refl, sym, ap, ◌∙◌, subst, arith, inl, inr, length-append, Result, Ok, Err, append_assoc, append-nil, codes}
-use Rattle.std.specs.Prelude.{IfSome, nat_le, All}
+use Rattle.std.proofs.Common.{◌≡◌, ◌≤◌, ◌<◌, ℕ, ◌+◌, true, false, List, [], ◌∷◌, ◌++◌, length, take, refl, sym, ap, ◌∙◌, subst, arith, inl, length-append, Ok, append-nil}
+use Rattle.std.specs.Prelude.{IfSome, nat_le}
 use Rattle.std.specs.declared.option.Option.{Option}
 use Rattle.std.specs.declared.option.Option.TheVariants.{Some, None}
-use Rattle.std.specs.Io.KnownBytes.{Consumes, Keeps, IsAtEnd}
+use Rattle.std.specs.Io.KnownBytes.{Consumes, Keeps}
 use Rattle.std.proofs.KnownBytes.{Consumes-nil, Consumes-trans, Consumes-kept}
 use Rattle.std.proofs.lemmas.Grind.{common_steps}
 use Rattle.std.proofs.lemmas.Bool.Decides.{nat_tests}
 use Rattle.std.proofs.lemmas.List.Elements.{All-nil, All-cons}
 use Rattle.std.proofs.lemmas.Str.{IsUtf8-from_ascii}
 use Rattle.std.proofs.lemmas.Str.Ascii.{IsAscii-cons, IsAscii-nil}
-use Rattle.okws_base.specs.declared.limit.TheConstants.{LONGEST_HEAD, MOST_FIELDS}
+use Rattle.okws_base.specs.declared.limit.TheConstants.{LONGEST_HEAD}
 use Rattle.okws_outer.specs.Streams.{Counts, Rose}
 use Rattle.okws_outer.specs.Conns.{ConnWire}
-use Rattle.httparse.specs.Grammar.{RequestHead, IsRequestHead, print_request, ReadsRequest, MayBecomeRequest, is_token_byte, is_uri_byte, LineEnd, lf, IsField}
+use Rattle.httparse.specs.Grammar.{RequestHead, IsRequestHead, print_request, MayBecomeRequest, is_token_byte, is_uri_byte, lf, IsField}
 use Rattle.httparse.proofs.GrammarLemmas.{ReadsRequest-append, request_unique}
 use Rattle.httparse.proofs.OpenLemmas.{letter_is_token}
-use Rattle.http_text.specs.Reading.{IsWholeHead, HasNoWholeHead, HasFront, IsReading, reading_of, with_head, with_content, checked_head, interim_head, is_too_long}
+use Rattle.http_text.specs.Reading.{IsWholeHead, HasFront, IsReading, with_head, checked_head, interim_head, is_too_long}
 use Rattle.http_text.specs.Target.{path}
-use Rattle.http_text.specs.Reading.{Headed, Overlong, Hopeless, Unfinished}
-use Rattle.http_text.specs.Reading.{Asks, Refuses, Unsettled}
-use Rattle.http_front.specs.Pulling.{IsPrompt, HasRead, PieceBytes, TakesPiece, IsContentOf, FillEnds, FillsContent, HeadEnds, ReadsHead}
-use Rattle.http_front.specs.declared.pulling.Piece.{Piece}
+use Rattle.http_text.specs.Reading.{Headed, Unfinished}
+use Rattle.http_text.specs.Reading.{Asks, Unsettled}
+use Rattle.http_front.specs.Pulling.{IsPrompt, HasRead, TakesPiece, IsContentOf, FillEnds, FillsContent, HeadEnds, ReadsHead}
 use Rattle.http_front.specs.declared.pulling.Piece.TheVariants as piece
 use Rattle.http_front.specs.declared.pulling.HeadRead.{HeadRead}
 use Rattle.http_front.specs.declared.pulling.HeadRead.TheVariants as head

@@ -1,16 +1,14 @@
 -- One more byte behind the bytes of a head.
-use Rattle.std.proofs.Common.{◌≡◌, ◌≤◌, ◌<◌, ℕ, ◌+◌, Bool, true, false, List, [], ◌∷◌, ◌++◌, length, drop, refl, sym, ap, ◌∙◌, subst, arith, inl, inr, append_assoc, append-nil, length-append}
+use Rattle.std.proofs.Common.{◌≡◌, ◌≤◌, ◌<◌, ℕ, ◌+◌, true, false, List, [], ◌∷◌, ◌++◌, length, drop, refl, sym, ap, ◌∙◌, subst, arith, inl, inr, append_assoc, append-nil}
 use Rattle.std.specs.Prelude.{◌⊎◌, IsUtf8}
 use Rattle.std.proofs.lemmas.Bool.Decides.{nat_tests}
 use Rattle.std.proofs.lemmas.List.{drop-append-le, drop_all, length_push}
 use Rattle.std.proofs.lemmas.List.Elements.{All-nil, All-push, All-cons}
 use Rattle.httparse.specs.Grammar.{LineEnd, lf, crlf, print_end, print_blank, print_version, is_token_byte, is_uri_byte, is_value_byte, AllPass, IsToken, IsField}
-use Rattle.httparse.specs.Pieces.{Stops, is_newline}
 use Rattle.httparse.proofs.PieceLemmas.{front-append, Blank_deterministic, Method_deterministic, Target_deterministic, RequestStart_deterministic, FieldLines-append, FieldLines_push, Stops_token, token_is_no_newline}
 use Rattle.httparse.proofs.ReadLemmas.{blank_more, FieldLine_done}
 use Rattle.http_text.specs.Reading.{ends_line}
-use Rattle.http_front.specs.Places.{EndsPlain, BehindMethod, BehindTarget, BehindLines, EndsInField, At, Steps, StepsFrom, IsVersion}
-use Rattle.http_front.specs.declared.places.Place.{Place}
+use Rattle.http_front.specs.Places.{EndsPlain, BehindMethod, BehindTarget, BehindLines, At, Steps, StepsFrom, IsVersion}
 use Rattle.http_front.specs.declared.places.Place.TheVariants as place
 
 -- ---- what stands behind stays there

@@ -1,11 +1,11 @@
 -- What stands at the front of the bytes that were read, as the program tells it.
-use Rattle.std.specs.Prelude.{◌≡◌, ◌≤◌, ℕ, Bool, true, false, List, ◌++◌, length}
+use Rattle.std.specs.Prelude.{◌≡◌, ℕ, Bool, true, false, List, ◌++◌, length}
 use Rattle.httparse.specs.Grammar.{RequestHead, print_request}
 use Rattle.httparse.specs.Spans.{span_bytes, IsWithin}
 use Rattle.httparse.specs.declared.spans.RequestSpans.{RequestSpans}
 use Rattle.http_text.specs.Response.{is_head}
-use Rattle.http_text.specs.Reading.{checked, waits, checked_head, waits_head, is_too_long, IsWholeHead, HasFront, Front}
-use Rattle.http_text.specs.Reading.{Headed, Overlong, Hopeless, Unfinished}
+use Rattle.http_text.specs.Reading.{checked, waits, checked_head, waits_head, is_too_long, IsWholeHead, HasFront}
+use Rattle.http_text.specs.Reading.{Overlong, Hopeless, Unfinished}
 use Rattle.http_front.specs.Places.{At}
 use Rattle.http_front.specs.declared.places.Place.{Place}
 use Rattle.http_front.specs.declared.looking.WholeHead.{WholeHead}

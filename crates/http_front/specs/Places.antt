@@ -1,5 +1,5 @@
 -- Where the bytes of a head that isn't whole end (RFC 9112, sections 2 to 5).
-use Rattle.std.specs.Prelude.{◌≡◌, ◌≤◌, ◌<◌, ◌⊎◌, ℕ, ◌+◌, false, List, [], ◌∷◌, ◌++◌, length, drop, codes}
+use Rattle.std.specs.Prelude.{◌≡◌, ◌≤◌, ◌<◌, ◌⊎◌, ℕ, ◌+◌, false, List, [], ◌∷◌, ◌++◌, length, drop}
 use Rattle.okws_base.specs.declared.limit.TheConstants.{LONGEST_HEAD}
 use Rattle.httparse.specs.Grammar.{LineEnd, Field, IsToken, AllPass, is_uri_byte, is_value_byte, print_blank, print_version}
 use Rattle.httparse.specs.Pieces.{Blank, FieldLines, RequestStart}

@@ -1,13 +1,12 @@
 -- How the bytes of a request come.
-use Rattle.std.specs.Prelude.{◌≡◌, ◌≢◌, ◌≤◌, ◌<◌, ℕ, ◌+◌, false, List, [], ◌++◌, length, Ok, IfSome}
+use Rattle.std.specs.Prelude.{◌≡◌, ◌≢◌, ◌≤◌, ◌<◌, ℕ, ◌+◌, List, [], ◌++◌, length, Ok, IfSome}
 use Rattle.std.specs.Io.KnownBytes.{Consumes, Keeps, IsAtEnd}
-use Rattle.okws_outer.specs.Streams.{Counts, Rose}
+use Rattle.okws_outer.specs.Streams.{Counts}
 use Rattle.okws_outer.specs.Conns.{ConnWire}
 use Rattle.httparse.specs.Grammar.{RequestHead, print_request}
-use Rattle.http_text.specs.Response.{is_head}
-use Rattle.http_text.specs.Reading.{IsWholeHead, HasNoWholeHead, Front, HasFront, Reading, IsReading, reading_of, checked_head, interim_head}
-use Rattle.http_text.specs.Reading.{Headed, Overlong, Hopeless, Unfinished}
-use Rattle.http_text.specs.Reading.{Asks, Refuses, Unsettled}
+use Rattle.http_text.specs.Reading.{IsWholeHead, HasNoWholeHead, Front, HasFront, IsReading, reading_of, checked_head, interim_head}
+use Rattle.http_text.specs.Reading.{Unfinished}
+use Rattle.http_text.specs.Reading.{Refuses, Unsettled}
 use Rattle.http_front.specs.Looking.{Tells}
 use Rattle.http_front.specs.declared.pulling.Piece.{Piece}
 use Rattle.http_front.specs.declared.pulling.Piece.TheVariants as piece

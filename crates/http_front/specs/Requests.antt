@@ -1,11 +1,11 @@
 -- What a client asks for, and what is kept of it.
-use Rattle.std.specs.Prelude.{◌≡◌, ◌≤◌, ◌⊎◌, ℕ, Bool, true, false, List, [], length, take, Ok, if◌then◌else◌}
+use Rattle.std.specs.Prelude.{◌≡◌, ◌≤◌, ◌⊎◌, ℕ, Bool, true, false, List, [], length, take, if◌then◌else◌}
 use Rattle.std.specs.declared.option.Option.{Option}
 use Rattle.std.specs.Io.KnownBytes.{Appends, IsAtEnd}
 use Rattle.okws_outer.specs.Streams.{Rose}
 use Rattle.okws_outer.specs.Conns.{ConnWire}
 use Rattle.httparse.specs.Grammar.{RequestHead}
-use Rattle.http_text.specs.Reading.{IsWholeHead, IsReading, IsInterim, IsMethod, continue_text, checked_head}
+use Rattle.http_text.specs.Reading.{IsWholeHead, IsReading, IsInterim, IsMethod, continue_text}
 use Rattle.http_text.specs.Reading.{Asks, Refuses, Unsettled}
 use Rattle.http_front.specs.Kept.{method_text}
 use Rattle.http_front.specs.Looking.{Tells}

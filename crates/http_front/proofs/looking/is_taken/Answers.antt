@@ -1,4 +1,4 @@
-use Rattle.std.proofs.Common.{◌≡◌, ℕ, List, Bool, true, false, refl, Option, Some, None}
+use Rattle.std.proofs.Common.{◌≡◌, ℕ, List, Bool, true, false, refl, Some, None}
 use Rattle.std.specs.Prelude.{if◌then◌else◌}
 use Rattle.http_front.proofs.looking.is_taken.Goals as goal
 

@@ -1,7 +1,6 @@
-use Rattle.std.proofs.Common.{◌≡◌, length, refl, arith, map, take}
+use Rattle.std.proofs.Common.{◌≡◌, length, refl, arith}
 use Rattle.std.proofs.lemmas.Grind.{common_steps}
 use Rattle.okws_base.specs.declared.limit.TheConstants.{MOST_FIELDS}
-use Rattle.httparse.specs.Spans.{header_bytes}
 use Rattle.http_front.proofs.Heads.{whole_looks}
 use Rattle.http_front.proofs.looking.look_at.Goals as goal
 

@@ -1,4 +1,4 @@
-use Rattle.std.proofs.Common.{◌≡◌, sym, refl, arith, drop}
+use Rattle.std.proofs.Common.{◌≡◌, refl, arith, drop}
 use Rattle.std.proofs.lemmas.Grind.{common_steps}
 use Rattle.http_front.proofs.Steps.{version_more, version_lf}
 use Rattle.http_front.proofs.places.after_version.Goals as goal

@@ -1,5 +1,5 @@
-use Rattle.std.proofs.Common.{◌≡◌, ℕ, ◌+◌, List, ◌++◌, length, refl, sym, ap, ◌∙◌, append_assoc, subst, arith}
-use Rattle.http_front.proofs.Progress.{fill_step, fill_same, fill_done, longer}
+use Rattle.std.proofs.Common.{ℕ, List, ◌++◌, length, refl, ap, ◌∙◌, append_assoc, arith}
+use Rattle.http_front.proofs.Progress.{fill_step, fill_same, fill_done}
 use Rattle.http_front.proofs.pulling.fill_from.Goals as goal
 
 pub returns-clause-content : goal.returns-clause-content

@@ -1,9 +1,7 @@
-use Rattle.std.proofs.Common.{◌≡◌, ℕ, ◌+◌, List, length, refl, sym, ap, ◌∙◌, subst, arith}
+use Rattle.std.proofs.Common.{length, refl, ap, ◌∙◌, arith}
 use Rattle.http_text.specs.Reading.{Overlong, Hopeless}
-use Rattle.http_front.specs.Looking.{Looks}
-use Rattle.http_front.specs.declared.looking.Look.TheVariants as look
 use Rattle.http_front.proofs.Open.{looked_on, nothing_stands}
-use Rattle.http_front.proofs.Progress.{nothing_is_unfinished, nothing_read, head_more, head_same, head_settled, still_unfinished, short_enough, longer}
+use Rattle.http_front.proofs.Progress.{nothing_is_unfinished, nothing_read, head_more, head_same, head_settled, still_unfinished, longer}
 use Rattle.http_front.proofs.pulling.read_head.Goals as goal
 
 pub loop-place-init : goal.loop-place-init

@@ -1,4 +1,4 @@
-use Rattle.std.proofs.Common.{refl, subst, sym}
+use Rattle.std.proofs.Common.{refl}
 use Rattle.http_front.proofs.Asking.{receive_refused, receive_cut, answered_due}
 use Rattle.http_front.proofs.reading.read_rest.Goals as goal
 

@@ -1,7 +1,4 @@
-use Rattle.std.proofs.Common.{◌≡◌, ℕ, ◌+◌, ◌^◌, ◌-◌, List, [], ◌++◌, length, min, refl, subst, arith}
-use Rattle.std.proofs.lemmas.Grind.{common_steps}
-use Rattle.okws_outer.specs.Conns.{PutsTo}
-use Rattle.okws_outer.specs.declared.stream.Put.TheVariants.{Done, Stopped}
+use Rattle.std.proofs.Common.{refl}
 use Rattle.http_front.proofs.Gathering.{part_put, part_cut}
 use Rattle.http_front.proofs.writing.put.Goals as goal
 

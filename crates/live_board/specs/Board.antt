@@ -90,9 +90,11 @@ pub record Kept (n : ℕ) (s : State ℕ View) : Type 0 where
   pub counted : (world.count - most_drawn) + total s.views ≤ n
   pub each : (i : ℕ) (v : View) → get_elem? s.views i ≡ maybe.some v → Knows n world i v
 
+-- A part of these fields.
 abbrev pub part_of : ℕ → List ℕ → List ℕ → Part
 part_of number seen drawn = record { number = number; seen = seen; drawn = drawn }
 
+-- A view of these fields.
 abbrev pub view_of : Part → List Part → ℕ → ℕ → View
 view_of part olds spare room = record { part = part; olds = olds; spare = spare; room = room }
 
@@ -128,6 +130,7 @@ joined v w = view_of v.part (w.part ∷ w.olds ++ v.olds) v.spare v.room
 abbrev pub spent_view : View
 spent_view = view_of (part_of spent_number [] []) [] spent_number 0
 
+-- A view's own part, and then those that were joined into it.
 abbrev pub parts_of : View → List Part
 parts_of v = v.part ∷ v.olds
 

@@ -53,12 +53,15 @@ HasSight k (m ∷ ms) = (m.number ≡ k) ⊎ HasSight k ms
 abbrev pub sight : {E : Type 0} → SeatIs E → Sight E
 sight a = record { number = a.number; seen = a.seen }
 
+-- What a seat has seen, and then what each that was joined into it had.
 abbrev pub sights : {E : Type 0} → SeatIs E → List (Sight E)
 sights a = sight a ∷ a.olds
 
+-- A part's number and what it has seen, the newest first.
 abbrev pub sight_of : {E : Type 0} → Part E → Sight E
 sight_of p = record { number = p.number; seen = reverse p.seen }
 
+-- A seat at this stage holds the turn.
 abbrev pub is_held : Stage → Bool
 is_held Idle = false
 is_held (Waits t) = false

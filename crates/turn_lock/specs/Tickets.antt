@@ -19,6 +19,7 @@ note_number = 65535
 abbrev pub last_ticket : ℕ
 last_ticket = 18446744073709551615
 
+-- The journal begins with what was seen, the oldest entry first.
 abbrev pub StartsWith : {E : Type 0} → List E → List E → Type 0
 StartsWith {E} log seen = (rest : List E) × (log ≡ seen ++ rest)
 
@@ -34,19 +35,23 @@ pub record World (X E : Type 0) : Type 0 where
   pub turn : ℕ → ℕ
   pub owner : ℕ → ℕ
 
+-- What stands in the table's slot: nothing while the slot's content is out with a seat.
 abbrev pub shelf : {X : Type 0} → maybe.Option X → maybe.Option (Option X)
 shelf maybe.none = maybe.none
 shelf (maybe.some x) = maybe.some (Some x)
 
+-- The value is out with a seat.
 abbrev pub is_out : {X : Type 0} → maybe.Option X → Bool
 is_out maybe.none = true
 is_out (maybe.some x) = false
 
+-- A seat at this stage has drawn this ticket.
 abbrev pub HasTicket : ℕ → Stage → Type 0
 HasTicket t Idle = ⊥
 HasTicket t (Waits u) = u ≡ t
 HasTicket t (Holds u) = u ≡ t
 
+-- How many tickets a seat at this stage has.
 abbrev pub ticketed : Stage → ℕ
 ticketed Idle = 0
 ticketed (Waits u) = 1
@@ -57,6 +62,7 @@ abbrev pub with_ticket : {E : Type 0} → List (View E) → ℕ
 with_ticket [] = 0
 with_ticket (v ∷ vs) = ticketed v.stage + with_ticket vs
 
+-- The part of a note, under whose number nothing is entered.
 pub record IsNote {E : Type 0} (p : Part E) : Type 0 where
   pub is : p.number ≡ note_number
   pub none : p.own ≡ []

@@ -1,10 +1,10 @@
 -- Seats that were just made, and seats that are joined into one, one after another.
-use Rattle.std.proofs.Common.{◌≡◌, ◌≢◌, ℕ, zero, suc, ◌+◌, ◌<◌, ◌≤◌, List, [], ◌∷◌, ◌++◌, length, refl, sym, ap, ◌∙◌, subst, arith}
+use Rattle.std.proofs.Common.{◌≡◌, ◌≢◌, ℕ, suc, ◌+◌, ◌<◌, List, [], ◌∷◌, ◌++◌, length, refl, sym, ap, ◌∙◌, subst, arith}
 use Rattle.atomic_table.specs.Seated.{TableId}
 use Rattle.live_board.specs.declared.rule.Part.{Part}
 use Rattle.atomic_table.specs.declared.shared.Seat.{Seat}
 use Rattle.live_board.specs.declared.rule.View.{View}
-use Rattle.live_board.specs.Board.{UpTo, drawn_by, none_begun, spent_number, part_of, view_of, AllSaw, AllDrew}
+use Rattle.live_board.specs.Board.{none_begun, spent_number, part_of, view_of, AllSaw, AllDrew}
 use Rattle.live_board.specs.Seats.{SeatIs, seat_of, parts, IsSeat, IsFresh, AreFresh, AreRising, AllAt, SeatsSaw, SeatsDrew, Gathering}
 
 pub push_length : {A : Type 0} (l : List A) (x : A) → length (l ++ x ∷ []) ≡ suc (length l)

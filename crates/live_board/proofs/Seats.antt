@@ -1,14 +1,13 @@
 -- Giving out seats, joining them, and what is known where a board is closed.
-use Rattle.std.proofs.Common.{◌≡◌, ◌≢◌, ◌⊎◌, inl, inr, ℕ, zero, suc, ◌+◌, ◌-◌, ◌^◌, ◌<◌, ◌≤◌, List, [], ◌∷◌, ◌++◌, length, length-set, le_refl, set, refl, sym, ap, ◌∙◌, subst, ⊎_elim, arith, replicate}
+use Rattle.std.proofs.Common.{◌≡◌, ◌≢◌, inl, inr, ℕ, zero, suc, ◌^◌, ◌<◌, ◌≤◌, List, [], ◌∷◌, ◌++◌, length, length-set, le_refl, set, refl, sym, ap, ◌∙◌, subst, ⊎_elim, arith, replicate}
 use mathlib.Core.Option as maybe
 use lib.ListN.{get_elem?}
-use Rattle.atomic_table.specs.Table.{State, Splits, Joins, Final, Seen, opening}
+use Rattle.atomic_table.specs.Table.{Splits, Joins, Final, Seen, opening}
 use Rattle.atomic_table.proofs.Lists.{set_else}
 use Rattle.live_board.specs.declared.rule.View.{View}
 use Rattle.live_board.specs.declared.rule.Part.{Part}
-use Rattle.live_board.specs.Board.{services, most_drawn, spent_number, UpTo, AllUnder, drawn_by, World, IsSpent, Owns, Fits, AllFit, Spare, Knows, total, Kept, part_of, view_of, none_begun, opening_view, dealer, dealt, joined, spent_view, parts_of, AllSaw, AllDrew}
+use Rattle.live_board.specs.Board.{services, spent_number, AllUnder, drawn_by, World, IsSpent, Owns, Fits, AllFit, Knows, Kept, none_begun, opening_view, dealer, dealt, joined, spent_view, parts_of, AllSaw, AllDrew}
 use Rattle.live_board.proofs.Lists.{all_stay, last_or, up_to-refl, drawn-none, pick, pick_here, pick_else, total_set, total_snoc}
-use Rattle.live_board.proofs.Steps.{own_part}
 
 module _ (n : ℕ) (W : World) (owner : ℕ → ℕ) where
   -- the world after seats were given out or joined

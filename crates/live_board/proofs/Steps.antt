@@ -1,17 +1,16 @@
 -- Each step on a word of the board keeps its rule.
-use Rattle.std.proofs.Common.{◌≡◌, ◌≢◌, ◌⊎◌, inl, inr, ℕ, zero, suc, ◌+◌, ◌-◌, ◌%◌, ◌^◌, ◌<◌, ◌≤◌, cond, Bool, true, false, List, [], ◌∷◌, ◌++◌, length, le_refl, set, get_or, refl, sym, ap, ◌∙◌, subst, ⊎_elim, arith}
+use Rattle.std.proofs.Common.{◌≡◌, ◌≢◌, inl, inr, ℕ, suc, ◌+◌, ◌-◌, ◌%◌, ◌^◌, ◌<◌, ◌≤◌, cond, Bool, true, false, List, [], ◌∷◌, set, get_or, refl, sym, ap, ◌∙◌, subst, ⊎_elim, arith}
 use mathlib.Core.Logic.{dite}
 use mathlib.Core.Option as maybe
 use native.Mathlib.Decide.{ℕ_discrete}
-use lib.ListN.{get_elem?}
-use Rattle.atomic_table.specs.Table.{State, Me, Step, Act, keeps, step, stepped, Allows, Valid, carried_after}
+use Rattle.atomic_table.specs.Table.{State, keeps, step, Allows}
 use Rattle.std.proofs.Math.Nat.{mod-eq_of_lt}
 use Rattle.std.proofs.Math.Dec.{ltb}
 use Rattle.std.proofs.lemmas.Bool.{ltb-true, ltb-false}
 use Rattle.std.proofs.lemmas.List.{set-get_or}
 use Rattle.live_board.specs.declared.rule.View.{View}
 use Rattle.live_board.specs.declared.rule.Part.{Part}
-use Rattle.live_board.specs.Board.{most_drawn, spent_number, UpTo, AllUnder, drawn_by, World, IsSpent, Owns, Fits, AllFit, Spare, Knows, total, Kept, part_of, view_of, saw, with_number, M, looked, raised, drew}
+use Rattle.live_board.specs.Board.{most_drawn, spent_number, UpTo, AllUnder, drawn_by, World, IsSpent, Owns, Fits, AllFit, Knows, total, Kept, saw, with_number, M, looked, raised, drew}
 use Rattle.live_board.proofs.Lists.{all_stay, up_to-refl, up_to-at, up_to-look, up_to-raise, under-at, under-set, drawn-under, hand_after, drawn-own, drawn-other, pick_here, pick_else, total_set}
 
 module _ (n : ℕ) (W : World) (greatest : List ℕ) (count : ℕ) (hand : ℕ → ℕ) where

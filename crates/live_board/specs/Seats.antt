@@ -1,10 +1,10 @@
 -- The board and its seats as contracts see them.
-use Rattle.std.specs.Prelude.{◌≡◌, ◌≢◌, ◌⊎◌, ℕ, suc, ◌+◌, ◌<◌, ◌≤◌, List, [], ◌∷◌, ◌++◌, length}
+use Rattle.std.specs.Prelude.{◌≡◌, ◌≢◌, ℕ, suc, ◌+◌, ◌<◌, List, [], ◌∷◌, length}
 use Rattle.atomic_table.specs.Seated.{TableId}
 use Rattle.atomic_table.specs.declared.shared.Seat.{Seat}
 use Rattle.live_board.specs.declared.rule.View.{View}
 use Rattle.live_board.specs.declared.rule.Part.{Part}
-use Rattle.live_board.specs.Board.{services, most_drawn, spent_number, none_begun, part_of, parts_of, AllSaw, AllDrew}
+use Rattle.live_board.specs.Board.{services, most_drawn, spent_number, none_begun, part_of, AllSaw, AllDrew}
 
 -- A board: which one it is, and for how many seats it was made. The seat with the last number is the launcher's.
 pub record BoardIs : Type 0 where

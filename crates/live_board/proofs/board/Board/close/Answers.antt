@@ -1,5 +1,5 @@
-use Rattle.std.proofs.Common.{rules, arith, ◌≡◌, ◌∙◌, [], ◌∷◌, ◌++◌, length, sym, subst}
-use Rattle.live_board.specs.Seats.{SeatIs, Gathering}
+use Rattle.std.proofs.Common.{rules, sym, subst}
+use Rattle.live_board.specs.Seats.{Gathering}
 use Rattle.live_board.proofs.Gathers.{gathers_first, gathers_at, gathers, gathered, empty_of}
 use Rattle.live_board.proofs.board.Board.close.Goals as goal
 

@@ -1,4 +1,4 @@
-use Rattle.std.proofs.Common.{rules, arith}
+use Rattle.std.proofs.Common.{rules}
 use Rattle.live_board.proofs.Seats.{deals}
 use Rattle.live_board.proofs.board.Board.deal.Goals as goal
 

@@ -1,7 +1,7 @@
-use Rattle.std.proofs.Common.{rules, arith, ◌≡◌, ◌+◌, ◌-◌, ◌∙◌, [], ◌∷◌, ◌++◌, sym, ap, subst}
+use Rattle.std.proofs.Common.{rules, arith, ◌≡◌, ◌+◌, ◌-◌, ◌∙◌, [], sym, ap, subst}
 use Rattle.live_board.specs.Board.{part_of, view_of, none_begun, dealer, dealt, spent_number}
 use Rattle.live_board.specs.Seats.{AreRising, seat_of}
-use Rattle.live_board.proofs.Gathers.{fresh_seat, fresh_is, rising-push}
+use Rattle.live_board.proofs.Gathers.{fresh_is, rising-push}
 use Rattle.live_board.proofs.board.Board.deal_all.Goals as goal
 
 pub deal-new-requires-clause-table : goal.deal-new-requires-clause-table

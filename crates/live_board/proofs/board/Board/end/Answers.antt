@@ -1,4 +1,4 @@
-use Rattle.std.proofs.Common.{rules, ◌≡◌, ℕ, ◌<◌, List, subst}
+use Rattle.std.proofs.Common.{ℕ, ◌<◌, List, subst}
 use Rattle.live_board.specs.Board.{AllSaw, AllDrew}
 use Rattle.live_board.specs.Seats.{BoardIs, SeatIs, parts}
 use Rattle.live_board.proofs.Seats.{closes}

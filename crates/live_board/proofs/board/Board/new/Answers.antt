@@ -1,4 +1,4 @@
-use Rattle.std.proofs.Common.{rules, arith, ◌≡◌, ◌+◌, ◌≤◌, suc, [], ◌∷◌, ◌++◌, length, sym, ap, ◌∙◌, subst}
+use Rattle.std.proofs.Common.{rules, arith, ◌≡◌, ◌+◌, suc, length, sym, ap, ◌∙◌, subst}
 use Rattle.live_board.specs.Seats.{IsFresh, AreFresh, AreRising}
 use Rattle.live_board.proofs.Gathers.{rising-pop, fresh-push, push_length}
 use Rattle.live_board.proofs.board.Board.new.Goals as goal

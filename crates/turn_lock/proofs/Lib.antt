@@ -8,3 +8,4 @@ pub mod Spots
 pub mod Reversed
 pub mod Grows
 pub mod Gathers
+pub mod Rows

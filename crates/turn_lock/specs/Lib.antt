@@ -1,2 +1,3 @@
 pub mod Tickets
 pub mod Seats
+pub mod Rows

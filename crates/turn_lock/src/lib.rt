@@ -4,8 +4,10 @@
 
 mod journaled;
 mod queue;
+mod row;
 mod rule;
 mod turn;
 
 pub use journaled::Journaled;
+pub use row::{close_row, end_row, join_row, make_row};
 pub use turn::{Note, Seat, Turn};

@@ -1,7 +1,7 @@
 -- Seats that are joined into one, one after another.
-use Rattle.std.proofs.Common.{◌≡◌, ◌⊎◌, inl, inr, ℕ, ◌≤◌, ◌<◌, List, [], ◌∷◌, ◌++◌, length, refl, sym, ap, ◌∙◌, subst, ⊎_elim, arith, append_assoc, eqb, eq-eqb, ne_eqb, Bool, false, true}
+use Rattle.std.proofs.Common.{◌≡◌, ◌⊎◌, inl, inr, ℕ, List, [], ◌∷◌, ◌++◌, sym, subst, ⊎_elim, false}
 use Rattle.atomic_table.specs.Seated.{TableId}
-use Rattle.okws_base.specs.Turns.{of, GrowsBy}
+use Rattle.okws_base.specs.Turns.{GrowsBy}
 use Rattle.turn_lock.specs.Seats.{SeatIs, Sight, sight, sights, AllGrow, AllClosed, AllRest, HasSight, SomeHas, Gathering}
 use Rattle.turn_lock.proofs.Grows.{grows_on}
 

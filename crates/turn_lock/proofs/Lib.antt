@@ -9,3 +9,4 @@ pub mod Reversed
 pub mod Grows
 pub mod Gathers
 pub mod Rows
+pub mod Dealt

@@ -1,25 +1,8 @@
 -- The parts that a join keeps.
-use Rattle.std.proofs.Common.{◌≡◌, ◌≢◌, ◌⊎◌, inl, inr, map, ℕ, zero, suc, ◌+◌, ◌-◌, ◌%◌, ◌^◌, ◌<◌, ◌≤◌, eqb, cond, Bool, true, false, List, [], ◌∷◌, ◌++◌, length, length-set, le_refl, drop, set, get_or, refl, sym, ap, ◌∙◌, subst, ⊎_elim, arith, append_assoc, append-nil, eq-eqb, ne_eqb, Some, None, Option, true≢false}
-use mathlib.Core.Logic.{dite}
-use mathlib.Core.Option as maybe
-use native.Mathlib.Decide.{ℕ_discrete}
-use lib.ListN.{get_elem?}
-use prog.Atomic.{either}
-use Rattle.atomic_table.specs.Table.{State, Me, Step, Act, keeps, takes, gives, step, stepped, Allows, Splits, Joins, Final, Seen, opening, Valid, carried_after, put_back, rest}
-use Rattle.std.proofs.Math.Seq.{drop-append_seam}
-use Rattle.std.proofs.Math.Nat.{mod-eq_of_lt}
-use Rattle.std.proofs.lemmas.List.{set-get_or}
-use Rattle.std.proofs.lemmas.Bool.{ltb-true, ltb-false}
-use Rattle.std.proofs.Math.Dec.{ltb}
-use Rattle.atomic_table.proofs.Lists.{at_set, at_longer, set_here, set_else, set_again, exchanged}
-use Rattle.atomic_table.specs.Seated.{TableId}
-use Rattle.atomic_table.specs.declared.shared.Seat.{Seat}
+use Rattle.std.proofs.Common.{◌≡◌, ◌⊎◌, inl, inr, ℕ, List, [], ◌∷◌, ◌++◌, sym, ap, ◌∙◌, subst, append_assoc}
 use Rattle.turn_lock.specs.declared.rule.View.{View}
 use Rattle.turn_lock.specs.declared.rule.Part.{Part}
-use Rattle.turn_lock.specs.declared.rule.Stage.{Stage}
-use Rattle.turn_lock.specs.declared.rule.Stage.TheVariants.{Idle, Waits, Holds}
-use Rattle.turn_lock.specs.Tickets.{note_number, StartsWith, World, shelf, is_out, HasTicket, ticketed, with_ticket, IsNote, Owns, Fits, AllFit, Spare, Turned, Waiting, Holding, Stands, Knows, Kept, part_of, view_of, staged, holding, given, Goes, drawn, Gets, looked, served, longer, note_of, dealer, dealt, joined, spent_view, with_seen, parts_of, KnowsBoth, learned, met, opening_view, HasNumber, AllTold, Rests, IsNew, AreNew}
-use Rattle.okws_base.specs.Turns.{of, AllBy}
+use Rattle.turn_lock.specs.Tickets.{StartsWith, with_seen, parts_of, HasNumber, AllTold}
 
 module _ {E : Type 0} (by : E → ℕ) where
   pub told-split : (log : List E) (ps qs : List (Part E)) → AllTold by log (ps ++ qs) → AllTold by log ps × AllTold by log qs

@@ -1,5 +1,5 @@
 -- What the lock tells of journals with the oldest entry first, told with the newest first.
-use Rattle.std.proofs.Common.{◌≡◌, ◌≢◌, ◌⊎◌, inl, inr, ℕ, zero, suc, ◌+◌, ◌<◌, ◌≤◌, eqb, cond, Bool, true, false, List, [], ◌∷◌, ◌++◌, map, reverse, length, drop, refl, sym, ap, ◌∙◌, subst, ⊎_elim, arith, append_assoc, append-nil, eq-eqb, ne_eqb, Some, None, Option}
+use Rattle.std.proofs.Common.{◌≡◌, inl, inr, ℕ, suc, ◌+◌, List, [], ◌∷◌, ◌++◌, map, reverse, length, drop, refl, sym, ap, ◌∙◌, subst, ⊎_elim, arith, append_assoc, append-nil, eq-eqb, ne_eqb, Option}
 use mathlib.Core.Logic.{dite}
 use native.Mathlib.Decide.{ℕ_discrete}
 use Rattle.std.proofs.Math.Seq.{drop-append_seam}
@@ -8,9 +8,7 @@ use Rattle.atomic_table.specs.Seated.{TableId}
 use Rattle.atomic_table.specs.declared.shared.Seat.{Seat}
 use Rattle.turn_lock.specs.declared.rule.View.{View}
 use Rattle.turn_lock.specs.declared.rule.Part.{Part}
-use Rattle.turn_lock.specs.declared.rule.Stage.{Stage}
-use Rattle.turn_lock.specs.declared.rule.Stage.TheVariants.{Idle, Waits, Holds}
-use Rattle.turn_lock.specs.Tickets.{note_number, parts_of, StartsWith, Goes, HasNumber, AllTold, part_of, IsNew, AreNew}
+use Rattle.turn_lock.specs.Tickets.{StartsWith, Goes, HasNumber, AllTold, IsNew, AreNew}
 use Rattle.okws_base.specs.Turns.{of, AllBy}
 use Rattle.turn_lock.proofs.Views.{of-append, of-own}
 use Rattle.turn_lock.specs.Seats.{Sight, SeatIs, AllGrow, HasSight, sight_of, AllComplete, seat_of, IsSeat, IsFresh, AreFresh}

@@ -1,8 +1,8 @@
 -- Rows of seats that are joined and ended from their ends.
-use Rattle.std.proofs.Common.{◌≡◌, ◌⊎◌, inl, inr, ℕ, zero, suc, ◌+◌, ◌<◌, ◌≤◌, List, [], ◌∷◌, ◌++◌, map, reverse, length, get_or, set, false, refl, sym, ap, ◌∙◌, subst, ⊎_elim, arith, append_assoc, append-nil}
+use Rattle.std.proofs.Common.{◌≡◌, ◌⊎◌, inl, inr, ℕ, zero, suc, ◌+◌, ◌<◌, ◌≤◌, List, [], ◌∷◌, ◌++◌, map, reverse, length, get_or, set, refl, sym, ap, ◌∙◌, subst, ⊎_elim, arith, append_assoc, append-nil}
 use Rattle.std.proofs.lemmas.List.{reverse-append, map-append}
-use Rattle.okws_base.specs.Turns.{of, GrowsBy, Behind}
-use Rattle.turn_lock.specs.Seats.{TurnIs, SeatIs, Sight, sight, sights, AllGrow, HasSight}
+use Rattle.okws_base.specs.Turns.{of}
+use Rattle.turn_lock.specs.Seats.{TurnIs, SeatIs, sights, AllGrow, HasSight}
 use Rattle.turn_lock.specs.Rows.{RestsAt, RestRow, RestRows, AllCount, IsJoined, JoinedRow, RowHas, SomeRowHas, GrownRow, GrownRows, NoneFrom, Rowing, Ending, RowsGathering}
 use Rattle.turn_lock.proofs.Spots.{empty_of}
 use Rattle.turn_lock.proofs.Reversed.{push_length}

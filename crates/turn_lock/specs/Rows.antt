@@ -42,6 +42,19 @@ Beside (r ∷ rs) [] qs = ⊥
 Beside (r ∷ rs) (a ∷ as') [] = ⊥
 Beside (r ∷ rs) (a ∷ as') (q ∷ qs) = (q ≡ r ++ a ∷ []) × Beside rs as' qs
 
+-- Of the rows `all`, those of `left` are to get one more seat, of `seats` those of `left_seats`, and `longer` are the others, turned round.
+pub record Extending {S : Type 0} (all left : List (List S)) (seats left_seats : List S) (longer : List (List S)) : Type 0 where
+  pub done : List (List S)
+  pub done_seats : List S
+  pub all_is : all ≡ left ++ done
+  pub seats_is : seats ≡ left_seats ++ done_seats
+  pub beside : Beside done done_seats (reverse longer)
+
+-- Each of these journals is empty.
+abbrev pub AllNone : {E : Type 0} → List (List E) → Type 0
+AllNone [] = Unit {0}
+AllNone (J ∷ Js) = (J ≡ []) × AllNone Js
+
 -- Each lock was made for this many seats.
 abbrev pub AllCount : ℕ → List TurnIs → Type 0
 AllCount n [] = Unit {0}

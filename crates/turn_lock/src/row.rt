@@ -1,10 +1,18 @@
 //! Locks in a row, whose number is known at run time, and seats of one number at each of them.
-ghost use Rattle.std.specs.Prelude.{◌≡◌, ℕ, ◌+◌, ◌<◌, ◌≤◌, [], All, length, map, reverse, vec_len, vec_capacity, IfOk};
-ghost use Rattle.turn_lock.specs.Rows.{RestRow, RestRows, FreshRows, Beside, AllCount, JoinedRow, RowHas, SomeRowHas, GrownRow, GrownRows, NoneFrom};
+ghost use Rattle.std.specs.Prelude.{◌≡◌, ℕ, ◌+◌, ◌<◌, ◌≤◌, [], length, map, reverse, vec_len, vec_capacity, IfOk};
+ghost use Rattle.turn_lock.specs.Rows.{RestRow, RestRows, FreshRows, Beside, AllCount, AllNone, JoinedRow, RowHas, SomeRowHas, GrownRow, GrownRows, NoneFrom};
 
 use crate::journaled::Journaled;
 use crate::turn::{Seat, Turn};
 use std::alloc::{AllocError, Global};
+
+// The same, the last first.
+fn turned<T>(mut items: Vec<T>) -> Vec<T>
+    ensures { result.items ≡ reverse items.items }
+{
+    items.as_mut_slice().reverse();
+    items
+}
 
 // Rows with no seats yet.
 fn empty_rows<V: Journaled + Drop>(
@@ -37,8 +45,7 @@ fn extend<V: Journaled + Drop>(
         row.push(seat)?;
         longer.push(row)?;
     }
-    longer.as_mut_slice().reverse();
-    Ok(longer)
+    Ok(turned(longer))
 }
 
 /// A lock round each of the values, whose journals are empty, in their order, and rows of seats that have
@@ -46,19 +53,19 @@ fn extend<V: Journaled + Drop>(
 /// last.
 pub fn make_row<V: Journaled + Drop>(
     alloc: Global,
-    mut values: Vec<V>,
+    values: Vec<V>,
     count: u16,
 ) -> Result<(Vec<Turn<V>>, Vec<Vec<Seat<V>>>), AllocError>
     requires count { 0 < count }
-    requires journals { All (λ v. V.journal v ≡ []) values.items }
+    requires journals { AllNone (map V.journal values.items) }
     ensures labels { IfOk result (λ r. map (λ t. t.label) r.0.items ≡ map V.label values.items) }
     ensures counts { IfOk result (λ r. AllCount count r.0.items × (vec_len r.1 ≡ count)) }
     ensures fresh { IfOk result (λ r. FreshRows r.0.items 0 (map (λ s. s.items) r.1.items)) }
 {
     let mut turns = Vec::with_capacity(alloc, values.len())?;
     let mut rows = empty_rows(alloc, count)?;
-    values.as_mut_slice().reverse();
-    while let Some(value) = values.pop() {
+    let mut left = turned(values);
+    while let Some(value) = left.pop() {
         let Ok((turn, seats)) = Turn::new(alloc, value, count) else {
             return Err(AllocError);
         };

@@ -1,4 +1,4 @@
-use Rattle.std.proofs.Common.{rules, ◌≡◌, [], map, reverse, ap}
+use Rattle.std.proofs.Common.{rules, map, reverse, ap}
 use Rattle.turn_lock.proofs.Spots.{empty_of}
 use Rattle.turn_lock.proofs.Rows.{gather_first, gather_rest, gather_next, gather_all, pushed_map}
 use Rattle.turn_lock.proofs.row.close_row.Goals as goal

@@ -1,4 +1,4 @@
-use Rattle.std.proofs.Common.{rules, ◌≡◌, ◌∷◌, ◌++◌, ◌≤◌, [], map, reverse, length, sym, ap, subst}
+use Rattle.std.proofs.Common.{rules, ◌≡◌, ◌∷◌, ◌++◌, [], map, reverse, length, sym, subst}
 use Rattle.turn_lock.specs.Rows.{Ending}
 use Rattle.turn_lock.proofs.Spots.{empty_of}
 use Rattle.turn_lock.proofs.Rows.{ends_first, ends_here, ends_next, ends_last, turned_push, rest_length}
@@ -37,7 +37,7 @@ loop-turn-preserved g c =
     let v = c.end.result in
     let more : now ≡ done ++ v ∷ [] = search rules in
     let next = ends_next by c.args.count c.args.turns.items c.args.seats.items c.loop-turn.turns.items c.pop.new.self.items c.loop-turn.seats.items c.pop-in-Some.new.self.items c.in-Some.turn c.in-Some-pop.seat (journal v) (reverse (map journal done)) (label v) (reverse (map label done))
-        c.in-Some.ensures.items c.in-Some-pop.ensures.items c.end.ensures.told c.end.ensures.none c.end.ensures.label c.loop-turn.invariant.0 in
+    c.in-Some.ensures.items c.in-Some-pop.ensures.items c.end.ensures.told c.end.ensures.none c.end.ensures.label c.loop-turn.invariant.0 in
     let one = subst (λ x. Ending by c.args.count c.pop.new.self.items c.args.turns.items c.pop-in-Some.new.self.items c.args.seats.items x (label v ∷ reverse (map label done))) (sym (turned_push journal now done v more)) next in (
       subst (λ x. Ending by c.args.count c.pop.new.self.items c.args.turns.items c.pop-in-Some.new.self.items c.args.seats.items (reverse (map journal now)) x) (sym (turned_push label now done v more)) one,
       search rules,

@@ -1,4 +1,4 @@
-use Rattle.std.proofs.Common.{rules, arith, ◌≡◌, ◌-◌, ◌∙◌, [], ◌∷◌, ◌++◌, map, sym, ap, subst}
+use Rattle.std.proofs.Common.{rules, arith, ◌-◌, map, sym, ap, subst}
 use Rattle.turn_lock.specs.Tickets.{AreNew, IsNew}
 use Rattle.turn_lock.proofs.Spots.{new-push, is_new}
 use Rattle.turn_lock.proofs.queue.Queue.new.Goals as goal

@@ -1,5 +1,5 @@
-use Rattle.std.proofs.Common.{rules, arith, ◌≡◌, ◌∙◌, [], ◌∷◌, ◌++◌, length, sym, subst}
-use Rattle.turn_lock.specs.Seats.{SeatIs, Gathering}
+use Rattle.std.proofs.Common.{rules, sym, subst}
+use Rattle.turn_lock.specs.Seats.{Gathering}
 use Rattle.turn_lock.proofs.Spots.{empty_of}
 use Rattle.turn_lock.proofs.Gathers.{gathers_first, gathers_rest, gathers, gathered}
 use Rattle.turn_lock.proofs.turn.Turn.close.Goals as goal

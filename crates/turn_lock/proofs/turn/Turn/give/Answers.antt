@@ -1,7 +1,7 @@
-use Rattle.std.proofs.Common.{rules, arith, ◌≡◌, ℕ, ◌<◌, ◌≤◌, ◌+◌, suc, [], ◌∷◌, ◌++◌, map, reverse, length, refl, sym, ap, ◌∙◌, subst}
-use Rattle.turn_lock.specs.Seats.{SeatIs, AllGrow, HasSight, sight, sights, sight_of, AllComplete, IsSeat, AreFresh, IsFresh, IsOut, seat_of}
-use Rattle.okws_base.specs.Turns.{GrowsBy, AddsBy, Behind}
-use Rattle.turn_lock.proofs.Reversed.{grown, goes, complete_given, complete_learned, grown_learned, complete-append, all_grown, none_of, behind, has_number, new-pop, is_seat, is_fresh, fresh-push}
+use Rattle.std.proofs.Common.{sym, ◌∙◌, subst}
+use Rattle.turn_lock.specs.Seats.{SeatIs, AllComplete}
+use Rattle.okws_base.specs.Turns.{AddsBy}
+use Rattle.turn_lock.proofs.Reversed.{goes, complete_given}
 use Rattle.turn_lock.proofs.turn.Turn.give.Goals as goal
 
 pub give-requires-clause-entries : goal.give-requires-clause-entries

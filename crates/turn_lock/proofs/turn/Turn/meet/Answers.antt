@@ -1,7 +1,7 @@
-use Rattle.std.proofs.Common.{rules, arith, ◌≡◌, ℕ, ◌<◌, ◌≤◌, ◌+◌, suc, [], ◌∷◌, ◌++◌, map, reverse, length, refl, sym, ap, ◌∙◌, subst}
-use Rattle.turn_lock.specs.Seats.{SeatIs, AllGrow, HasSight, sight, sights, sight_of, AllComplete, IsSeat, AreFresh, IsFresh, IsOut, seat_of}
+use Rattle.std.proofs.Common.{ℕ, reverse, sym, ap, ◌∙◌, subst}
+use Rattle.turn_lock.specs.Seats.{SeatIs, AllComplete}
 use Rattle.okws_base.specs.Turns.{GrowsBy, AddsBy, Behind}
-use Rattle.turn_lock.proofs.Reversed.{grown, goes, complete_given, complete_learned, grown_learned, complete-append, all_grown, none_of, behind, has_number, new-pop, is_seat, is_fresh, fresh-push}
+use Rattle.turn_lock.proofs.Reversed.{complete_learned, grown_learned, behind}
 use Rattle.turn_lock.proofs.turn.Turn.meet.Goals as goal
 
 pub invariant_of-seat : goal.invariant_of-seat

@@ -1,4 +1,4 @@
-use Rattle.std.proofs.Common.{rules, arith, ◌≡◌, ◌+◌, ◌≤◌, suc, [], ◌∷◌, ◌++◌, map, length, sym, ap, ◌∙◌, subst}
+use Rattle.std.proofs.Common.{rules, arith, ◌≡◌, ◌+◌, suc, map, length, sym, ap, ◌∙◌, subst}
 use Rattle.turn_lock.specs.Tickets.{AreNew, IsNew}
 use Rattle.turn_lock.specs.Seats.{AreFresh, seat_of}
 use Rattle.turn_lock.proofs.Reversed.{new-pop, is_seat, is_fresh, fresh-push, push_length}

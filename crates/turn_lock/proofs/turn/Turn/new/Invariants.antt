@@ -1,5 +1,5 @@
 use Rattle.std.proofs.Common.{◌≡◌, ◌+◌, ◌≤◌, length, map}
-use Rattle.std.specs.Prelude.{vec_len, vec_capacity}
+use Rattle.std.specs.Prelude.{vec_capacity}
 use Rattle.turn_lock.specs.Tickets.{AreNew}
 use Rattle.turn_lock.specs.Seats.{AreFresh}
 use Rattle.turn_lock.proofs.turn.Turn.new.Given as goal

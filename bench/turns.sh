@@ -1,13 +1,14 @@
 #!/bin/sh
 # Times taking and giving turns with 1, 2, 4 and 8 threads, beside the library's Mutex in the same run, in a
-# copy of the repository: the program is proved, built by LLVM and run. Run it at the top of the repository.
+# copy of the repository, and then what a thread takes of the processor while it waits a second: the program is
+# proved, built by LLVM and run. Run it at the top of the repository.
 set -eu
 below='okws_base turn_lock'
 copy=$(mktemp -d)
 trap 'rm -rf "$copy"' EXIT
 cp HANDLES "$copy"
 bench="$copy/crates/turns_bench"
-mkdir -p "$bench/src" "$bench/specs" "$bench/proofs/race_turns" "$bench/proofs/by_turns"
+mkdir -p "$bench/src" "$bench/specs" "$bench/proofs/race_turns" "$bench/proofs/wait_a_second" "$bench/proofs/by_turns"
 for crate in $below; do
     cp -R "crates/$crate" "$copy/crates"
     grep "^$crate:" crates.txt >> "$copy/crates.txt"
@@ -34,6 +35,7 @@ use Rattle.turns_bench.proofs.race_turns.Goals as goal
 pub map_vec-done-requires-after_bounds : goal.map_vec-done-requires-after_bounds
 map_vec-done-requires-after_bounds g c κs within = λ i x l e. each_free _ _ 0 c.in-Ok.seats.items c.in-Ok.ensures.ok.3 i x l e
 END
+sed 's/race_turns/wait_a_second/' "$bench/proofs/race_turns/Answers.antt" > "$bench/proofs/wait_a_second/Answers.antt"
 cat > "$bench/proofs/by_turns/Invariants.antt" <<'END'
 use Rattle.std.proofs.Common.{◌≡◌, false}
 use Rattle.turns_bench.proofs.by_turns.Given as goal

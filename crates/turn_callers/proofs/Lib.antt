@@ -1,1 +1,3 @@
 pub mod Makes
+pub mod Rounds
+pub mod Draws

@@ -1,1 +1,3 @@
 pub mod Works
+pub mod Rounds
+pub mod Draws

@@ -29,7 +29,7 @@ impl Ledger {
         ensures label { result.label ≡ label }
     {
         Ledger {
-            entries: Journal::new(alloc),
+            entries: Journal::new(alloc, true),
             holder: 0,
             label,
         }
@@ -50,7 +50,7 @@ impl Ledger {
 
     /// The entries, the oldest first.
     pub fn as_slice(&self) -> &[Entry<u64>] {
-        self.entries.as_slice()
+        self.entries.as_slice().unwrap_or(&[])
     }
 }
 

@@ -27,8 +27,8 @@ impl Model for Worker {
     ghost view = { λ w. record { number = w.number; first = w.first; second = w.second; at_first = w.at_first; at_second = w.at_second } };
 }
 
-// Takes the turn, enters a number, and gives the turn up.
-fn enter<R: Wait>(
+/// Takes the turn, enters a number, and gives the turn up.
+pub(crate) fn enter<R: Wait>(
     rt: &R,
     turn: &Turn<Ledger>,
     seat: &mut Seat<Ledger>,

@@ -70,7 +70,7 @@ module _ {E : Type 0} where
   none-pop [] J a = (tt, a.0)
   none-pop (I ∷ Js) J a = let h = none-pop Js J a.1 in ((a.0, h.0), h.1)
 
-  none-push : (Js : List (List E)) (J : List E) → AllNone Js → J ≡ [] → AllNone (Js ++ J ∷ [])
+  pub none-push : (Js : List (List E)) (J : List E) → AllNone Js → J ≡ [] → AllNone (Js ++ J ∷ [])
   none-push [] J a e = (e, tt)
   none-push (I ∷ Js) J a e = (a.0, none-push Js J a.1 e)
 

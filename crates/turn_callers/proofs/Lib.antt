@@ -1,3 +1,4 @@
 pub mod Makes
 pub mod Rounds
 pub mod Draws
+pub mod Frees

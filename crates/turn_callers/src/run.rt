@@ -20,8 +20,8 @@ pub struct Done {
     pub made: Vec<(u64, u64)>,
 }
 
-// The column behind a lock, and a seat of it for each worker.
-fn column(
+/// The column behind a lock, and a seat of it for each worker.
+pub(crate) fn column(
     alloc: Global,
     label: u16,
     count: u16,

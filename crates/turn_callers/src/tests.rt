@@ -4,7 +4,7 @@ ghost use Rattle.std.specs.Prelude.{◌≡◌, ◌<◌, false};
 use crate::drawing::draw_numbers;
 use crate::ledger::Ledger;
 use crate::row::take_rounds;
-use crate::run::take_turns;
+use crate::run::{column, take_turns};
 use std::rt::Clock;
 use std::sync::Wait;
 use std::test::Fail;
@@ -115,9 +115,7 @@ fn sleep_in_turn<R: Wait + Clock>(rt: &R, turn: &Turn<Ledger>, mut seat: Seat<Le
 #[test]
 fn a_turn_is_taken_while_the_holder_sleeps(rt: HostRuntime) -> Result<(), Fail> {
     let alloc = rt.alloc();
-    let Ok((turn, seats)) = Turn::new(alloc, Ledger::new(alloc, 0), 4) else {
-        return Err(Fail);
-    };
+    let (turn, seats) = column(alloc, 0, 4)?;
     let lock = &turn;
     let start = Instant::now(&rt)?;
     let done = thread::map_vec(

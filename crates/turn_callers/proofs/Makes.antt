@@ -1,10 +1,10 @@
 -- What a worker's entries are, from its first turn to the closing.
-use Rattle.std.proofs.Common.{◌≡◌, ◌⊎◌, inl, inr, ℕ, zero, suc, ◌+◌, ◌<◌, ◌≤◌, Bool, false, List, [], ◌∷◌, ◌++◌, map, length, reverse, refl, sym, ap, ◌∙◌, subst, arith, append_assoc, eqb, eq-eqb, slice_index_or}
+use Rattle.std.proofs.Common.{◌≡◌, inl, inr, ℕ, zero, suc, ◌+◌, ◌<◌, ◌≤◌, List, [], ◌∷◌, ◌++◌, map, length, reverse, refl, sym, ap, ◌∙◌, subst, arith, append_assoc, eq-eqb, slice_index_or}
 use mathlib.Core.Logic.{dite}
 use native.Mathlib.Decide.{ℕ_discrete}
 use Rattle.atomic_table.specs.Seated.{TableId}
 use Rattle.okws_base.specs.declared.journal.Entry.{Entry}
-use Rattle.okws_base.specs.Turns.{of, AllBy, GrowsBy, AddsBy}
+use Rattle.okws_base.specs.Turns.{of, GrowsBy, AddsBy}
 use Rattle.turn_lock.specs.Seats.{SeatIs, IsFresh, AllRest, AllClosed, SomeHas}
 use Rattle.turn_lock.proofs.Grows.{of-grows}
 use Rattle.std.proofs.lemmas.List.{reverse-append}

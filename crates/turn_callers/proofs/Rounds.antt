@@ -1,12 +1,11 @@
 -- Rows of seats that make their rounds.
-use Rattle.std.proofs.Common.{◌≡◌, ◌⊎◌, inl, inr, ℕ, zero, suc, ◌+◌, ◌<◌, ◌≤◌, List, [], ◌∷◌, ◌++◌, map, length, get_or, set, take, drop, slice_index_or, refl, sym, ap, append-nil, reverse, ◌∙◌, subst, ⊎_elim, arith}
+use Rattle.std.proofs.Common.{◌≡◌, inl, inr, ℕ, zero, suc, ◌+◌, ◌<◌, List, [], ◌∷◌, ◌++◌, map, length, get_or, set, take, drop, slice_index_or, refl, sym, ap, append-nil, reverse, ◌∙◌, subst, ⊎_elim, arith}
 use Rattle.std.proofs.Math.Seq.{take-length}
 use Rattle.std.proofs.lemmas.List.{drop_all, length-map, length-reverse}
 use mathlib.Core.Logic.{dite}
 use native.Mathlib.Decide.{ℕ_discrete}
-use Rattle.turn_lock.specs.Seats.{TurnIs, SeatIs, HasSight, sights}
-use Rattle.turn_lock.specs.Rows.{RestsAt, RestRow, RestRows, IsFreshRow, FreshRows, RowHas, SomeRowHas}
-use Rattle.turn_lock.proofs.Rows.{rest_length, rest_at}
+use Rattle.turn_lock.specs.Seats.{TurnIs, SeatIs, HasSight}
+use Rattle.turn_lock.specs.Rows.{RestRow, RestRows, IsFreshRow, FreshRows, RowHas, SomeRowHas}
 use Rattle.turn_callers.specs.Rounds.{SeenRow, SeenRows}
 
 module _ {E : Type 0} where

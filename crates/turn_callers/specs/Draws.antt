@@ -1,7 +1,6 @@
 -- Seats that draw numbers at a board.
 use Rattle.std.specs.Prelude.{◌≡◌, ℕ, List, [], ◌∷◌, reverse}
 use Rattle.atomic_table.specs.Seated.{TableId}
-use Rattle.live_board.specs.Seats.{MayDraw}
 
 -- A drawer: its seat's board, the numbers that the seat drew, the last one first, and those that the drawer keeps.
 pub record DrawerIs : Type 0 where

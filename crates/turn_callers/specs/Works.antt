@@ -1,8 +1,8 @@
 -- What workers that take turns at two columns enter.
-use Rattle.std.specs.Prelude.{◌≡◌, ℕ, zero, suc, ◌+◌, ◌≤◌, ◌<◌, List, [], ◌∷◌, false}
+use Rattle.std.specs.Prelude.{◌≡◌, ℕ, zero, suc, List, [], ◌∷◌, false}
 use Rattle.atomic_table.specs.Seated.{TableId}
 use Rattle.okws_base.specs.declared.journal.Entry.{Entry}
-use Rattle.okws_base.specs.Turns.{of, GrowsBy}
+use Rattle.okws_base.specs.Turns.{of}
 use Rattle.turn_lock.specs.Seats.{SeatIs}
 
 -- A column of numbers: what was entered, the newest first, the number that new entries name, and which column it is.

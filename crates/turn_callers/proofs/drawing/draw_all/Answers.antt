@@ -1,4 +1,4 @@
-use Rattle.std.proofs.Common.{rules, ◌≡◌, sym, subst}
+use Rattle.std.proofs.Common.{rules, sym, subst}
 use Rattle.turn_callers.specs.Draws.{DrawerIs, Ready, Drew}
 use Rattle.turn_callers.proofs.Draws.{ready_at, drew_after}
 use Rattle.turn_callers.proofs.drawing.draw_all.Goals as goal

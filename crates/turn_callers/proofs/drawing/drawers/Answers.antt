@@ -1,7 +1,7 @@
-use Rattle.std.proofs.Common.{rules, ◌≡◌, ◌++◌, ◌∷◌, [], suc, length, refl, sym, ap, ◌∙◌, subst}
+use Rattle.std.proofs.Common.{rules, ◌≡◌, ◌++◌, ◌∷◌, [], suc, length, sym, ap, ◌∙◌, subst}
 use Rattle.live_board.specs.Seats.{AreFresh}
 use Rattle.turn_lock.proofs.Reversed.{push_length}
-use Rattle.turn_callers.specs.Draws.{DrawerIs, AllReady, Ready}
+use Rattle.turn_callers.specs.Draws.{DrawerIs, AllReady}
 use Rattle.turn_callers.proofs.Draws.{fresh_pop, ready-push}
 use Rattle.turn_callers.proofs.drawing.drawers.Goals as goal
 

@@ -1,4 +1,4 @@
-use Rattle.std.proofs.Common.{rules, ◌≡◌, sym, subst, map, slice_index_or}
+use Rattle.std.proofs.Common.{rules, sym, subst, slice_index_or}
 use Rattle.turn_lock.specs.Rows.{RestRow}
 use Rattle.turn_callers.specs.Rounds.{SeenRow}
 use Rattle.turn_callers.proofs.Rounds.{rounds_after, rounds_ready}

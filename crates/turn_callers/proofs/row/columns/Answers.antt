@@ -1,4 +1,4 @@
-use Rattle.std.proofs.Common.{rules, ◌≡◌, ◌++◌, ◌∷◌, [], map, sym, ap, ◌∙◌, subst}
+use Rattle.std.proofs.Common.{rules, ◌≡◌, ◌++◌, ◌∷◌, [], map, sym, subst}
 use Rattle.turn_lock.specs.Rows.{AllNone}
 use Rattle.turn_lock.proofs.Rows.{pushed_map}
 use Rattle.turn_lock.proofs.Dealt.{none-push}

@@ -1,4 +1,4 @@
-use Rattle.std.proofs.Common.{rules, arith, ◌≡◌, ◌<◌, length}
+use Rattle.std.proofs.Common.{rules, ◌<◌, length}
 use Rattle.turn_lock.proofs.Rows.{rest_length, rest_at}
 use Rattle.turn_callers.proofs.Rounds.{seen_same, seen_on, seen_rest, seen_set, seen_length}
 use Rattle.turn_callers.proofs.row.round.Goals as goal

@@ -1,4 +1,4 @@
-use Rattle.std.proofs.Common.{rules, arith, ◌≡◌, ◌<◌, ◌∙◌, map, sym, ap, subst, length}
+use Rattle.std.proofs.Common.{rules, arith, ◌≡◌, ◌∙◌, map, sym, ap, subst, length}
 use Rattle.turn_lock.specs.Rows.{RestRows, SomeRowHas}
 use Rattle.turn_callers.proofs.Rounds.{fresh_rest, fresh_has, all_rest, some_has, put_back, as_many}
 use Rattle.turn_callers.proofs.row.take_rounds.Goals as goal

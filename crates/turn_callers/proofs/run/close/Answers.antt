@@ -1,8 +1,8 @@
-use Rattle.std.proofs.Common.{rules, arith, ◌≡◌, ◌<◌, ◌∙◌, [], ◌∷◌, ◌++◌, map, length, reverse, sym, ap, subst}
+use Rattle.std.proofs.Common.{rules, arith, ◌≡◌, [], ◌∷◌, ◌++◌, map, length, sym, ap, subst}
 use Rattle.turn_lock.specs.Seats.{Gathering}
 use Rattle.turn_lock.proofs.Spots.{empty_of}
 use Rattle.turn_lock.proofs.Gathers.{gathers_first, gathers_rest, gathers, gathered}
-use Rattle.turn_callers.specs.Works.{by_worker, WorkerIs, counts, AllMade}
+use Rattle.turn_callers.specs.Works.{by_worker, WorkerIs, AllMade}
 use Rattle.turn_callers.proofs.Makes.{split_map, counts-first, counts-next, counts-last, rest-first, rest-second, has-first, has-second, all_made}
 use Rattle.turn_callers.proofs.run.close.Goals as goal
 

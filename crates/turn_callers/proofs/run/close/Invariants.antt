@@ -1,4 +1,4 @@
-use Rattle.std.proofs.Common.{◌≡◌, ◌+◌, ◌≤◌, ◌++◌, length, map, reverse}
+use Rattle.std.proofs.Common.{◌≡◌, ◌+◌, ◌++◌, length, map, reverse}
 use Rattle.std.specs.Prelude.{vec_len, vec_capacity}
 use Rattle.turn_lock.specs.Seats.{Gathering}
 use Rattle.turn_callers.specs.Works.{by_worker, counts}

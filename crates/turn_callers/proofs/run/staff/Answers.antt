@@ -1,4 +1,4 @@
-use Rattle.std.proofs.Common.{rules, arith, ◌≡◌, ◌+◌, suc, [], ◌∷◌, ◌++◌, length, refl, sym, ap, ◌∙◌, subst}
+use Rattle.std.proofs.Common.{rules, arith, ◌≡◌, suc, [], ◌∷◌, ◌++◌, length, refl, sym, ap, ◌∙◌, subst}
 use Rattle.turn_lock.specs.Seats.{AreFresh}
 use Rattle.turn_lock.proofs.Reversed.{fresh_pops, push_length}
 use Rattle.turn_callers.specs.Works.{WorkerIs, Made, Works, AreWorkers, AllIdle}

@@ -1,4 +1,4 @@
-use Rattle.std.proofs.Common.{rules, ◌≡◌, ◌∙◌, sym, subst, slice_index_or}
+use Rattle.std.proofs.Common.{rules, ◌≡◌, sym, subst, slice_index_or}
 use Rattle.turn_callers.specs.Works.{WorkerIs, Works}
 use Rattle.turn_callers.proofs.Makes.{after, ready}
 use Rattle.turn_callers.proofs.run.work_all.Goals as goal

@@ -1,5 +1,4 @@
-use Rattle.std.proofs.Common.{rules, ◌≡◌, ◌∷◌, ◌∙◌, sym, ap, subst}
-use Rattle.turn_callers.specs.Works.{LedgerIs}
+use Rattle.std.proofs.Common.{rules}
 use Rattle.turn_callers.proofs.Makes.{adds_one}
 use Rattle.turn_callers.proofs.worker.enter.Goals as goal
 

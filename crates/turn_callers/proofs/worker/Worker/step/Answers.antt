@@ -1,5 +1,5 @@
-use Rattle.std.proofs.Common.{rules, ◌≡◌, ◌+◌, ◌∷◌, sym, subst}
-use Rattle.turn_callers.specs.Works.{WorkerIs, Works, Made}
+use Rattle.std.proofs.Common.{sym, subst}
+use Rattle.turn_callers.specs.Works.{Works}
 use Rattle.turn_callers.proofs.Makes.{grew, entered}
 use Rattle.turn_callers.proofs.worker.Worker.step.Goals as goal
 

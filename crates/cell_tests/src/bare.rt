@@ -16,7 +16,6 @@ use std::alloc::{AllocError, Global};
 pub(crate) struct Bare {
     alloc: Global,
     pub(crate) shown: u32,
-    is_drained: bool,
     drained: Journal<Entry<PubdEvent>>,
     own: Journal<Own>,
 }
@@ -26,7 +25,6 @@ impl Bare {
         Bare {
             alloc,
             shown: 1,
-            is_drained: false,
             drained: Journal::new(alloc, true),
             own: Journal::new(alloc, true),
         }
@@ -67,10 +65,10 @@ impl Columns for Bare {
     }
 
     fn drain(&mut self, service: u16, incarnation: u32) -> Result<Vec<Push>, AllocError> {
-        if self.is_drained {
-            return Err(AllocError);
+        match self.drained.as_slice() {
+            Some(items) if items.is_empty() => {}
+            _ => return Err(AllocError),
         }
-        self.is_drained = true;
         self.drained.make_room(1)?;
         self.own.make_room(2)?;
         self.own.enter(Own::Dialog(service));

@@ -1,6 +1,6 @@
 //! Links that make room but a few times.
 
-ghost use Rattle.std.specs.Prelude.{false};
+ghost use Rattle.std.specs.Prelude.{◌≡◌, false};
 
 use okws_outer::stream::{Link, Pull, Put};
 use std::alloc::AllocError;
@@ -13,7 +13,9 @@ pub(crate) struct Scant<L: Link> {
 }
 
 impl<L: Link> Scant<L> {
-    pub(crate) fn new(link: L, rooms: u32) -> Self {
+    pub(crate) fn new(link: L, rooms: u32) -> Self
+        ensures { result.link ≡ link }
+    {
         Scant { link, rooms }
     }
 }

@@ -26,7 +26,7 @@ abbrev pub with_open : Option Opened → List CellEvent → List CellEvent
 with_open None J = J
 with_open (Some opened) J = cell.Speaking 0 opened.items ∷ J
 
--- The record of a state: the journals, each cell with its open dialog, if any, as its last, no doors, and one list.
+-- The record of a state: the journals, each cell with its open dialog, if any, as its last, no doors, and one list; of links a state tells nothing.
 abbrev pub record_of : Stage → Record
 record_of S = record {
   okd = S.seen.okd;
@@ -35,6 +35,7 @@ record_of S = record {
   oklogd = S.seen.oklogd;
   launcher = S.seen.launcher;
   cells = map (λ (there : Stand). with_open there.open_dialog there.past) S.stands;
+  sents = [];
   doors = [];
   workers = S.seen.own ∷ [];
   launches = [];

@@ -1,5 +1,5 @@
 -- What the links of a cell's incarnations were given, against what those heard.
-use Rattle.std.specs.Prelude.{◌≡◌, ℕ, Bool, true, false, List, [], ◌∷◌, ◌++◌, Option, Some, None, ◌==◌, ◌&&◌, ◌||◌, ◌⊎◌, map}
+use Rattle.std.specs.Prelude.{◌≡◌, ℕ, Bool, true, false, List, [], ◌∷◌, ◌++◌, Option, Some, None, ◌==◌, ◌&&◌, ◌||◌, ◌⊎◌, map, slice_index_or, IsSome}
 use Rattle.okws_base.specs.Runs.{Each}
 use Rattle.okws_plan.specs.declared.configuration.Config.{Config}
 use Rattle.frame_codec.specs.Spelling.{server_spelling}
@@ -8,6 +8,7 @@ use Rattle.monitor_model.specs.declared.record.CellEvent.{CellEvent}
 use Rattle.monitor_model.specs.declared.record.CellEvent.TheVariants as cell
 use Rattle.monitor_model.specs.declared.record.End.{End}
 use Rattle.monitor_model.specs.declared.record.End.TheVariants as end
+use Rattle.monitor_model.specs.declared.record.Record.{Record}
 use Rattle.monitor_model.specs.declared.sent.Sent.{Sent}
 use Rattle.monitor_model.specs.Cell.{incarnation, heard}
 
@@ -57,3 +58,20 @@ IsSent C seed s J x = IsGiven (heard C seed s x.incarnation J) (is_broken x.inca
 pub record AreSent (C : Config) (seed : List ℕ) (s : ℕ) (J : List CellEvent) (sent : List Sent) : Type 0 where
   pub all : map (λ (x : Sent). x.incarnation) sent ≡ all_booted J
   pub each : Each (IsSent C seed s J) sent
+
+-- What the links of a service's incarnations were given, by a record.
+abbrev pub sents_of : Record → ℕ → List Sent
+sents_of R s = slice_index_or R.sents s []
+
+-- The link tells what it was given.
+abbrev pub IsToldOf : Sent → Type 0
+IsToldOf x = IsSome x.given
+
+-- The link of an incarnation of s was given just what that heard.
+abbrev pub IsGivenAll : Config → List ℕ → ℕ → List CellEvent → Sent → Type 0
+IsGivenAll C seed s J x = x.given ≡ Some (heard C seed s x.incarnation J)
+
+-- One link for each incarnation of s that was booted, the last one first, and each was given just what its incarnation heard.
+pub record AreGivenAll (C : Config) (seed : List ℕ) (s : ℕ) (J : List CellEvent) (sent : List Sent) : Type 0 where
+  pub all : map (λ (x : Sent). x.incarnation) sent ≡ all_booted J
+  pub each : Each (IsGivenAll C seed s J) sent

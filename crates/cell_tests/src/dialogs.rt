@@ -10,7 +10,7 @@ use crate::bare::Bare;
 use crate::scant::Scant;
 use okws_base::crash::Cause;
 use okws_base::items::Items;
-use okws_outer::memory::link::MemoryLink;
+use okws_outer::memory::link::{FedLink, MemoryLink};
 use okws_outer::stream::Link;
 use okws_plan::configuration::Config;
 use service_cell::answer::{Advanced, Begun, Booting};

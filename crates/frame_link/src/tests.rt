@@ -4,7 +4,7 @@ use crate::receiving::{NextFrame, next};
 use crate::sending::send;
 use frame_codec::frame::{ServerFrame, ServiceFrame};
 use okws_base::items::Items;
-use okws_outer::memory::link::MemoryLink;
+use okws_outer::memory::link::{FedLink, MemoryLink};
 use okws_outer::stream::Link;
 use std::alloc::{AllocError, Global};
 use std::process::Abort;

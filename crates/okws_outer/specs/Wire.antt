@@ -1,5 +1,5 @@
 -- A link as contracts see it, and what each call leaves as it was.
-use Rattle.std.specs.Prelude.{◌≡◌, ◌≤◌, ℕ, ◌+◌, Bool, true, false, List, [], ◌++◌, Some, None, option_map}
+use Rattle.std.specs.Prelude.{◌≡◌, ◌≤◌, ℕ, ◌+◌, Bool, true, false, List, [], ◌∷◌, ◌++◌, Some, None, option_map}
 use Rattle.std.specs.declared.option.Option.{Option}
 use Rattle.okws_outer.specs.Streams.{Counts}
 
@@ -51,3 +51,8 @@ pub record GainsRoom (old new : Wire) : Type 0 where
   pub faults : new.faults ≡ old.faults
   pub steady : new.steady ≡ old.steady
   pub ended : new.ended ≡ old.ended
+
+-- All that was put in pieces, of which the last one stands first.
+abbrev pub all_put : List (List ℕ) → List ℕ
+all_put [] = []
+all_put (piece ∷ pieces) = all_put pieces ++ piece

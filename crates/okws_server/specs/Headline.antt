@@ -70,6 +70,7 @@ pub record IsEmptyRecord (R : Record) : Type 0 where
   pub oklogd : R.oklogd ≡ []
   pub launchers : R.launcher ≡ []
   pub cells : R.cells ≡ []
+  pub sents : R.sents ≡ []
   pub doors : R.doors ≡ []
   pub workers : R.workers ≡ []
   pub launches : R.launches ≡ []

@@ -43,6 +43,7 @@ pub fn empty_record(alloc: Global) -> Record
         oklogd: Past::of(Vec::new(alloc)),
         launcher: Past::of(Vec::new(alloc)),
         cells: Items::of(Vec::new(alloc)),
+        sents: Items::of(Vec::new(alloc)),
         doors: Items::of(Vec::new(alloc)),
         workers: Items::of(Vec::new(alloc)),
         launches: Past::of(Vec::new(alloc)),

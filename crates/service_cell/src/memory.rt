@@ -7,10 +7,10 @@ ghost use Rattle.service_cell.specs.Standing.{IsReadyLink, left_of};
 
 use crate::cell::Cell;
 use frame_codec::reading::is_short;
-use okws_outer::memory::link::MemoryLink;
+use okws_outer::memory::link::FedLink;
 use std::alloc::AllocError;
 
-impl<'a> Cell<MemoryLink<'a>> {
+impl<L: FedLink> Cell<L> {
     /// Adds bytes that are to come from the service; where memory is refused all is as before.
     pub fn feed(&mut self, bytes: &[u8]) -> Result<(), AllocError>
         requires { incarnation self.old.past ≢ 0 }

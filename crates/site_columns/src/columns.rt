@@ -110,7 +110,7 @@ impl SiteColumns {
 
     /// The record of what was made, with one own list and with no cells.
     pub fn into_record(self) -> Result<Record, AllocError>
-        ensures record { IfOk result (λ r. r ≡ record { okd = self.seen.okd; proxies = self.seen.proxies; pubd = self.seen.pubd; oklogd = self.seen.oklogd; launcher = self.seen.launcher; cells = []; doors = []; workers = self.seen.own ∷ []; launches = [] }) }
+        ensures record { IfOk result (λ r. r ≡ record { okd = self.seen.okd; proxies = self.seen.proxies; pubd = self.seen.pubd; oklogd = self.seen.oklogd; launcher = self.seen.launcher; cells = []; sents = []; doors = []; workers = self.seen.own ∷ []; launches = [] }) }
         ensures faultless { (p : ℕ) → faults (proxy_past self.seen.proxies p) ≡ 0 }
     {
         let proxies = self.proxies.close(self.alloc)?;
@@ -124,6 +124,7 @@ impl SiteColumns {
             oklogd,
             launcher: self.launches.into_past(),
             cells: Items::of(Vec::new(self.alloc)),
+            sents: Items::of(Vec::new(self.alloc)),
             doors: Items::of(Vec::new(self.alloc)),
             workers: Items::of(workers),
             launches: Past::of(Vec::new(self.alloc)),

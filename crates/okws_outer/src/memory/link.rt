@@ -1,25 +1,45 @@
-//! A link in memory.
+//! Links in memory.
 
-ghost use Rattle.std.specs.Prelude.{◌≡◌, ◌≤◌, ◌-◌, ◌==◌, Some, OnOk, OnErr, length, drop, vec_len, vec_capacity};
+ghost use Rattle.std.specs.Prelude.{◌≡◌, ◌≤◌, ◌-◌, ◌==◌, Some, OnOk, OnErr, length, vec_len, vec_capacity};
 ghost use Rattle.okws_outer.specs.Wire.{unused, fed, shut};
 
+use crate::memory::coming::Coming;
 use crate::memory::failing::Failing;
 use crate::memory::room::Room;
 use crate::stream::{Link, Pull, Put};
 use std::alloc::{AllocError, Global};
+
+/// A link in memory: what is to come in is fed to it.
+pub trait FedLink: Link {
+    /// Adds bytes that are to come in, behind those that are left; where memory is refused the link
+    /// is as it was.
+    fn feed(&mut self, bytes: &[u8]) -> Result<(), AllocError>
+        ensures fed { OnOk result (Self.wire self.new ≡ fed bytes.now (Self.wire self.old)) }
+        ensures refused { OnErr result (Self.wire self.new ≡ Self.wire self.old) };
+
+    /// Says that no bytes are to come in behind those that are left.
+    fn feed_end(&mut self)
+        ensures { Self.wire self.new ≡ shut (Self.wire self.old) };
+
+    /// Whether the end was fed.
+    fn is_ended(&self) -> bool
+        ensures { result ≡ (Self.wire self.now).ended };
+
+    /// The bytes that are left to come in.
+    fn left(&self) -> &[u8]
+        ensures { Some result.now ≡ (Self.wire self.now).left };
+}
 
 /// Both directions of a link in memory: bytes are fed to it, and come out of it in pieces of at most
 /// `piece` bytes, and of 1 where `piece` is 0; bytes that are put to it are kept, as many as room was
 /// made for. A put past the room gives what fits, and is a fault.
 #[derive(Drop)]
 pub struct MemoryLink<'a> {
-    coming: Vec<u8>,
-    at: usize,
+    coming: Coming,
     ended: bool,
     piece: usize,
     room: Room,
     failing: Failing<'a>,
-    ghost within: { at ≤ vec_len coming },
 }
 
 impl<'a> MemoryLink<'a> {
@@ -29,8 +49,7 @@ impl<'a> MemoryLink<'a> {
         ensures { ⟦<MemoryLink<'a> as Link>⟧.wire result ≡ unused (length failing.now == 0) }
     {
         MemoryLink {
-            coming: Vec::new(alloc),
-            at: 0,
+            coming: Coming::new(alloc),
             ended: false,
             piece,
             room: Room {
@@ -38,40 +57,6 @@ impl<'a> MemoryLink<'a> {
             },
             failing: Failing::at(failing),
         }
-    }
-
-    /// Adds bytes that are to come in, behind those that are left; where memory is refused the link
-    /// is as it was.
-    pub fn feed(&mut self, bytes: &[u8]) -> Result<(), AllocError>
-        ensures fed { OnOk result (⟦<MemoryLink<'a> as Link>⟧.wire self.new ≡ fed bytes.now (⟦<MemoryLink<'a> as Link>⟧.wire self.old)) }
-        ensures refused { OnErr result (⟦<MemoryLink<'a> as Link>⟧.wire self.new ≡ ⟦<MemoryLink<'a> as Link>⟧.wire self.old) }
-    {
-        if self.at == self.coming.len() {
-            self.at = 0;
-            self.coming.clear();
-        }
-        self.coming.extend_from_slice(bytes)
-    }
-
-    /// Says that no bytes are to come in behind those that are left.
-    pub fn feed_end(&mut self)
-        ensures { ⟦<MemoryLink<'a> as Link>⟧.wire self.new ≡ shut (⟦<MemoryLink<'a> as Link>⟧.wire self.old) }
-    {
-        self.ended = true;
-    }
-
-    /// Whether the end was fed.
-    pub fn is_ended(&self) -> bool
-        ensures { result ≡ (⟦<MemoryLink<'a> as Link>⟧.wire self.now).ended }
-    {
-        self.ended
-    }
-
-    /// The bytes that are left to come in.
-    pub fn left(&self) -> &[u8]
-        ensures { Some result.now ≡ (⟦<MemoryLink<'a> as Link>⟧.wire self.now).left }
-    {
-        &self.coming[self.at..]
     }
 
     /// The bytes that were given to go out.
@@ -91,7 +76,7 @@ impl<'a> MemoryLink<'a> {
 
 impl<'a> Link for MemoryLink<'a> {
     ghost wire = { λ s. record {
-      left = Some (drop s.at s.coming.items);
+      left = Some s.coming;
       given = Some s.room.bytes.items;
       faults = s.failing.faults;
       steady = (length s.failing.calls.now == 0);
@@ -103,14 +88,7 @@ impl<'a> Link for MemoryLink<'a> {
         if self.failing.fails() {
             return Pull::Failed;
         }
-        if self.at == self.coming.len() {
-            return Pull::End;
-        }
-        let left = self.coming.len() - self.at;
-        let count = self.piece.max(1).min(left).min(into.len());
-        into[..count].copy_from_slice(&self.coming[self.at..self.at + count]);
-        self.at += count;
-        Pull::Took(count)
+        self.coming.pull(self.piece, into)
     }
 
     fn put(&mut self, bytes: &[u8]) -> Put {
@@ -127,5 +105,23 @@ impl<'a> Link for MemoryLink<'a> {
 
     fn make_room(&mut self, n: usize) -> Result<(), AllocError> {
         self.room.make(n)
+    }
+}
+
+impl<'a> FedLink for MemoryLink<'a> {
+    fn feed(&mut self, bytes: &[u8]) -> Result<(), AllocError> {
+        self.coming.feed(bytes)
+    }
+
+    fn feed_end(&mut self) {
+        self.ended = true;
+    }
+
+    fn is_ended(&self) -> bool {
+        self.ended
+    }
+
+    fn left(&self) -> &[u8] {
+        self.coming.left()
     }
 }

@@ -3,7 +3,8 @@
 
 use crate::files::Files;
 use crate::memory::files::{Entry, MemoryFiles};
-use crate::memory::link::MemoryLink;
+use crate::memory::link::{FedLink, MemoryLink};
+use crate::memory::passing::PassingLink;
 use crate::memory::sink::MemorySink;
 use crate::memory::source::MemorySource;
 use crate::printing::print;
@@ -106,6 +107,21 @@ fn link_takes_what_room_was_made_for(rt: HostRuntime) -> Result<(), Fail> {
     assert_eq!(rt; link.put(b"ab"), Put::Done);
     assert_eq!(rt; link.given(), b"ab".as_slice());
     assert_eq!(rt; link.faults(), 1);
+    Ok(())
+}
+
+#[test]
+fn passing_link_takes_all_that_is_put(rt: HostRuntime) -> Result<(), Fail> {
+    let mut link = PassingLink::new(rt.alloc());
+    let mut piece = [0u8; 2];
+    link.feed(b"abc")?;
+    link.feed_end();
+    for (pull, left) in [(Pull::Took(2), b"c".as_slice()), (Pull::Took(1), b""), (Pull::End, b"")] {
+        assert_eq!(rt; link.put(b"abc"), Put::Done);
+        assert_eq!(rt; link.pull(&mut piece), pull);
+        assert_eq!(rt; link.left(), left);
+    }
+    assert_eq!(rt; link.is_ended(), true);
     Ok(())
 }
 

@@ -19,7 +19,7 @@ use monitor_model::record::{CellEvent, Item};
 use okws_base::crash::Cause;
 use okws_base::items::Items;
 use okws_base::journal::Past;
-use okws_outer::memory::link::MemoryLink;
+use okws_outer::memory::passing::PassingLink;
 use okws_plan::configuration::Config;
 use service_cell::answer::{Advanced, Begun, Booting};
 use service_cell::cell::Cell;
@@ -100,7 +100,7 @@ fn asked_still(number: u32, advanced: Advanced) -> Option<u32>
 #[derive(Drop)]
 pub struct PlayCell {
     alloc: Global,
-    cell: Cell<MemoryLink<'static>>,
+    cell: Cell<PassingLink>,
     last_booted: u32,
     has_ended: bool,
     request: Option<u32>,
@@ -204,7 +204,7 @@ impl PlayCell {
         let tokens = self.cell.tokens(number)?;
         // A cell that crashed has its link still.
         self.cell.discard();
-        let link = MemoryLink::new(self.alloc, 0, &[]);
+        let link = PassingLink::new(self.alloc);
         match self.cell.boot(link, number, Items::of(tokens)) {
             Booting::Booted => {
                 self.last_booted = number;

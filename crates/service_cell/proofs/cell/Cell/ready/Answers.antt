@@ -1,7 +1,7 @@
 use Rattle.std.proofs.Common.{sym, ap, arith}
 use Rattle.service_cell.specs.Standing.{Standing}
 use Rattle.service_cell.proofs.Readiness.{ready_by}
-use Rattle.service_cell.proofs.memory.Cell+MemoryLink.ready.Goals as goal
+use Rattle.service_cell.proofs.cell.Cell.ready.Goals as goal
 
 pub returns-else-is_ended : goal.returns-else-is_ended
 returns-else-is_ended c =

@@ -4,7 +4,7 @@ use Rattle.std.proofs.KnownBytes.{Appends-nil, Appends-trans}
 use Rattle.std.specs.Io.KnownBytes.{Appends}
 use Rattle.std.specs.declared.option.Option.{Option}
 use Rattle.okws_outer.specs.Streams.{AppendsPrefix}
-use Rattle.okws_outer.specs.Printing.{Printed, Prints, Counted, CountsOn}
+use Rattle.okws_outer.specs.Printing.{Printed, Prints, Counted, CountsOn, Printer, PrintsOn, PrintsFront}
 use Rattle.okws_outer.proofs.Given.{whole_is_part, prefix_after, prefix_of_part}
 
 -- a sink that had not stopped was given the bytes, or a prefix of them
@@ -47,3 +47,35 @@ printed_first old new bytes stopped h = h old [] (record { part = whole_is_part 
 -- what a print at the start has counted
 pub counted_first : (old new : ℕ) (stopped : Bool) → CountsOn old false new stopped → Counted old new stopped
 counted_first old new stopped h = h old (record { later = omega arith; rose = λ e. cc })
+
+-- nothing is printed
+pub nothing_on : (a : Printer) → PrintsOn a a []
+nothing_on a = record { prints = prints_nothing a.given a.stopped; counts = λ start p. p }
+
+-- two prints one after the other print the bytes of both
+pub then_on : (a b c : Printer) (x y : List ℕ) → PrintsOn a b x → PrintsOn b c y → PrintsOn a c (x ++ y)
+then_on a b c x y h k = record {
+  prints = prints_then a.given b.given c.given a.stopped b.stopped c.stopped x y h.prints k.prints;
+  counts = counts_then a.faults b.faults c.faults a.stopped b.stopped c.stopped h.counts k.counts;
+}
+
+-- before anything is printed
+pub no_front : (a : Printer) (x : List ℕ) → PrintsFront a a x
+no_front a x = record { front = []; rest = x; whole = refl; printed = nothing_on a }
+
+-- all that was due, and then more of which nothing was printed
+pub whole_front : (a b : Printer) (x y : List ℕ) → PrintsOn a b x → PrintsFront a b (x ++ y)
+whole_front a b x y h = record { front = x; rest = y; whole = refl; printed = h }
+
+-- a front of what is due is a front of that and more
+pub front_before : (a b : Printer) (x y : List ℕ) → PrintsFront a b x → PrintsFront a b (x ++ y)
+front_before a b x y h = record { front = h.front; rest = h.rest ++ y; whole = rw (sym h.whole) (sym (append_assoc h.front h.rest y)); printed = h.printed }
+
+-- all that was due, and then a front of what was due after it
+pub front_then : (a b c : Printer) (x y : List ℕ) → PrintsOn a b x → PrintsFront b c y → PrintsFront a c (x ++ y)
+front_then a b c x y h k = record {
+  front = x ++ k.front;
+  rest = k.rest;
+  whole = rw (sym k.whole) (append_assoc x k.front k.rest);
+  printed = then_on a b c x k.front h k.printed;
+}

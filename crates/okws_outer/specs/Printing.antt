@@ -1,5 +1,5 @@
 -- What was given to a sink that is given nothing more once it has failed.
-use Rattle.std.specs.Prelude.{◌≡◌, ◌≤◌, ℕ, List, ◌++◌, Bool, true, false}
+use Rattle.std.specs.Prelude.{◌≡◌, ◌≤◌, ℕ, List, ◌++◌, Bool, true, false, Result, Ok, Err}
 use Rattle.std.specs.Io.KnownBytes.{Appends}
 use Rattle.std.specs.declared.option.Option.{Option}
 use Rattle.okws_outer.specs.Streams.{AppendsPrefix, Rose}
@@ -22,3 +22,30 @@ pub record Counted (start now : ℕ) (stopped : Bool) : Type 0 where
 -- A count that was right before is right after.
 abbrev pub CountsOn : ℕ → Bool → ℕ → Bool → Type 0
 CountsOn old stopped_before new stopped_now = (start : ℕ) → Counted start old stopped_before → Counted start new stopped_now
+
+-- Where printing stands: what the sink was given, where it tells, how many of its puts failed, and whether printing has stopped.
+pub record Printer : Type 0 where
+  pub given : Option (List ℕ)
+  pub faults : ℕ
+  pub stopped : Bool
+
+-- Printing to this sink stands so.
+abbrev pub printer : {O : Type 0} → (O → Option (List ℕ)) → (O → ℕ) → O → Bool → Printer
+printer given faults out stopped = record { given = given out; faults = faults out; stopped = stopped }
+
+-- These bytes are printed.
+pub record PrintsOn (before after : Printer) (bytes : List ℕ) : Type 0 where
+  pub prints : Prints before.given before.stopped after.given after.stopped bytes
+  pub counts : CountsOn before.faults before.stopped after.faults after.stopped
+
+-- A front of these bytes is printed.
+pub record PrintsFront (before after : Printer) (bytes : List ℕ) : Type 0 where
+  pub front : List ℕ
+  pub rest : List ℕ
+  pub whole : front ++ rest ≡ bytes
+  pub printed : PrintsOn before after front
+
+-- These bytes are printed; where memory was refused, a front of them.
+abbrev pub PrintsAs : {V E : Type 0} → Result V E → Printer → Printer → List ℕ → Type 0
+PrintsAs (Ok v) before after bytes = PrintsOn before after bytes
+PrintsAs (Err e) before after bytes = PrintsFront before after bytes

@@ -1,5 +1,5 @@
 -- A frame that was taken, and its answer.
-use Rattle.std.proofs.Common.{◌≡◌, ℕ, List, [], ◌∷◌, inl, inr}
+use Rattle.std.proofs.Common.{ℕ, List, [], inr}
 use Rattle.okws_base.specs.declared.crash.Cause.TheVariants as cause
 use Rattle.okws_plan.specs.declared.configuration.Config.{Config}
 use Rattle.frame_codec.specs.Spelling.{Spells, server_spelling}
@@ -8,7 +8,7 @@ use Rattle.okws_outer.specs.Wire.{Wire}
 use Rattle.monitor_model.specs.declared.record.Item.{Item}
 use Rattle.monitor_model.specs.Course.{Speaker}
 use Rattle.monitor_model.specs.Seen.{Seen}
-use Rattle.service_cell.specs.Standing.{Moves, Breaks}
+use Rattle.service_cell.specs.Standing.{Moves}
 use Rattle.service_cell.specs.Exchange.{Exchanges, AnswersFrame}
 use Rattle.service_cell.specs.declared.exchange.Exchanged.{Exchanged}
 use Rattle.service_cell.specs.declared.exchange.Exchanged.TheVariants.{Goes, Reply, Crashed}

@@ -1,5 +1,5 @@
 -- A verdict's frame fits: rows are as wide as they say.
-use Rattle.std.proofs.Common.{◌≡◌, ◌≤◌, ℕ, Bool, true, false, List, [], ◌∷◌, Option, Some, None, length, map, refl, eq-eqb}
+use Rattle.std.proofs.Common.{◌≡◌, ℕ, Bool, true, false, List, [], ◌∷◌, Option, Some, None, length, refl, eq-eqb}
 use Rattle.std.specs.Prelude.{◌==◌, ◌&&◌, nat_le, IsTrue, if◌then◌else◌}
 use Rattle.std.specs.List.{list_all}
 use Rattle.std.proofs.lemmas.List.{length-map}
@@ -9,11 +9,10 @@ use Rattle.okws_base.specs.declared.denial.Rule.{Rule}
 use Rattle.okws_base.specs.declared.denial.Rule.TheVariants as rule
 use Rattle.okws_base.specs.declared.journal.Entry.{Entry}
 use Rattle.okws_base.specs.declared.value.Value.{Value}
-use Rattle.okws_plan.specs.Meaning.{cut, cut_all, inserted, mean, mean_on}
+use Rattle.okws_plan.specs.Meaning.{cut, cut_all, inserted, mean_on}
 use Rattle.okws_plan.specs.declared.configuration.Column.{Column}
 use Rattle.okws_plan.specs.declared.configuration.Config.{Config}
 use Rattle.okws_plan.specs.declared.configuration.Query.{Query}
-use Rattle.okws_plan.specs.declared.configuration.Table.{Table}
 use Rattle.okws_plan.specs.declared.event.Call.{Call}
 use Rattle.okws_plan.specs.declared.event.Mark.{Mark}
 use Rattle.okws_plan.specs.declared.event.Mark.TheVariants.{Done, Fault}
@@ -22,11 +21,9 @@ use Rattle.okws_plan.specs.declared.statement.Action.{Action}
 use Rattle.okws_plan.specs.declared.statement.Action.TheVariants.{Select, Insert, Update, Delete}
 use Rattle.okws_plan.specs.declared.statement.Answer.{Answer}
 use Rattle.okws_plan.specs.declared.statement.Answer.TheVariants.{Rows, Changed, Duplicate}
-use Rattle.okws_plan.specs.declared.statement.Statement.{Statement}
 use Rattle.frame_codec.specs.Spelling.{size, server_parts}
 use Rattle.frame_codec.specs.declared.frame.ServerFrame.TheVariants as frame
 use Rattle.monitor_model.specs.Proxy.{call_answer, call_denial, call_mean, call_verdict, query_mean, within_frame, rows}
-use Rattle.monitor_model.specs.declared.verdict.Verdict.{Verdict}
 use Rattle.monitor_model.specs.declared.verdict.Verdict.TheVariants as verdict
 use Rattle.service_cell.specs.Asking.{IsNarrow}
 use Rattle.service_cell.specs.Exchange.{FitsFrame}

@@ -12,7 +12,7 @@ use Rattle.frame_codec.specs.declared.frame.ServerFrame.{ServerFrame}
 use Rattle.okws_outer.specs.Wire.{Wire}
 use Rattle.monitor_model.specs.declared.verdict.Push.{Push}
 use Rattle.monitor_model.specs.declared.record.Item.{Item}
-use Rattle.monitor_model.specs.declared.record.Item.TheVariants.{Heard, Said}
+use Rattle.monitor_model.specs.declared.record.Item.TheVariants.{Heard}
 use Rattle.monitor_model.specs.Course.{heard_text, push_frame, opening}
 use Rattle.service_cell.specs.Standing.{Moves, Breaks}
 use Rattle.service_cell.specs.Exchange.{IsSpelled, Hears, Opens}

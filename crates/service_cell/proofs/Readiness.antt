@@ -1,5 +1,5 @@
 -- When a link is ready.
-use Rattle.std.proofs.Common.{◌≡◌, ℕ, Bool, true, false, List, Option, Some, None, refl, sym, ap, subst, ◌∙◌, inl, inr, ◌⊎◌}
+use Rattle.std.proofs.Common.{◌≡◌, ℕ, Bool, true, false, List, Option, Some, refl, sym, ap, subst, ◌∙◌, inl, inr, ◌⊎◌}
 use Rattle.std.specs.Prelude.{IsTrue, IsFalse, IfSome, ◌↔◌, not, option_map}
 use Rattle.frame_codec.specs.Stream.{Begins, IsBad, IsShort}
 use Rattle.frame_codec.specs.declared.frame.ServiceFrame.{ServiceFrame}

@@ -1,6 +1,6 @@
 -- Of a cell's whole journal: each link was given what its incarnation heard.
-use Rattle.std.proofs.Common.{◌≡◌, ◌≢◌, ◌∙◌, ℕ, ◌+◌, ◌<◌, ◌≤◌, ◌==◌, max, Bool, true, false, List, [], ◌∷◌, ◌++◌, map, refl, sym, ap, subst, arith, eq-eqb, ne_eqb, append-nil}
-use Rattle.std.specs.Prelude.{◌||◌, ◌&&◌}
+use Rattle.std.proofs.Common.{◌≡◌, ◌≢◌, ◌∙◌, ℕ, ◌<◌, ◌≤◌, Bool, false, List, [], ◌∷◌, ◌++◌, map, refl, sym, ap, subst, arith, eq-eqb, ne_eqb, append-nil}
+use Rattle.std.specs.Prelude.{◌||◌}
 use Rattle.okws_base.specs.Runs.{Each}
 use Rattle.okws_plan.specs.declared.configuration.Config.{Config}
 use Rattle.frame_codec.specs.Spelling.{server_spelling}

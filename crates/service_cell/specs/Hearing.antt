@@ -1,5 +1,5 @@
 -- What each incarnation of a cell heard, and what its link was given.
-use Rattle.std.specs.Prelude.{◌≡◌, ℕ, Bool, true, false, List, [], ◌∷◌, ◌++◌, Option, Some, None, ◌||◌}
+use Rattle.std.specs.Prelude.{◌≡◌, ℕ, Bool, false, List, [], ◌∷◌, ◌++◌, Option, ◌||◌}
 use Rattle.okws_plan.specs.declared.configuration.Config.{Config}
 use Rattle.frame_codec.specs.Spelling.{server_spelling}
 use Rattle.okws_outer.specs.Wire.{Wire}

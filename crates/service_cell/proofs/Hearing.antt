@@ -25,7 +25,7 @@ use Rattle.service_cell.specs.Exchange.{Opens, Exchanges}
 use Rattle.service_cell.specs.Hearing.{Hearing, heard_more, hearings, AreGiven, AreHeard}
 use Rattle.service_cell.specs.Standing.{Open, all_sent, IsFresh, Moves, Breaks}
 use Rattle.service_cell.specs.Tied.{opened}
-use Rattle.service_cell.specs.declared.cell.Speaking.{Speaking}
+use Rattle.service_cell.specs.declared.dialog.Speaking.{Speaking}
 use Rattle.service_cell.specs.Steps.{crash_end}
 use Rattle.service_cell.specs.declared.exchange.Exchanged.{Exchanged}
 use Rattle.service_cell.specs.declared.exchange.Exchanged.TheVariants as exchanged

@@ -7,7 +7,7 @@ use Rattle.monitor_model.specs.declared.record.CellEvent.{CellEvent}
 use Rattle.monitor_model.specs.Cell.{CellLaw, incarnation, is_speaking, last_booted}
 use Rattle.monitor_model.specs.Course.{said_count}
 use Rattle.service_cell.specs.Standing.{Open}
-use Rattle.service_cell.specs.declared.cell.Speaking.{Speaking}
+use Rattle.service_cell.specs.declared.dialog.Speaking.{Speaking}
 
 -- An open dialog: the cell has an incarnation, and places for the dialog and for a Retired; the frames said are counted, and its items are in memory.
 abbrev pub IsTiedOpen : ℕ → ℕ → Option Speaking → Type 0

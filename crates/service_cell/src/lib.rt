@@ -6,7 +6,9 @@
 pub mod answer;
 pub mod cell;
 pub mod columns;
+mod dialog;
 pub mod ending;
 mod exchange;
+mod links;
 pub mod memory;
 pub mod tokens;

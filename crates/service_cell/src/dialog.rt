@@ -1,0 +1,282 @@
+//! The dialogs of a cell, step by step.
+
+ghost use Rattle.std.specs.Prelude.{◌≡◌, ◌≢◌, ◌≤◌, ◌<◌, ℕ, ◌+◌, [], ◌∷◌, true, length, IsTrue, IsSome, IfSome, OnOk, OnErr, ◌↔◌, reverse, option_map};
+ghost use Rattle.okws_base.specs.declared.limit.TheConstants.{LONGEST_FRAME};
+ghost use Rattle.monitor_model.specs.declared.record.CellEvent.TheVariants as cell;
+ghost use Rattle.monitor_model.specs.declared.record.End.TheVariants as end;
+ghost use Rattle.monitor_model.specs.declared.record.Own.TheVariants as own;
+ghost use Rattle.monitor_model.specs.Seen.{noted};
+ghost use Rattle.monitor_model.specs.Cell.{incarnation};
+ghost use Rattle.service_cell.specs.Asking.{KeepsBoard, IsNextBy};
+ghost use Rattle.service_cell.specs.Exchange.{AreSpelled, IsHeardOpen};
+ghost use Rattle.service_cell.specs.Standing.{finished};
+ghost use Rattle.service_cell.specs.Steps.{crash_end, StepsOpen, OpensCell, Begins, AdvancesOpen, IsSpeaking, superseded};
+
+use crate::answer::{Advanced, Begun};
+use crate::cell::Cell;
+use crate::columns::Columns;
+use crate::ending::{Events, Finished};
+use crate::exchange::{Exchanged, Who, exchange, hear_opening};
+use frame_codec::frame::ServerFrame;
+use monitor_model::record::{CellEvent, End, Item, Own};
+use okws_base::crash::Cause;
+use okws_base::items::Items;
+use okws_base::journal::Journal;
+use okws_base::limit::LONGEST_FRAME;
+use okws_outer::stream::Link;
+use std::alloc::AllocError;
+
+/// A dialog that is open.
+#[derive(Drop)]
+pub(crate) struct Speaking {
+    pub(crate) worker: u16,
+    // How many frames the service said in it.
+    pub(crate) frames: usize,
+    pub(crate) items: Journal<Item>,
+}
+
+/// The end of a dialog that crashed by this cause.
+fn end_of(cause: Cause) -> End
+    ensures { result ≡ crash_end cause }
+{
+    match cause {
+        Cause::BadFrame => End::BadFrame,
+        Cause::Ended => End::Ended,
+        Cause::LinkFault => End::LinkFault,
+        Cause::FrameLimit => End::FrameLimit,
+        Cause::Starved => End::Starved,
+    }
+}
+
+/// Enters a dialog that ended so, in a place that was kept.
+fn finish(events: &mut Events, speaking: Speaking, end: End)
+    requires room { 0 < events.old.room }
+    requires kept { speaking.items.keeps ≡ true }
+    ensures past { events.new.past ≡ cell.Dialog (record { worker = speaking.worker; items = speaking.items.past; end = end }) ∷ events.old.past }
+    ensures room { events.new.room + 1 ≡ events.old.room }
+{
+    events.finish(Finished::new(speaking.worker, speaking.items, end));
+}
+
+impl<L: Link> Cell<L> {
+    /// Whether a dialog is open.
+    pub fn busy(&self) -> bool
+        ensures { IsTrue result ↔ IsSome self.now.open_dialog }
+    {
+        self.speaking.is_some()
+    }
+
+    /// The items of the open dialog, the oldest first.
+    pub fn items(&self) -> &[Item]
+        requires { IsSome self.now.open_dialog }
+        ensures { IfSome self.now.open_dialog (λ o. reverse result.now ≡ o.items) }
+    {
+        let Some(speaking) = &self.speaking else {
+            unreachable!()
+        };
+        match speaking.items.as_slice() {
+            Some(items) => items,
+            None => unreachable!(),
+        }
+    }
+
+    /// Ends the open dialog as superseded by a greater incarnation. Takes no memory.
+    pub fn supersede(&mut self, shown: u32)
+        requires open { IsSome self.old.open_dialog }
+        requires above { incarnation self.old.past < shown }
+        ensures { self.new ≡ superseded self.old self.old.open_dialog shown }
+    {
+        match self.speaking.take() {
+            Some(speaking) => finish(&mut self.events, speaking, End::Superseded(shown)),
+            None => unreachable!(),
+        }
+    }
+
+    /// Begins a dialog: tests that the wanted incarnation is there and that none above it was begun,
+    /// enters the Drain, and puts its pushes and the Request.
+    pub fn begin<C: Columns>(
+        &mut self,
+        head: Items<u8>,
+        content: Items<u8>,
+        wanted: u32,
+        columns: &mut C,
+    ) -> Begun
+        requires closed { self.old.open_dialog ≡ None }
+        requires wanted { 0 < wanted }
+        requires declared { self.old.service < length (C.asker columns.old).config.services }
+        requires short { length head + length content + 9 ≤ LONGEST_FRAME }
+        ensures begins { Begins (C.asker columns.old) (C.shows columns.new self.old.service) (ServerFrame.Request head content) wanted self.old (C.seen columns.old) result self.new (C.seen columns.new) }
+        ensures spelled { result ≡ Begun.Started → AreSpelled self.new.open_dialog }
+        ensures board { KeepsBoard C.asker C.shows C.token_seed columns.old columns.new }
+    {
+        let is = self.incarnation;
+        if is != wanted {
+            return match self.miss(wanted, columns) {
+                Ok(()) => Begun::Missed { wanted, is },
+                Err(_) => Begun::NoMemory,
+            };
+        }
+        let shown = columns.current(self.service);
+        if shown > wanted {
+            return match self.supersede_at_once(shown, columns) {
+                Ok(()) => Begun::Superseded {
+                    incarnation: wanted,
+                    shown,
+                },
+                Err(_) => Begun::NoMemory,
+            };
+        }
+        self.open(head, content, columns)
+    }
+
+    /// Enters a Missed, and notes it.
+    fn miss<C: Columns>(&mut self, wanted: u32, columns: &mut C) -> Result<(), AllocError>
+        requires closed { self.old.open_dialog ≡ None }
+        requires another { wanted ≢ incarnation self.old.past }
+        ensures ok { OnOk result ((self.new ≡ record self.old { past = cell.Missed (C.asker columns.old).worker wanted (incarnation self.old.past) ∷ self.old.past }) × (C.seen columns.new ≡ noted (C.seen columns.old) (own.Missed self.old.service wanted (incarnation self.old.past)))) }
+        ensures err { OnErr result ((self.new ≡ self.old) × (C.seen columns.new ≡ C.seen columns.old)) }
+        ensures board { KeepsBoard C.asker C.shows C.token_seed columns.old columns.new }
+    {
+        let is = self.incarnation;
+        let missed = Own::Missed {
+            service: self.service,
+            wanted,
+            is,
+        };
+        self.events.make_room()?;
+        columns.note(missed)?;
+        self.events.enter(CellEvent::Missed {
+            worker: columns.worker(),
+            wanted,
+            is,
+        });
+        Ok(())
+    }
+
+    /// Enters a dialog that was superseded before its Drain, and notes it.
+    fn supersede_at_once<C: Columns>(
+        &mut self,
+        shown: u32,
+        columns: &mut C,
+    ) -> Result<(), AllocError>
+        requires closed { self.old.open_dialog ≡ None }
+        requires there { 0 < incarnation self.old.past }
+        requires above { incarnation self.old.past < shown }
+        ensures ok { OnOk result ((self.new ≡ finished self.old (C.asker columns.old).worker [] (end.Superseded shown) self.old.link) × (C.seen columns.new ≡ noted (C.seen columns.old) (own.Dialog self.old.service))) }
+        ensures err { OnErr result ((self.new ≡ self.old) × (C.seen columns.new ≡ C.seen columns.old)) }
+        ensures board { KeepsBoard C.asker C.shows C.token_seed columns.old columns.new }
+    {
+        self.events.make_room()?;
+        columns.note(Own::Dialog(self.service))?;
+        let speaking = Speaking {
+            worker: columns.worker(),
+            frames: 0,
+            items: Journal::new(self.alloc, true),
+        };
+        finish(&mut self.events, speaking, End::Superseded(shown));
+        Ok(())
+    }
+
+    /// Enters the Drain, and puts its pushes and the Request.
+    fn open<C: Columns>(&mut self, head: Items<u8>, content: Items<u8>, columns: &mut C) -> Begun
+        requires closed { self.old.open_dialog ≡ None }
+        requires there { 0 < incarnation self.old.past }
+        requires declared { self.old.service < length (C.asker columns.old).config.services }
+        requires short { length head + length content + 9 ≤ LONGEST_FRAME }
+        ensures opens { OpensCell (C.asker columns.old) (ServerFrame.Request head content) self.old (C.seen columns.old) result self.new (C.seen columns.new) }
+        ensures spelled { result ≡ Begun.Started → AreSpelled self.new.open_dialog }
+        ensures board { KeepsBoard C.asker C.shows C.token_seed columns.old columns.new }
+    {
+        if self.events.make_room().is_err() {
+            return Begun::NoMemory;
+        }
+        let Ok(pushes) = columns.drain(self.service, self.incarnation) else {
+            return Begun::NoMemory;
+        };
+        let Some(link) = &mut self.wire else {
+            unreachable!()
+        };
+        let mut items = Journal::new(self.alloc, true);
+        let heard = hear_opening(link, &mut items, pushes, head, content);
+        let speaking = Speaking {
+            worker: columns.worker(),
+            frames: 0,
+            items,
+        };
+        match heard {
+            Ok(()) => {
+                self.speaking = Some(speaking);
+                Begun::Started
+            }
+            Err(cause) => {
+                finish(&mut self.events, speaking, end_of(cause));
+                self.incarnation = 0;
+                Begun::Crashed(cause)
+            }
+        }
+    }
+
+    /// Takes the next frame of the open dialog and answers it, or ends the dialog. Reads the board
+    /// before that, and takes memory before the frame.
+    pub fn advance<C: Columns>(&mut self, columns: &mut C) -> Advanced
+        requires speaking { IsSpeaking (C.asker columns.old).worker self.old.open_dialog }
+        requires declared { self.old.service < length (C.asker columns.old).config.services }
+        ensures advances { AdvancesOpen (C.asker columns.old) (C.shows columns.new self.old.service) self.old self.old.open_dialog (C.seen columns.old) result self.new (C.seen columns.new) }
+        ensures spelled { result ≡ Advanced.Goes → IsHeardOpen self.new.open_dialog }
+        ensures next { IsTrue (C.asker columns.old).alone → IsNextBy (C.asker columns.old).worker (C.seen columns.old) (C.seen columns.new) }
+        ensures board { KeepsBoard C.asker C.shows C.token_seed columns.old columns.new }
+    {
+        let shown = columns.current(self.service);
+        if shown > self.incarnation {
+            let incarnation = self.incarnation;
+            self.supersede(shown);
+            return Advanced::Superseded { incarnation, shown };
+        }
+        match self.exchange(columns) {
+            Exchanged::Goes => Advanced::Goes,
+            Exchanged::Reply => Advanced::Reply,
+            Exchanged::Crashed(cause) => Advanced::Crashed(cause),
+        }
+    }
+
+    /// Takes the next frame of the open dialog and answers it, or ends the dialog.
+    fn exchange<C: Columns>(&mut self, columns: &mut C) -> Exchanged
+        requires speaking { IsSpeaking (C.asker columns.old).worker self.old.open_dialog }
+        requires declared { self.old.service < length (C.asker columns.old).config.services }
+        ensures steps { StepsOpen (C.asker columns.old) self.old self.old.open_dialog (C.seen columns.old) result self.new (C.seen columns.new) }
+        ensures spelled { result ≡ Exchanged.Goes → IsHeardOpen self.new.open_dialog }
+        ensures next { IsTrue (C.asker columns.old).alone → IsNextBy (C.asker columns.old).worker (C.seen columns.old) (C.seen columns.new) }
+        ensures board { KeepsBoard C.asker C.shows C.token_seed columns.old columns.new }
+    {
+        let who = Who {
+            service: self.service,
+            incarnation: self.incarnation,
+        };
+        let Some(mut speaking) = self.speaking.take() else {
+            unreachable!()
+        };
+        let Some(link) = &mut self.wire else {
+            unreachable!()
+        };
+        let exchanged = exchange(
+            self.alloc,
+            link,
+            speaking.frames,
+            &mut speaking.items,
+            columns,
+            who,
+        );
+        match exchanged {
+            Exchanged::Goes => {
+                speaking.frames += 1;
+                self.speaking = Some(speaking);
+            }
+            Exchanged::Reply => finish(&mut self.events, speaking, End::Reply),
+            Exchanged::Crashed(cause) => {
+                finish(&mut self.events, speaking, end_of(cause));
+                self.incarnation = 0;
+            }
+        }
+        exchanged
+    }
+}

@@ -1,10 +1,9 @@
 -- What the links of a cell are given is what its incarnations hear.
-use Rattle.std.proofs.Common.{◌≡◌, ◌≢◌, ◌∙◌, ℕ, ◌+◌, ◌<◌, ◌≤◌, ◌==◌, max, Bool, true, false, List, [], ◌∷◌, ◌++◌, Option, Some, None, map, refl, sym, ap, subst, arith, eq-eqb, ne_eqb, append-nil, append_assoc, inl, inr}
-use Rattle.std.specs.Prelude.{◌||◌, ◌⊎◌, IfSome, option_map}
+use Rattle.std.proofs.Common.{◌≡◌, ◌≢◌, ◌∙◌, ℕ, ◌<◌, max, Bool, true, false, List, [], ◌∷◌, ◌++◌, Option, Some, None, refl, sym, ap, subst, arith, append-nil, append_assoc, inl, inr}
+use Rattle.std.specs.Prelude.{◌⊎◌, IfSome, option_map}
 use Rattle.std.specs.Io.KnownBytes.{Appends}
 use Rattle.std.specs.declared.result.Result.{Result}
 use Rattle.std.specs.declared.result.Result.TheVariants.{Ok, Err}
-use Rattle.okws_base.specs.Runs.{Each}
 use Rattle.okws_base.specs.declared.crash.Cause.{Cause}
 use Rattle.okws_base.specs.declared.crash.Cause.TheVariants as cause
 use Rattle.okws_plan.specs.declared.configuration.Config.{Config}
@@ -17,10 +16,10 @@ use Rattle.monitor_model.specs.declared.record.End.{End}
 use Rattle.monitor_model.specs.declared.record.End.TheVariants as end
 use Rattle.monitor_model.specs.declared.record.Item.{Item}
 use Rattle.monitor_model.specs.declared.sent.Sent.{Sent}
-use Rattle.monitor_model.specs.Cell.{CellLaw, incarnation, last_booted, after_end, boot_frame, heard}
+use Rattle.monitor_model.specs.Cell.{incarnation, last_booted, after_end, heard}
 use Rattle.monitor_model.specs.Course.{Speaker, heard_text}
 use Rattle.monitor_model.specs.Seen.{Seen}
-use Rattle.monitor_model.specs.Sent.{is_link_fault, is_broken, all_booted, IsCut, IsGiven, IsSent, AreSent}
+use Rattle.monitor_model.specs.Sent.{is_link_fault, IsCut, IsGiven}
 use Rattle.service_cell.specs.Exchange.{Opens, Exchanges}
 use Rattle.service_cell.specs.Hearing.{Hearing, heard_more, hearings, AreGiven, AreHeard}
 use Rattle.service_cell.specs.Standing.{Open, all_sent, IsFresh, Moves, Breaks}

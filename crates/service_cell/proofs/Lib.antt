@@ -5,5 +5,6 @@ pub mod Hearing
 pub mod Sending
 pub mod Exchanging
 pub mod Stepping
+pub mod Replied
 pub mod Opening
 pub mod Readiness

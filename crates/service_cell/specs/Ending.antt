@@ -1,8 +1,52 @@
--- How the last dialog of a cell stands beside its journal.
-use Rattle.std.specs.Prelude.{◌≡◌, ◌≤◌, ℕ, Bool, true, List, [], ◌∷◌, Option, Some, None}
+-- How a dialog that ended stands in memory, and the last one beside its cell's journal.
+use Rattle.std.specs.Prelude.{◌≡◌, ◌≤◌, ◌<◌, ℕ, List, [], ◌∷◌, Option, Some, None}
+use Rattle.frame_codec.specs.declared.frame.ServiceFrame.{ServiceFrame}
+use Rattle.frame_codec.specs.declared.frame.ServiceFrame.TheVariants as said
+use Rattle.monitor_model.specs.declared.record.Item.{Item}
+use Rattle.monitor_model.specs.declared.record.Item.TheVariants.{Heard, Said}
+use Rattle.monitor_model.specs.declared.record.End.{End}
+use Rattle.monitor_model.specs.declared.record.End.TheVariants as end
 use Rattle.monitor_model.specs.declared.record.CellEvent.{CellEvent}
 use Rattle.monitor_model.specs.declared.record.CellEvent.TheVariants as cell
 use Rattle.monitor_model.specs.declared.record.Dialog.{Dialog}
+
+-- The frame is a Reply.
+abbrev pub IsReply : ServiceFrame → Type 0
+IsReply (said.Reply status content_type location content) = Unit {0}
+IsReply (said.Open p shown) = ⊥
+IsReply (said.Call p n q args) = ⊥
+IsReply (said.Get name) = ⊥
+IsReply (said.Log text) = ⊥
+
+-- The last item is a Reply.
+abbrev pub EndsInReply : List Item → Type 0
+EndsInReply [] = ⊥
+EndsInReply (Heard frame ∷ items) = ⊥
+EndsInReply (Said frame ∷ items) = IsReply frame
+
+-- A dialog that ended so has no Reply.
+abbrev pub HasNoReply : End → Type 0
+HasNoReply end.Reply = ⊥
+HasNoReply (end.Superseded shown) = Unit {0}
+HasNoReply end.BadFrame = Unit {0}
+HasNoReply end.Ended = Unit {0}
+HasNoReply end.LinkFault = Unit {0}
+HasNoReply end.FrameLimit = Unit {0}
+HasNoReply end.Starved = Unit {0}
+
+-- The items of a dialog, with its Reply, if it isn't among them yet, as the last.
+abbrev pub with_reply : Option ServiceFrame → List Item → List Item
+with_reply None items = items
+with_reply (Some reply) items = Said reply ∷ items
+
+-- A dialog that ended so has its Reply beside its items, and a place for it; or has none.
+abbrev pub FitsEnd : Option ServiceFrame → ℕ → End → Type 0
+FitsEnd None room how = HasNoReply how
+FitsEnd (Some reply) room how = IsReply reply × (0 < room) × (how ≡ end.Reply)
+
+-- The dialog ended in this Reply.
+abbrev pub EndsIn : ServiceFrame → Dialog → Type 0
+EndsIn reply d = IsReply reply × (d.end ≡ end.Reply) × (before : List Item) × (d.items ≡ Said reply ∷ before)
 
 -- The events, with the last dialog, if it isn't among them yet, as the last.
 abbrev pub with_last : Option Dialog → List CellEvent → List CellEvent

@@ -1,18 +1,16 @@
 -- One exchange of a dialog, between a link and the columns.
-use Rattle.std.specs.Prelude.{◌≡◌, ◌≤◌, ◌<◌, ℕ, ◌+◌, Bool, true, List, [], ◌∷◌, ◌++◌, Option, Some, None, ◌==◌, length, IsTrue}
+use Rattle.std.specs.Prelude.{◌≡◌, ◌≤◌, ◌<◌, ℕ, List, [], ◌∷◌, ◌++◌, Option, Some, None, ◌==◌, length, IsTrue}
 use Rattle.std.specs.List.{list_all}
 use Rattle.std.specs.declared.result.Result.{Result}
 use Rattle.std.specs.declared.result.Result.TheVariants.{Ok, Err}
-use Rattle.std.specs.Io.KnownBytes.{IsAtEnd}
 use Rattle.okws_base.specs.Runs.{Each}
 use Rattle.okws_base.specs.declared.limit.TheConstants.{LONGEST_FRAME, MOST_FRAMES}
 use Rattle.okws_base.specs.declared.crash.Cause.{Cause}
 use Rattle.okws_base.specs.declared.crash.Cause.TheVariants as cause
 use Rattle.okws_base.specs.declared.value.Value.{Value}
 use Rattle.okws_plan.specs.declared.configuration.Config.{Config}
-use Rattle.frame_codec.specs.Spelling.{Spells, HasSpelling, size, server_parts, server_spelling}
+use Rattle.frame_codec.specs.Spelling.{HasSpelling, size, server_parts, server_spelling}
 use Rattle.frame_codec.specs.declared.frame.ServiceFrame.{ServiceFrame}
-use Rattle.frame_codec.specs.declared.frame.ServiceFrame.TheVariants as said
 use Rattle.frame_codec.specs.declared.frame.ServerFrame.{ServerFrame}
 use Rattle.frame_codec.specs.declared.frame.ServerFrame.TheVariants as frame
 use Rattle.okws_outer.specs.Wire.{Wire}
@@ -23,6 +21,7 @@ use Rattle.monitor_model.specs.declared.record.Item.{Item}
 use Rattle.monitor_model.specs.declared.record.Item.TheVariants.{Heard, Said}
 use Rattle.monitor_model.specs.Course.{Speaker, Answers, heard_text, said_count}
 use Rattle.monitor_model.specs.Seen.{Seen}
+use Rattle.service_cell.specs.Ending.{IsReply}
 use Rattle.service_cell.specs.Standing.{Open, Moves, Breaks}
 use Rattle.service_cell.specs.Steps.{TakesOne, Crashes}
 use Rattle.service_cell.specs.declared.exchange.Exchanged.{Exchanged}
@@ -37,14 +36,6 @@ FitsFrame (Changed n) = Unit {0}
 FitsFrame Duplicate = Unit {0}
 FitsFrame (Denied broken) = Unit {0}
 FitsFrame Failed = Unit {0}
-
--- The frame is a Reply.
-abbrev pub IsReply : ServiceFrame → Type 0
-IsReply (said.Reply status content_type location content) = Unit {0}
-IsReply (said.Open p shown) = ⊥
-IsReply (said.Call p n q args) = ⊥
-IsReply (said.Get name) = ⊥
-IsReply (said.Log text) = ⊥
 
 -- A frame that was heard has a spelling.
 abbrev pub IsSpelled : Item → Type 0

@@ -2,6 +2,7 @@ pub mod Asking
 pub mod Standing
 pub mod Steps
 pub mod Ending
+pub mod Paced
 pub mod Tied
 pub mod Hearing
 pub mod Issuing

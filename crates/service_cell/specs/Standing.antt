@@ -1,7 +1,7 @@
 -- A cell as contracts see it, and what comes and goes over its link.
-use Rattle.std.specs.Prelude.{◌≡◌, ◌≤◌, ℕ, Bool, true, List, [], ◌∷◌, ◌++◌, Option, Some, None, ◌==◌, if◌then◌else◌, option_map, IfSome, IsFalse, ◌⊎◌}
+use Rattle.std.specs.Prelude.{◌≡◌, ◌≢◌, ◌≤◌, ℕ, Bool, true, false, List, [], ◌∷◌, ◌++◌, Option, Some, None, IfSome, IsFalse, ◌⊎◌}
 use Rattle.std.specs.Io.KnownBytes.{Appends, Consumes}
-use Rattle.okws_outer.specs.Streams.{Rose, AppendsPrefix}
+use Rattle.okws_outer.specs.Streams.{Rose}
 use Rattle.frame_codec.specs.Stream.{Begins, IsBad}
 use Rattle.frame_codec.specs.declared.frame.ServiceFrame.{ServiceFrame}
 use Rattle.okws_outer.specs.Wire.{Wire}
@@ -14,10 +14,18 @@ use Rattle.monitor_model.specs.declared.sent.Sent.{Sent}
 use Rattle.monitor_model.specs.Cell.{incarnation}
 use Rattle.monitor_model.specs.Course.{Speaker}
 
--- A dialog that is open: its worker, and its items, the newest first.
+-- A dialog that is open: the number that its caller gave its request, its worker, its items, and those of its last step, the newest first.
 pub record Open : Type 0 where
+  pub request : ℕ
   pub worker : ℕ
   pub items : List Item
+  pub newest : List Item
+
+-- The items of the last step are the newest of all, and there are some.
+pub record AreNewest (newest items : List Item) : Type 0 where
+  pub some : newest ≢ []
+  pub before : List Item
+  pub whole : items ≡ newest ++ before
 
 -- A cell: the site and the seed of its run, its service, its finished events, the newest first, its open dialog, if there is one, its link, if it has one, and what the links that it had before were given, the last one first.
 pub record Standing : Type 0 where
@@ -42,9 +50,9 @@ IsFresh wire = IfSome wire.given (λ given. given ≡ [])
 abbrev pub speaker : Standing → ℕ → Speaker
 speaker c w = record { worker = w; service = c.service; incarnation = incarnation c.past }
 
--- The open dialog has these items, and the link is as it is now.
-abbrev pub going : Standing → ℕ → List Item → Option Wire → Standing
-going c w items link = record c { open_dialog = Some (record { worker = w; items = items }); link = link }
+-- The dialog of request n is open with these items, of which the newest are those of its last step, and the link is as it is now.
+abbrev pub going : Standing → ℕ → ℕ → List Item → List Item → Option Wire → Standing
+going c n w items newest link = record c { open_dialog = Some (record { request = n; worker = w; items = items; newest = newest }); link = link }
 
 -- The dialog of a worker stands finished on top, with these items and this end, and the link is as it is now.
 abbrev pub finished : Standing → ℕ → List Item → End → Option Wire → Standing
@@ -88,6 +96,11 @@ abbrev pub Fails : Option Wire → Option Wire → List ℕ → List ℕ → Lis
 Fails None new taken put due = ⊥
 Fails (Some old) None taken put due = ⊥
 Fails (Some old) (Some new) taken put due = Breaks old new taken put due
+
+-- Whether the end was fed to a cell's link.
+abbrev pub ended_of : Option Wire → Bool
+ended_of None = false
+ended_of (Some wire) = wire.ended
 
 -- What is left to come in on a cell's link, where it tells.
 abbrev pub left_of : Option Wire → Option (List ℕ)

@@ -1,5 +1,5 @@
 -- What each call makes of a cell and of what its worker has seen.
-use Rattle.std.specs.Prelude.{◌≡◌, ◌≢◌, ◌≤◌, ◌<◌, ℕ, Bool, List, [], ◌∷◌, ◌++◌, Option, Some, None, ◌⊎◌, ◌==◌, if◌then◌else◌, IsTrue}
+use Rattle.std.specs.Prelude.{◌≡◌, ◌≢◌, ◌≤◌, ◌<◌, ℕ, List, [], ◌∷◌, ◌++◌, Option, Some, None, ◌⊎◌, ◌==◌, if◌then◌else◌}
 use Rattle.std.specs.Io.KnownBytes.{IsAtEnd}
 use Rattle.okws_base.specs.declared.limit.TheConstants.{MOST_FRAMES}
 use Rattle.okws_base.specs.declared.crash.Cause.{Cause}
@@ -10,7 +10,6 @@ use Rattle.frame_codec.specs.Stream.{IsBadStop}
 use Rattle.frame_codec.specs.declared.frame.ServiceFrame.{ServiceFrame}
 use Rattle.frame_codec.specs.declared.frame.ServiceFrame.TheVariants as said
 use Rattle.frame_codec.specs.declared.frame.ServerFrame.{ServerFrame}
-use Rattle.frame_codec.specs.declared.frame.ServerFrame.TheVariants as frame
 use Rattle.okws_outer.specs.Wire.{Wire}
 use Rattle.frame_link.specs.Next.{AreLeft, IsBadFront}
 use Rattle.monitor_model.specs.declared.verdict.Push.{Push}
@@ -70,34 +69,34 @@ OpeningBreaks cause.BadFrame opened items old new = ⊥
 OpeningBreaks cause.Ended opened items old new = ⊥
 OpeningBreaks cause.FrameLimit opened items old new = ⊥
 
--- What opening a dialog at a cell that has an incarnation makes of it.
-abbrev pub OpensCell : Asker → ServerFrame → Standing → Seen → Begun → Standing → Seen → Type 0
-OpensCell who request c J begun.Started d now =
+-- What opening the dialog of request n at a cell that has an incarnation makes of it.
+abbrev pub OpensCell : Asker → ℕ → ServerFrame → Standing → Seen → Begun → Standing → Seen → Type 0
+OpensCell who n request c J begun.Started d now =
     (pushes : List Push) × Drains who c.service (incarnation c.past) J pushes now
-    × (d ≡ going c who.worker (opening pushes request) d.link) × Passes c.link d.link [] (heard_text (opening pushes request))
-OpensCell who request c J (begun.Crashed why) d now =
+    × (d ≡ going c n who.worker (opening pushes request) (opening pushes request) d.link) × Passes c.link d.link [] (heard_text (opening pushes request))
+OpensCell who n request c J (begun.Crashed why) d now =
     (pushes : List Push) × Drains who c.service (incarnation c.past) J pushes now
     × (items : List Item) × OpeningBreaks why (opening pushes request) items c.link d.link × (d ≡ finished c who.worker items (crash_end why) d.link)
-OpensCell who request c J begun.NoMemory d now = (d ≡ c) × (now ≡ J)
-OpensCell who request c J (begun.Missed asked is) d now = ⊥
-OpensCell who request c J (begun.Superseded k shown) d now = ⊥
+OpensCell who n request c J begun.NoMemory d now = (d ≡ c) × (now ≡ J)
+OpensCell who n request c J (begun.Missed asked is) d now = ⊥
+OpensCell who n request c J (begun.Superseded k shown) d now = ⊥
 
--- What `begin` answers to a request that wants an incarnation, from the cell c and what its worker had seen, J, to the cell and what it has seen then.
--- Started: the incarnation is wanted and current, the Drain was entered, and the pushes and the Request were put.
+-- What `begin` answers to request n that wants an incarnation, from the cell c and what its worker had seen, J, to the cell and what it has seen then.
+-- Started: the incarnation is wanted and current, the Drain was entered, and the pushes and the Request were put, which are the items of its last step.
 -- Missed: another incarnation is there. Superseded: the board showed a greater one, and no Drain was entered.
 -- Crashed: the Drain was entered, and the opening broke off. NoMemory: all is as before.
-abbrev pub Begins : Asker → (ℕ → Type 0) → ServerFrame → ℕ → Standing → Seen → Begun → Standing → Seen → Type 0
-Begins who shows request wanted c J begun.Started d now =
-    (wanted ≡ incarnation c.past) × IsCurrent shows wanted × OpensCell who request c J begun.Started d now
-Begins who shows request wanted c J (begun.Missed asked is) d now =
+abbrev pub Begins : Asker → (ℕ → Type 0) → ℕ → ServerFrame → ℕ → Standing → Seen → Begun → Standing → Seen → Type 0
+Begins who shows n request wanted c J begun.Started d now =
+    (wanted ≡ incarnation c.past) × IsCurrent shows wanted × OpensCell who n request c J begun.Started d now
+Begins who shows n request wanted c J (begun.Missed asked is) d now =
     (asked ≡ wanted) × (is ≡ incarnation c.past) × (wanted ≢ is)
     × (d ≡ record c { past = cell.Missed who.worker wanted is ∷ c.past }) × (now ≡ noted J (own.Missed c.service wanted is))
-Begins who shows request wanted c J (begun.Superseded k shown) d now =
+Begins who shows n request wanted c J (begun.Superseded k shown) d now =
     (wanted ≡ incarnation c.past) × (k ≡ wanted) × (k < shown) × shows shown
     × (d ≡ finished c who.worker [] (end.Superseded shown) c.link) × (now ≡ noted J (own.Dialog c.service))
-Begins who shows request wanted c J (begun.Crashed why) d now =
-    (wanted ≡ incarnation c.past) × IsCurrent shows wanted × OpensCell who request c J (begun.Crashed why) d now
-Begins who shows request wanted c J begun.NoMemory d now = (d ≡ c) × (now ≡ J)
+Begins who shows n request wanted c J (begun.Crashed why) d now =
+    (wanted ≡ incarnation c.past) × IsCurrent shows wanted × OpensCell who n request c J (begun.Crashed why) d now
+Begins who shows n request wanted c J begun.NoMemory d now = (d ≡ c) × (now ≡ J)
 
 -- A frame was taken whole, and the dialog had said fewer than 4,096 before it.
 abbrev pub TakesOne : ServiceFrame → List Item → List ℕ → Type 0
@@ -125,7 +124,7 @@ abbrev pub Steps : Asker → Standing → Open → Seen → Exchanged → Standi
 Steps who c o J exchanged.Goes d now =
     (said : ServiceFrame) × (heard : ServerFrame) × (taken : List ℕ) × TakesOne said o.items taken
     × Answers who.config (speaker c o.worker) said J heard now
-    × (d ≡ going c o.worker (Heard heard ∷ Said said ∷ o.items) d.link) × Passes c.link d.link taken (server_spelling heard)
+    × (d ≡ going c o.request o.worker (Heard heard ∷ Said said ∷ o.items) (Heard heard ∷ Said said ∷ []) d.link) × Passes c.link d.link taken (server_spelling heard)
 Steps who c o J exchanged.Reply d now =
     (status : ℕ) × (content_type location content taken : List ℕ)
     × TakesOne (said.Reply status content_type location content) o.items taken × (now ≡ J)
@@ -140,7 +139,7 @@ StepsOpen who c None J answer d now = ⊥
 StepsOpen who c (Some o) J answer d now = Steps who c o J answer d now
 
 -- What `advance` answers, from the cell c with the open dialog o and what its worker had seen, J, to the cell and what it has seen then.
--- Goes: a frame was taken and answered by one frame. Reply: a Reply was taken. Superseded: the board showed a greater incarnation, and nothing was taken.
+-- Goes: a frame was taken and answered by one frame, and these two are the items of the last step. Reply: a Reply was taken. Superseded: the board showed a greater incarnation, and nothing was taken.
 abbrev pub Advances : Asker → (ℕ → Type 0) → Standing → Open → Seen → Advanced → Standing → Seen → Type 0
 Advances who shows c o J advanced.Goes d now = IsCurrent shows (incarnation c.past) × Steps who c o J exchanged.Goes d now
 Advances who shows c o J advanced.Reply d now = IsCurrent shows (incarnation c.past) × Steps who c o J exchanged.Reply d now

@@ -39,6 +39,7 @@ pub struct Cell<L: Link> {
     pub(crate) service: u16,
     pub(crate) incarnation: u32,
     last_booted: u32,
+    pub(crate) keeps: bool,
     pub(crate) events: Events,
     pub(crate) speaking: Option<Speaking>,
     pub(crate) wire: Option<L>,
@@ -71,7 +72,7 @@ impl<L: Link> Model for Cell<L> {
 impl<L: Link> Cell<L> {
     /// The cell of a service of a site, at which nothing happened; takes no memory. The tokens of its
     /// incarnations are those of the run's seed. What happens stays in memory where `keeps` says so;
-    /// else the dialog that is open or was the last one does.
+    /// else just the last step of the open dialog does, or the end and the Reply of the last one.
     pub fn new(
         alloc: Global,
         config: Arc<Config, Global>,
@@ -88,6 +89,7 @@ impl<L: Link> Cell<L> {
             service,
             incarnation: 0,
             last_booted: 0,
+            keeps,
             events: Events::new(alloc, keeps),
             speaking: None,
             wire: None,
@@ -211,6 +213,7 @@ impl<L: Link + Drop> Cell<L> {
             service: _,
             incarnation: _,
             last_booted,
+            keeps: _,
             mut events,
             speaking,
             wire,
@@ -218,6 +221,7 @@ impl<L: Link + Drop> Cell<L> {
         } = self;
         if let Some(
             Speaking {
+                request: _,
                 worker,
                 frames: _,
                 items,
@@ -226,7 +230,7 @@ impl<L: Link + Drop> Cell<L> {
         {
             events.enter(CellEvent::Speaking {
                 worker,
-                items: items.into_past(),
+                items: items.into_journal().into_past(),
             });
         }
         (events.into_past(), let_go(&sent, last_booted, wire))

@@ -1,6 +1,6 @@
 //! The dialogs of a cell, step by step.
 
-ghost use Rattle.std.specs.Prelude.{◌≡◌, ◌≢◌, ◌≤◌, ◌<◌, ℕ, ◌+◌, [], ◌∷◌, true, length, IsTrue, IsSome, IfSome, OnOk, OnErr, ◌↔◌, reverse, option_map};
+ghost use Rattle.std.specs.Prelude.{◌≡◌, ◌≢◌, ◌≤◌, ◌<◌, ℕ, ◌+◌, [], ◌∷◌, length, IsTrue, IsSome, IfSome, OnOk, OnErr, ◌↔◌, reverse, option_map};
 ghost use Rattle.okws_base.specs.declared.limit.TheConstants.{LONGEST_FRAME};
 ghost use Rattle.monitor_model.specs.declared.record.CellEvent.TheVariants as cell;
 ghost use Rattle.monitor_model.specs.declared.record.End.TheVariants as end;
@@ -8,20 +8,21 @@ ghost use Rattle.monitor_model.specs.declared.record.Own.TheVariants as own;
 ghost use Rattle.monitor_model.specs.Seen.{noted};
 ghost use Rattle.monitor_model.specs.Cell.{incarnation};
 ghost use Rattle.service_cell.specs.Asking.{KeepsBoard, IsNextBy};
+ghost use Rattle.service_cell.specs.Ending.{HasNoReply, EndsInReply};
 ghost use Rattle.service_cell.specs.Exchange.{AreSpelled, IsHeardOpen};
-ghost use Rattle.service_cell.specs.Standing.{finished};
+ghost use Rattle.service_cell.specs.Standing.{AreNewest, finished};
 ghost use Rattle.service_cell.specs.Steps.{crash_end, StepsOpen, OpensCell, Begins, AdvancesOpen, IsSpeaking, superseded};
 
 use crate::answer::{Advanced, Begun};
 use crate::cell::Cell;
 use crate::columns::Columns;
+use crate::course::Course;
 use crate::ending::{Events, Finished};
 use crate::exchange::{Exchanged, Who, exchange, hear_opening};
 use frame_codec::frame::ServerFrame;
 use monitor_model::record::{CellEvent, End, Item, Own};
 use okws_base::crash::Cause;
 use okws_base::items::Items;
-use okws_base::journal::Journal;
 use okws_base::limit::LONGEST_FRAME;
 use okws_outer::stream::Link;
 use std::alloc::AllocError;
@@ -29,15 +30,18 @@ use std::alloc::AllocError;
 /// A dialog that is open.
 #[derive(Drop)]
 pub(crate) struct Speaking {
+    // What its caller calls its request.
+    pub(crate) request: u32,
     pub(crate) worker: u16,
     // How many frames the service said in it.
     pub(crate) frames: usize,
-    pub(crate) items: Journal<Item>,
+    pub(crate) items: Course,
 }
 
 /// The end of a dialog that crashed by this cause.
 fn end_of(cause: Cause) -> End
-    ensures { result ≡ crash_end cause }
+    ensures end { result ≡ crash_end cause }
+    ensures unreplied { HasNoReply result }
 {
     match cause {
         Cause::BadFrame => End::BadFrame,
@@ -48,34 +52,53 @@ fn end_of(cause: Cause) -> End
     }
 }
 
-/// Enters a dialog that ended so, in a place that was kept.
-fn finish(events: &mut Events, speaking: Speaking, end: End)
+/// Enters a dialog that ended so, without a Reply, in a place that was kept.
+fn finish(events: &mut Events, worker: u16, items: Course, end: End)
     requires room { 0 < events.old.room }
-    requires kept { speaking.items.keeps ≡ true }
-    ensures past { events.new.past ≡ cell.Dialog (record { worker = speaking.worker; items = speaking.items.past; end = end }) ∷ events.old.past }
+    requires unreplied { HasNoReply end }
+    ensures past { events.new.past ≡ cell.Dialog (record { worker = worker; items = items.past; end = end }) ∷ events.old.past }
     ensures room { events.new.room + 1 ≡ events.old.room }
 {
-    events.finish(Finished::new(speaking.worker, speaking.items, end));
+    events.finish(Finished::new(worker, items.into_journal(), end));
+}
+
+/// Enters a dialog that ended in a Reply, in a place that was kept.
+fn finish_replied(events: &mut Events, worker: u16, items: Course)
+    requires room { 0 < events.old.room }
+    requires replied { EndsInReply items.newest }
+    ensures past { events.new.past ≡ cell.Dialog (record { worker = worker; items = items.past; end = end.Reply }) ∷ events.old.past }
+    ensures room { events.new.room + 1 ≡ events.old.room }
+{
+    let (reply, before) = items.into_reply();
+    events.finish(Finished::replied(worker, before, reply));
 }
 
 impl<L: Link> Cell<L> {
     /// Whether a dialog is open.
     pub fn busy(&self) -> bool
-        ensures { IsTrue result ↔ IsSome self.now.open_dialog }
+        ensures open { IsTrue result ↔ IsSome self.now.open_dialog }
+        ensures there { IsTrue result → incarnation self.now.past ≢ 0 }
     {
         self.speaking.is_some()
     }
 
-    /// The items of the open dialog, the oldest first.
-    pub fn items(&self) -> &[Item]
-        requires { IsSome self.now.open_dialog }
-        ensures { IfSome self.now.open_dialog (λ o. reverse result.now ≡ o.items) }
+    /// What `begin` was told is the number of the open dialog's request.
+    pub fn open_request(&self) -> Option<u32>
+        ensures request { result ≡ option_map (λ o. o.request) self.now.open_dialog }
+        ensures there { IsSome result → incarnation self.now.past ≢ 0 }
     {
-        let Some(speaking) = &self.speaking else {
-            unreachable!()
-        };
-        match speaking.items.as_slice() {
-            Some(items) => items,
+        self.speaking.as_ref().map(|speaking| speaking.request)
+    }
+
+    /// The items of the open dialog's last step, the oldest first: what its opening put, or the frame
+    /// that was said and the one that answered it. No others are at hand.
+    pub fn last_items(&self) -> &[Item]
+        requires { IsSome self.now.open_dialog }
+        ensures items { IfSome self.now.open_dialog (λ o. reverse result.now ≡ o.newest) }
+        ensures newest { IfSome self.now.open_dialog (λ o. AreNewest o.newest o.items) }
+    {
+        match &self.speaking {
+            Some(speaking) => speaking.items.last(),
             None => unreachable!(),
         }
     }
@@ -87,15 +110,19 @@ impl<L: Link> Cell<L> {
         ensures { self.new ≡ superseded self.old self.old.open_dialog shown }
     {
         match self.speaking.take() {
-            Some(speaking) => finish(&mut self.events, speaking, End::Superseded(shown)),
+            Some(Speaking { worker, items, .. }) => {
+                finish(&mut self.events, worker, items, End::Superseded(shown))
+            }
             None => unreachable!(),
         }
     }
 
     /// Begins a dialog: tests that the wanted incarnation is there and that none above it was begun,
-    /// enters the Drain, and puts its pushes and the Request.
+    /// enters the Drain, and puts its pushes and the Request. `request` is the caller's own number for
+    /// the request, of which the cell says nothing but to hand it back (`open_request`).
     pub fn begin<C: Columns>(
         &mut self,
+        request: u32,
         head: Items<u8>,
         content: Items<u8>,
         wanted: u32,
@@ -105,7 +132,7 @@ impl<L: Link> Cell<L> {
         requires wanted { 0 < wanted }
         requires declared { self.old.service < length (C.asker columns.old).config.services }
         requires short { length head + length content + 9 ≤ LONGEST_FRAME }
-        ensures begins { Begins (C.asker columns.old) (C.shows columns.new self.old.service) (ServerFrame.Request head content) wanted self.old (C.seen columns.old) result self.new (C.seen columns.new) }
+        ensures begins { Begins (C.asker columns.old) (C.shows columns.new self.old.service) request (ServerFrame.Request head content) wanted self.old (C.seen columns.old) result self.new (C.seen columns.new) }
         ensures spelled { result ≡ Begun.Started → AreSpelled self.new.open_dialog }
         ensures board { KeepsBoard C.asker C.shows C.token_seed columns.old columns.new }
     {
@@ -126,7 +153,7 @@ impl<L: Link> Cell<L> {
                 Err(_) => Begun::NoMemory,
             };
         }
-        self.open(head, content, columns)
+        self.open(request, head, content, columns)
     }
 
     /// Enters a Missed, and notes it.
@@ -168,22 +195,29 @@ impl<L: Link> Cell<L> {
     {
         self.events.make_room()?;
         columns.note(Own::Dialog(self.service))?;
-        let speaking = Speaking {
-            worker: columns.worker(),
-            frames: 0,
-            items: Journal::new(self.alloc, true),
-        };
-        finish(&mut self.events, speaking, End::Superseded(shown));
+        let items = Course::new(self.alloc, self.keeps);
+        finish(
+            &mut self.events,
+            columns.worker(),
+            items,
+            End::Superseded(shown),
+        );
         Ok(())
     }
 
     /// Enters the Drain, and puts its pushes and the Request.
-    fn open<C: Columns>(&mut self, head: Items<u8>, content: Items<u8>, columns: &mut C) -> Begun
+    fn open<C: Columns>(
+        &mut self,
+        request: u32,
+        head: Items<u8>,
+        content: Items<u8>,
+        columns: &mut C,
+    ) -> Begun
         requires closed { self.old.open_dialog ≡ None }
         requires there { 0 < incarnation self.old.past }
         requires declared { self.old.service < length (C.asker columns.old).config.services }
         requires short { length head + length content + 9 ≤ LONGEST_FRAME }
-        ensures opens { OpensCell (C.asker columns.old) (ServerFrame.Request head content) self.old (C.seen columns.old) result self.new (C.seen columns.new) }
+        ensures opens { OpensCell (C.asker columns.old) request (ServerFrame.Request head content) self.old (C.seen columns.old) result self.new (C.seen columns.new) }
         ensures spelled { result ≡ Begun.Started → AreSpelled self.new.open_dialog }
         ensures board { KeepsBoard C.asker C.shows C.token_seed columns.old columns.new }
     {
@@ -196,20 +230,20 @@ impl<L: Link> Cell<L> {
         let Some(link) = &mut self.wire else {
             unreachable!()
         };
-        let mut items = Journal::new(self.alloc, true);
-        let heard = hear_opening(link, &mut items, pushes, head, content);
-        let speaking = Speaking {
-            worker: columns.worker(),
-            frames: 0,
-            items,
-        };
-        match heard {
+        let worker = columns.worker();
+        let mut items = Course::new(self.alloc, self.keeps);
+        match hear_opening(link, &mut items, pushes, head, content) {
             Ok(()) => {
-                self.speaking = Some(speaking);
+                self.speaking = Some(Speaking {
+                    request,
+                    worker,
+                    frames: 0,
+                    items,
+                });
                 Begun::Started
             }
             Err(cause) => {
-                finish(&mut self.events, speaking, end_of(cause));
+                finish(&mut self.events, worker, items, end_of(cause));
                 self.incarnation = 0;
                 Begun::Crashed(cause)
             }
@@ -271,9 +305,16 @@ impl<L: Link> Cell<L> {
                 speaking.frames += 1;
                 self.speaking = Some(speaking);
             }
-            Exchanged::Reply => finish(&mut self.events, speaking, End::Reply),
+            Exchanged::Reply => {
+                finish_replied(&mut self.events, speaking.worker, speaking.items)
+            }
             Exchanged::Crashed(cause) => {
-                finish(&mut self.events, speaking, end_of(cause));
+                finish(
+                    &mut self.events,
+                    speaking.worker,
+                    speaking.items,
+                    end_of(cause),
+                );
                 self.incarnation = 0;
             }
         }

@@ -1,40 +1,65 @@
-//! The events of a cell, and its last dialog, which stays at hand whether or not the events are kept.
+//! The events of a cell, and its last dialog, of which the end and the Reply stay at hand whether or not
+//! the events are kept.
 
-ghost use Rattle.std.specs.Prelude.{◌≡◌, ◌≤◌, ◌<◌, ◌+◌, [], ◌∷◌, reverse, true, OnOk, MatchOption};
+ghost use Rattle.std.specs.Prelude.{◌≡◌, ◌≤◌, ◌<◌, ◌+◌, [], ◌∷◌, OnOk, MatchOption};
 ghost use Rattle.monitor_model.specs.declared.record.CellEvent.TheVariants as cell;
-ghost use Rattle.service_cell.specs.Ending.{with_last, places, IsOther, IsLast, EndsOtherwise};
+ghost use Rattle.monitor_model.specs.declared.record.End.TheVariants as end;
+ghost use Rattle.monitor_model.specs.declared.record.Item.TheVariants.{Said};
+ghost use Rattle.service_cell.specs.Ending.{with_last, places, IsOther, IsLast, EndsOtherwise, IsReply, HasNoReply, EndsIn};
 
+use frame_codec::frame::ServiceFrame;
 use monitor_model::record::{CellEvent, Dialog, End, Item};
 use okws_base::journal::{Journal, Past};
 use std::alloc::{AllocError, Global};
 use std::marker::Model;
 
-/// A dialog that ended.
+/// A dialog that ended. Contracts see it whole; its end and its Reply are at hand.
 #[derive(Drop)]
 pub struct Finished {
     worker: u16,
+    // All but its Reply.
     items: Journal<Item>,
+    reply: Option<ServiceFrame>,
     end: End,
 }
 
 impl Model for Finished {
-    ghost use Rattle.std.specs.Prelude.{◌≡◌, true};
     ghost use Rattle.monitor_model.specs.declared.record.Dialog.{Dialog};
+    ghost use Rattle.service_cell.specs.Ending.{with_reply, FitsEnd};
 
     ghost Value = { Dialog };
 
-    ghost view = { λ a. record { worker = a.worker; items = a.items.past; end = a.end } };
+    ghost view = { λ a. record { worker = a.worker; items = with_reply a.reply a.items.past; end = a.end } };
 
-    ghost invariant = { λ a. a.items.keeps ≡ true };
+    ghost invariant = { λ a. FitsEnd a.reply a.items.room a.end };
 }
 
 impl Finished {
-    /// The dialog of a worker, whose items are in memory.
+    /// The dialog of a worker that ended without a Reply.
     pub(crate) fn new(worker: u16, items: Journal<Item>, end: End) -> Self
-        requires { items.keeps ≡ true }
+        requires { HasNoReply end }
         ensures { result ≡ record { worker = worker; items = items.past; end = end } }
     {
-        Finished { worker, items, end }
+        Finished {
+            worker,
+            items,
+            reply: None,
+            end,
+        }
+    }
+
+    /// The dialog of a worker that ended in a Reply, for which its journal has room.
+    pub(crate) fn replied(worker: u16, items: Journal<Item>, reply: ServiceFrame) -> Self
+        requires reply { IsReply reply }
+        requires room { 0 < items.room }
+        ensures { result ≡ record { worker = worker; items = Said reply ∷ items.past; end = end.Reply } }
+    {
+        Finished {
+            worker,
+            items,
+            reply: Some(reply),
+            end: End::Reply,
+        }
     }
 
     /// How it ended.
@@ -44,28 +69,35 @@ impl Finished {
         self.end
     }
 
-    /// Its items, the oldest first.
-    pub fn items(&self) -> &[Item]
-        ensures { reverse result.now ≡ self.now.items }
+    /// Its Reply, where it ended so.
+    pub fn reply(&self) -> Option<&ServiceFrame>
+        ensures { MatchOption result (HasNoReply self.now.end) (λ reply. EndsIn reply.now self.now) }
     {
-        match self.items.as_slice() {
-            Some(items) => items,
-            None => unreachable!(),
-        }
+        self.reply.as_ref()
     }
 
     fn into_dialog(self) -> Dialog
         ensures { result ≡ self }
     {
+        let Finished {
+            worker,
+            mut items,
+            reply,
+            end,
+        } = self;
+        if let Some(reply) = reply {
+            items.enter(Item::Said(reply));
+        }
         Dialog {
-            worker: self.worker,
-            items: self.items.into_past(),
-            end: self.end,
+            worker,
+            items: items.into_past(),
+            end,
         }
     }
 }
 
-/// The events of a cell, seen as a journal. A dialog that is the last one stays in memory.
+/// The events of a cell, seen as a journal. Of a dialog that is the last one the end and the Reply stay
+/// in memory.
 #[derive(Drop)]
 pub(crate) struct Events {
     journal: Journal<CellEvent>,

@@ -1,13 +1,15 @@
 //! One exchange of a dialog, between a link and the columns.
 
-ghost use Rattle.std.specs.Prelude.{◌≡◌, ◌≤◌, ◌<◌, ℕ, ◌+◌, [], true, length, MatchOption, IsTrue, OnOk};
+ghost use Rattle.std.specs.Prelude.{◌≡◌, ◌≤◌, ◌<◌, ℕ, ◌+◌, [], true, length, take, MatchOption, IsTrue, OnOk};
 ghost use Rattle.okws_base.specs.Runs.{Each};
 ghost use Rattle.frame_codec.specs.Spelling.{server_spelling, HasSpelling};
 ghost use Rattle.monitor_model.specs.Course.{Answers, opening, said_count, verdict_frame as frame_of_verdict, got_frame as frame_of_got, noted_frame as frame_of_noted, push_frame as frame_of_push};
 ghost use Rattle.service_cell.specs.Asking.{Asker, KeepsBoard, IsNextBy, IsShortPush, IsShortGot};
-ghost use Rattle.service_cell.specs.Exchange.{FitsFrame, IsReply, IsSpelled, IsHeardLast, PutsFrame, Hears, Opens, Exchanges, AnswersFrame};
+ghost use Rattle.service_cell.specs.Ending.{IsReply, EndsInReply};
+ghost use Rattle.service_cell.specs.Exchange.{FitsFrame, IsSpelled, IsHeardLast, PutsFrame, Hears, Opens, Exchanges, AnswersFrame};
 
 use crate::columns::Columns;
+use crate::course::Course;
 use frame_codec::frame::{ServerFrame, ServiceFrame};
 use frame_codec::making;
 use frame_link::receiving::{NextFrame, next};
@@ -17,7 +19,6 @@ use monitor_model::verdict::{Got, Noted, Push, Verdict};
 use okws_base::crash::Cause;
 use okws_base::denial::Rule;
 use okws_base::items::{Exact, Items};
-use okws_base::journal::Journal;
 use okws_base::limit::{LONGEST_FRAME, MOST_FRAMES};
 use okws_base::value::{Token, Value};
 use okws_outer::stream::Link;
@@ -223,10 +224,10 @@ pub(crate) fn put_frame<L: Link>(link: &mut L, frame: &ServerFrame) -> Result<()
 
 /// Puts a frame, and enters it as heard. Makes room for both first.
 #[tactic(auto, using(crate::proofs::Wires::spelling_is_short))]
-fn hear<L: Link>(link: &mut L, items: &mut Journal<Item>, frame: ServerFrame) -> Result<(), Cause>
+fn hear<L: Link>(link: &mut L, items: &mut Course, frame: ServerFrame) -> Result<(), Cause>
     requires { HasSpelling frame }
-    ensures kept { items.new.keeps ≡ items.old.keeps }
     ensures hears { Hears (L.wire link.old) items.old.past frame result (L.wire link.new) items.new.past }
+    ensures newest { items.old.newest ≡ items.old.past → items.new.newest ≡ items.new.past }
 {
     if items.make_room(1).is_err() || link.make_room(LONGEST_FRAME + 4).is_err() {
         return Err(Cause::Starved);
@@ -243,17 +244,18 @@ fn hear<L: Link>(link: &mut L, items: &mut Journal<Item>, frame: ServerFrame) ->
 /// Puts the pushes and the Request of a dialog, each of which is heard.
 pub(crate) fn hear_opening<L: Link>(
     link: &mut L,
-    items: &mut Journal<Item>,
+    items: &mut Course,
     pushes: Vec<Push>,
     head: Items<u8>,
     content: Items<u8>,
 ) -> Result<(), Cause>
     requires fresh { items.old.past ≡ [] }
+    requires none { items.old.newest ≡ [] }
     requires short { Each IsShortPush pushes.items }
     requires request { length head + length content + 9 ≤ LONGEST_FRAME }
     ensures opens { Opens (L.wire link.old) (opening pushes.items (ServerFrame.Request head content)) result (L.wire link.new) items.new.past }
     ensures said { said_count items.new.past ≡ 0 }
-    ensures kept { items.new.keeps ≡ items.old.keeps }
+    ensures newest { items.new.newest ≡ items.new.past }
     ensures spelled { OnOk result (Each IsSpelled items.new.past) }
 {
     for push in pushes {
@@ -269,7 +271,7 @@ fn exchange_frame<L: Link, C: Columns>(
     alloc: Global,
     link: &mut L,
     frames: usize,
-    items: &mut Journal<Item>,
+    items: &mut Course,
     columns: &mut C,
     who: Who,
     said: ServiceFrame,
@@ -277,11 +279,13 @@ fn exchange_frame<L: Link, C: Columns>(
     requires declared { who.service < length (C.asker columns.old).config.services }
     requires counted { frames ≡ said_count items.old.past }
     requires most { frames ≤ MOST_FRAMES }
+    requires fresh { items.old.newest ≡ [] }
     requires places { 2 ≤ items.old.room }
     requires room { (L.wire link.old).steady ≡ true → LONGEST_FRAME + 4 ≤ (L.wire link.old).room }
     ensures exchanged { AnswersFrame (C.asker columns.old).config (record { worker = (C.asker columns.old).worker; service = who.service; incarnation = who.incarnation }) (L.wire link.old) items.old.past said (C.seen columns.old) result (L.wire link.new) items.new.past (C.seen columns.new) }
     ensures spelled { result ≡ Exchanged.Goes → IsHeardLast items.new.past }
-    ensures kept { items.new.keeps ≡ items.old.keeps }
+    ensures newest { result ≡ Exchanged.Goes → items.new.newest ≡ take 2 items.new.past }
+    ensures replied { result ≡ Exchanged.Reply → EndsInReply items.new.newest }
     ensures next { IsTrue (C.asker columns.old).alone → IsNextBy (C.asker columns.old).worker (C.seen columns.old) (C.seen columns.new) }
     ensures board { KeepsBoard C.asker C.shows C.token_seed columns.old columns.new }
 {
@@ -309,7 +313,7 @@ pub(crate) fn exchange<L: Link, C: Columns>(
     alloc: Global,
     link: &mut L,
     frames: usize,
-    items: &mut Journal<Item>,
+    items: &mut Course,
     columns: &mut C,
     who: Who,
 ) -> Exchanged
@@ -318,11 +322,12 @@ pub(crate) fn exchange<L: Link, C: Columns>(
     requires most { frames ≤ MOST_FRAMES }
     ensures exchanged { Exchanges (C.asker columns.old).config (record { worker = (C.asker columns.old).worker; service = who.service; incarnation = who.incarnation }) (L.wire link.old) items.old.past (C.seen columns.old) result (L.wire link.new) items.new.past (C.seen columns.new) }
     ensures spelled { result ≡ Exchanged.Goes → IsHeardLast items.new.past }
-    ensures kept { items.new.keeps ≡ items.old.keeps }
+    ensures newest { result ≡ Exchanged.Goes → items.new.newest ≡ take 2 items.new.past }
+    ensures replied { result ≡ Exchanged.Reply → EndsInReply items.new.newest }
     ensures next { IsTrue (C.asker columns.old).alone → IsNextBy (C.asker columns.old).worker (C.seen columns.old) (C.seen columns.new) }
     ensures board { KeepsBoard C.asker C.shows C.token_seed columns.old columns.new }
 {
-    if items.make_room(2).is_err() || link.make_room(LONGEST_FRAME + 4).is_err() {
+    if items.begin_step(alloc, 2).is_err() || link.make_room(LONGEST_FRAME + 4).is_err() {
         return Exchanged::Crashed(Cause::Starved);
     }
     match next(alloc, link) {

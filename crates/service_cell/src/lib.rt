@@ -6,6 +6,7 @@
 pub mod answer;
 pub mod cell;
 pub mod columns;
+mod course;
 mod dialog;
 pub mod ending;
 mod exchange;

@@ -3,7 +3,7 @@
 ghost use Rattle.std.specs.Prelude.{◌≡◌, ◌≢◌, ℕ, List, IsTrue, ◌↔◌, OnOk, OnErr, option_map, IfSome, true};
 ghost use Rattle.monitor_model.specs.Cell.{incarnation};
 ghost use Rattle.okws_outer.specs.Wire.{fed, shut};
-ghost use Rattle.service_cell.specs.Standing.{IsReadyLink, left_of};
+ghost use Rattle.service_cell.specs.Standing.{IsReadyLink, ended_of, left_of};
 
 use crate::cell::Cell;
 use frame_codec::reading::is_short;
@@ -31,6 +31,16 @@ impl<L: FedLink> Cell<L> {
         match &mut self.wire {
             Some(link) => link.feed_end(),
             None => unreachable!(),
+        }
+    }
+
+    /// Whether the end was fed to the link that is there.
+    pub fn has_ended(&self) -> bool
+        ensures { result ≡ ended_of self.now.link }
+    {
+        match &self.wire {
+            Some(link) => link.is_ended(),
+            None => false,
         }
     }
 

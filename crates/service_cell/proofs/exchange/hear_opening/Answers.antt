@@ -1,4 +1,4 @@
-use Rattle.std.proofs.Common.{◌≡◌, List, [], ◌∷◌, ◌++◌, sym, ap, ◌∙◌, append_assoc, refl, reverse, map}
+use Rattle.std.proofs.Common.{◌≡◌, List, [], ◌∷◌, ◌++◌, sym, ap, ◌∙◌, append_assoc, reverse, map}
 use Rattle.frame_codec.specs.declared.frame.ServerFrame.{ServerFrame}
 use Rattle.frame_codec.specs.declared.frame.ServerFrame.TheVariants as frame
 use Rattle.monitor_model.specs.declared.record.Item.{Item}
@@ -19,7 +19,7 @@ loop-push-preserved g c =
       all = i.all ∙ ap (λ (t : List Push). c.loop-push.yielded ++ t) s.0 ∙ sym (append_assoc c.loop-push.yielded (c.in-Some.push ∷ []) c.next.new.self.rest.items);
       said = rw h.1 i.said;
       spelled = rw h.1 (c.told_push.ensures.spelling, i.spelled);
-      kept = c.hear.ensures.kept ∙ i.kept;
+      newest = c.hear.ensures.newest i.newest;
     }
 
 pub returns-in-Err-clause-opens : goal.returns-in-Err-clause-opens

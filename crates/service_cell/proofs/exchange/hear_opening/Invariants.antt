@@ -14,5 +14,5 @@ invariant-loop-push g l = record {
   all : l.fn.pushes.items ≡ l.yielded ++ l.push-iterator.rest.items;
   said : said_count l.items.past ≡ 0;
   spelled : Each IsSpelled l.items.past;
-  kept : l.items.keeps ≡ l.fn.items.keeps;
+  newest : l.items.newest ≡ l.items.past;
 }

@@ -1,5 +1,3 @@
-use Rattle.std.specs.Prelude.{IsTrue}
-use Rattle.service_cell.specs.Asking.{Asker, IsNextBy}
 use Rattle.service_cell.proofs.Stepping.{next_since}
 use Rattle.service_cell.proofs.cell.Cell.advance.Goals as goal
 

@@ -8,6 +8,7 @@ ghost use Rattle.service_cell.specs.Steps.{IsSpeaking};
 
 use crate::bare::Bare;
 use crate::scant::Scant;
+use frame_codec::frame::ServiceFrame;
 use okws_base::crash::Cause;
 use okws_base::items::Items;
 use okws_outer::memory::link::{FedLink, MemoryLink};
@@ -15,9 +16,13 @@ use okws_outer::stream::Link;
 use okws_plan::configuration::Config;
 use service_cell::answer::{Advanced, Begun, Booting};
 use service_cell::cell::Cell;
+use service_cell::ending::Finished;
 use std::alloc::{AllocError, Global};
 use std::sync::Arc;
 use std::test::Fail;
+
+/// What the tests call their requests.
+const REQUEST: u32 = 7;
 
 const LOG: &[u8] = b"\x00\x00\x00\x07\x44\x00\x00\x00\x02hi";
 
@@ -45,7 +50,7 @@ fn begun<L: Link + Drop>(alloc: Global, mut cell: Cell<L>, columns: &mut Bare) -
 {
     let head = Items::of(Vec::new(alloc));
     let content = Items::of(Vec::new(alloc));
-    match cell.begin(head, content, 1, columns) {
+    match cell.begin(REQUEST, head, content, 1, columns) {
         Begun::Started => Some(cell),
         _ => {
             let _pasts = cell.close();
@@ -192,5 +197,67 @@ fn frames_are_put(rt: HostRuntime) -> Result<(), Fail> {
     let want =
         b"\x00\x00\x00\x08\x01\x00\x00\x00\x00\x00\x01\x00\x00\x00\x00\x09\x02\x00\x00\x00\x00\x00\x00\x00\x00\x00\x00\x00\x01\x0b";
     assert!(rt; given.as_slice() == want.as_slice());
+    Ok(())
+}
+
+/// What is at hand of a cell: the number of the request whose dialog is open, how many items its last
+/// step has, and the status of the Reply in which the last dialog ended.
+type Hand = (Option<u32>, usize, Option<u16>);
+
+/// The status of the Reply in which a dialog ended.
+fn status_of(dialog: &Finished) -> Option<u16> {
+    match dialog.reply() {
+        Some(ServiceFrame::Reply { status, .. }) => Some(*status),
+        _ => None,
+    }
+}
+
+/// What is at hand of a cell.
+fn hand_of<L: Link>(cell: &Cell<L>) -> Hand {
+    let count = if cell.busy() {
+        cell.last_items().len()
+    } else {
+        0
+    };
+    let status = match cell.last_dialog() {
+        Some(dialog) => status_of(dialog),
+        None => None,
+    };
+    (cell.open_request(), count, status)
+}
+
+/// What is at hand once a dialog is open, or once it took a step where bytes come; nothing where none
+/// opens.
+fn hand_after(alloc: Global, coming: &[u8]) -> Result<Hand, AllocError> {
+    let mut columns = Bare::new(alloc);
+    let link = MemoryLink::new(alloc, 3, &[]);
+    let Some(mut cell) = started(alloc, link, &mut columns) else {
+        return Ok((None, 0, None));
+    };
+    let fed = cell.feed(coming);
+    if !coming.is_empty() {
+        let _answer = cell.advance(&mut columns);
+    }
+    let hand = hand_of(&cell);
+    let _pasts = cell.close();
+    fed?;
+    Ok(hand)
+}
+
+#[test]
+fn the_last_step_is_at_hand(rt: HostRuntime) -> Result<(), Fail> {
+    for (coming, open, count, status) in [
+        // A Log and its answer, or the Request alone.
+        (LOG, Some(REQUEST), 2, None),
+        (b"", Some(REQUEST), 1, None),
+        // A Reply, and no frame.
+        (REPLY, None, 0, Some(200)),
+        (b"\x00\x00\x00\x01\xff", None, 0, None),
+    ] {
+        let (found_open, found_count, found_status) = hand_after(rt.alloc(), coming)?;
+        assert!(rt; found_open == open);
+        assert_eq!(rt; found_count, count);
+        assert!(rt; found_status == status);
+    }
     Ok(())
 }

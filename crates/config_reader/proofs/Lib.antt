@@ -1,6 +1,5 @@
 mod Fits
 mod Plans
-mod ByteSets
 mod Kept
 mod Lists
 mod Unbroken

@@ -21,7 +21,7 @@ use Rattle.query_syntax.specs.declared.error.Refusal.{Refusal}
 use Rattle.config_reader.specs.Above.{Above, proxy_number, plan_of, tables_at, table_number}
 use Rattle.config_reader.specs.After.{after, with_plan, with_table, with_row, with_row_in, with_query, table_of, changed_at}
 use Rattle.config_reader.specs.Broken.{row_values, statement_at}
-use Rattle.config_reader.specs.Declarations.{ColumnWords, Proxy, Table as TableLine, Row, Query as QueryLine}
+use Rattle.config_syntax.specs.Declarations.{ColumnWords, Proxy, Table as TableLine, Row, Query as QueryLine}
 use Rattle.config_reader.specs.Ruled.{AreRuled}
 use Rattle.config_reader.proofs.Lists.{list_all_push, list_all_weaker, all_changed, length_changed, seen_changed, lt_push}
 

@@ -1,7 +1,7 @@
 -- A lawful file gives a sound configuration: the declarations, one by one.
-use Rattle.std.proofs.Common.{◌≡◌, ℕ, ◌==◌, Bool, true, false, ◌&&◌, List, [], ◌∷◌, ◌++◌, length, map, nat_lt, nat_le, Option, refl, ap, ◌∙◌}
+use Rattle.std.proofs.Common.{◌≡◌, ℕ, ◌==◌, Bool, true, false, List, [], ◌∷◌, ◌++◌, length, map, nat_lt, nat_le, Option, refl, ap, ◌∙◌}
 use Rattle.std.specs.Prelude.{slice_get, position, is_some, is_none}
-use Rattle.std.specs.List.{list_all, list_any}
+use Rattle.std.specs.List.{list_any}
 use Rattle.std.proofs.lemmas.Bool.{and_parts, and_from, not-false, leb-true}
 use Rattle.std.proofs.lemmas.List.{map-append}
 use Rattle.okws_base.specs.Value.{same_bytes}
@@ -18,7 +18,7 @@ use Rattle.plain_text.specs.Decimals.{is_number, decimal_value}
 use Rattle.config_reader.specs.Above.{Above, proxy_number, service_number, template_number}
 use Rattle.config_reader.specs.After.{after}
 use Rattle.config_reader.specs.Broken.{is_reserved, found}
-use Rattle.config_reader.specs.Declarations.{Proxy, Service, Retry, Uri, Template, Read, Log}
+use Rattle.config_syntax.specs.Declarations.{Proxy, Service, Retry, Uri, Template, Read, Log}
 use Rattle.config_reader.proofs.Lists.{or_false, room, length_push, list_all_push, list_all_weaker, any_map, distinct_push, not_found, found_below, get_push, lt_push}
 use Rattle.config_reader.proofs.Unbroken.{IsUnbroken}
 

@@ -9,12 +9,12 @@ use Rattle.config_reader.specs.Above.{Above, nothing_above}
 use Rattle.config_reader.specs.After.{after, after_if, declared, declared_if}
 use Rattle.config_reader.specs.Answers.{Gives}
 use Rattle.config_reader.specs.Broken.{broken}
-use Rattle.config_reader.specs.Declarations.{Declaration, Proxy, Table, Row, Query, Service, Retry, Uri, Grant, Template, Read, Log, declaration_of, directive_of}
+use Rattle.config_syntax.specs.Declarations.{Declaration, Proxy, Table, Row, Query, Service, Retry, Uri, Grant, Template, Read, Log, declaration_of, directive_of}
 use Rattle.std.specs.Str.Lines.{lines}
 use Rattle.config_reader.specs.Meaning.{begins_comment, are_first_words, directive_judged, word_judged, words_judged, line_judged, first_judged, numbered, read_from, read_lines, meaning}
 use Rattle.config_reader.specs.Ruled.{AreRuled}
-use Rattle.config_reader.specs.Words.{is_text_line}
-use Rattle.config_reader.specs.declared.directive.Directive.{Directive}
+use Rattle.config_syntax.specs.Words.{is_text_line}
+use Rattle.config_syntax.specs.declared.directive.Directive.{Directive}
 use Rattle.config_reader.specs.declared.error.ConfigRule.{ConfigRule}
 use Rattle.config_reader.specs.declared.error.ConfigError.{ConfigError}
 use Rattle.config_reader.specs.declared.error.Refusal.{Refusal}

@@ -22,9 +22,10 @@ use Rattle.okws_plan.specs.declared.configuration.Table.{Table}
 use Rattle.okws_plan.specs.declared.statement.Statement.{Statement}
 use Rattle.plain_text.specs.Decimals.{decimal_value}
 use Rattle.config_reader.specs.Above.{Above, proxy_number, service_number, table_number, plan_of, tables_at, queries_at, table_at, has_query}
-use Rattle.config_reader.specs.After.{after, with_plan, with_table, table_of, column_of, with_row, with_row_in, with_query, granted_of}
-use Rattle.config_reader.specs.Broken.{found, repeats, key_count, takes_table, takes_query, has_too_many_tables, has_too_many_queries, can_hold, is_row_in, is_row_of, row_values, statement_at}
-use Rattle.config_reader.specs.Declarations.{Table as TableLine, Row, Query as QueryLine, Grant, ColumnWords}
+use Rattle.config_reader.specs.After.{after, with_plan, with_table, table_of, with_row, with_row_in, with_query, granted_of}
+use Rattle.config_syntax.specs.Columns.{repeats, key_count, column_of}
+use Rattle.config_reader.specs.Broken.{found, takes_table, takes_query, has_too_many_tables, has_too_many_queries, can_hold, is_row_in, is_row_of, row_values, statement_at}
+use Rattle.config_syntax.specs.Declarations.{Table as TableLine, Row, Query as QueryLine, Grant, ColumnWords}
 use Rattle.config_reader.proofs.Lists.{or_false, room, length_push, list_all_push, list_all_weaker, any_map, distinct_push, found_below, map_changed, length_changed, all_changed, get_changed}
 use Rattle.config_reader.proofs.Sound.{name_push, has_number}
 use Rattle.config_reader.proofs.Unbroken.{IsUnbroken}

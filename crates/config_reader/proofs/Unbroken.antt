@@ -2,7 +2,7 @@
 use Rattle.std.proofs.Common.{◌≡◌, Bool, true, false, cond, Option, Some, None, refl}
 use Rattle.config_reader.specs.Above.{Above}
 use Rattle.config_reader.specs.Broken.{broken, has_bad_name, has_bad_number, has_bad_kind, has_bad_path, has_bad_literal, is_undeclared, is_taken_above, marks_two, mismatches, is_refused, is_too_many}
-use Rattle.config_reader.specs.Declarations.{Declaration}
+use Rattle.config_syntax.specs.Declarations.{Declaration}
 use Rattle.config_reader.specs.declared.error.ConfigRule.{ConfigRule}
 
 -- each test is false

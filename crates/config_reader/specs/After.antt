@@ -1,10 +1,6 @@
 -- What a lawful declaration adds.
-use Rattle.std.specs.Prelude.{ℕ, true, if◌then◌else◌, List, [], ◌∷◌, ◌++◌, map, Option, Some, None, option_map, slice_get, slice_set, Result, Ok, Err, codes}
-use Rattle.okws_base.specs.Value.{same_bytes}
-use Rattle.okws_base.specs.declared.value.Kind.{Kind}
-use Rattle.okws_base.specs.declared.value.Kind.TheVariants as kind
+use Rattle.std.specs.Prelude.{ℕ, true, List, [], ◌∷◌, ◌++◌, map, Option, Some, None, option_map, slice_get, slice_set, Result, Ok, Err}
 use Rattle.okws_base.specs.declared.value.Value.{Value}
-use Rattle.okws_plan.specs.declared.configuration.Column.{Column}
 use Rattle.okws_plan.specs.declared.configuration.Granted.{Granted}
 use Rattle.okws_plan.specs.declared.configuration.ProxyPlan.{ProxyPlan}
 use Rattle.okws_plan.specs.declared.configuration.Table.{Table}
@@ -12,17 +8,10 @@ use Rattle.okws_plan.specs.declared.statement.Statement.{Statement}
 use Rattle.plain_text.specs.Decimals.{decimal_value}
 use Rattle.config_reader.specs.Above.{Above, proxy_number, service_number, template_number, table_number}
 use Rattle.config_reader.specs.Broken.{broken, found, row_values, statement_at}
-use Rattle.config_reader.specs.Declarations.{Declaration, Proxy, Table as TableLine, Row, Query as QueryLine, Service, Retry, Uri, Grant, Template, Read, Log, ColumnWords}
+use Rattle.config_syntax.specs.Columns.{column_of}
+use Rattle.config_syntax.specs.Declarations.{Declaration, Proxy, Table as TableLine, Row, Query as QueryLine, Service, Retry, Uri, Grant, Template, Read, Log, ColumnWords}
 use Rattle.config_reader.specs.declared.error.ConfigRule.{ConfigRule}
 use Rattle.config_reader.specs.declared.error.ConfigRule.TheVariants as rule
-
--- The kind that a TYPE names.
-abbrev pub kind_named : List ℕ → Kind
-kind_named w = if same_bytes w (codes "INT") then kind.Int else if same_bytes w (codes "TEXT") then kind.Text else kind.Bytes
-
--- The column that its words declare.
-abbrev pub column_of : ColumnWords → Column
-column_of c = record { name = c.name; kind = kind_named c.kind; key = c.key }
 
 -- A table without rows.
 abbrev pub table_of : List ℕ → List ColumnWords → Table

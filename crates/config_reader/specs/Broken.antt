@@ -1,5 +1,5 @@
 -- Which rule a declaration breaks. The tests stand in the order of the rules, and each presupposes that no lower rule is broken.
-use Rattle.std.specs.Prelude.{ℕ, Bool, false, ◌&&◌, ◌||◌, ◌==◌, not, nat_lt, nat_le, if◌then◌else◌, List, [], ◌∷◌, ◌++◌, length, map, Option, Some, None, is_some, is_none, codes, unwrap_or, count_by}
+use Rattle.std.specs.Prelude.{ℕ, Bool, false, ◌&&◌, ◌||◌, ◌==◌, not, nat_lt, nat_le, if◌then◌else◌, List, [], ◌∷◌, ◌++◌, length, map, Option, Some, None, is_some, is_none, codes, unwrap_or}
 use Rattle.std.specs.List.{list_any, list_all}
 use Rattle.okws_base.specs.Names.{is_name, is_identifier, is_path}
 use Rattle.okws_base.specs.Value.{same_bytes}
@@ -19,9 +19,10 @@ use Rattle.okws_plan.specs.declared.statement.Statement.{Statement}
 use Rattle.plain_text.specs.Decimals.{decimal_value}
 use Rattle.statement_core.specs.Compiled.{compiled}
 use Rattle.config_reader.specs.Above.{Above, proxy_number, service_number, template_number, table_number, tables_at, queries_at, table_at, has_query}
-use Rattle.config_reader.specs.Declarations.{Declaration, Proxy, Table as TableLine, Row, Query as QueryLine, Service, Retry, Uri, Grant, Template, Read, Log, ColumnWords}
-use Rattle.config_reader.specs.Literals.{literals}
-use Rattle.config_reader.specs.Words.{is_number_to}
+use Rattle.config_syntax.specs.Columns.{is_kind, repeats, key_count}
+use Rattle.config_syntax.specs.Declarations.{Declaration, Proxy, Table as TableLine, Row, Query as QueryLine, Service, Retry, Uri, Grant, Template, Read, Log, ColumnWords}
+use Rattle.config_syntax.specs.Literals.{literals}
+use Rattle.config_syntax.specs.Words.{is_number_to}
 use Rattle.config_reader.specs.declared.error.ConfigRule.{ConfigRule}
 use Rattle.config_reader.specs.declared.error.ConfigRule.TheVariants as rule
 
@@ -54,10 +55,6 @@ has_bad_number (Retry number) = not (is_number_to GREATEST_RETRY number)
 has_bad_number (Grant s p numbers) = not (list_all (is_number_to GREATEST_QUERY) numbers)
 has_bad_number _ = false
 
--- A word is a TYPE.
-abbrev pub is_kind : List ℕ → Bool
-is_kind w = same_bytes w (codes "INT") || (same_bytes w (codes "TEXT") || same_bytes w (codes "BYTES"))
-
 -- Rule 8: a word in the place of a TYPE is none.
 abbrev pub has_bad_kind : Declaration → Bool
 has_bad_kind (TableLine p t columns) = not (list_all (λ (c : ColumnWords). is_kind c.kind) columns)
@@ -88,11 +85,6 @@ is_undeclared C _ = false
 -- The names of the server's own parts, which no proxy may have.
 abbrev pub is_reserved : List ℕ → Bool
 is_reserved n = same_bytes n (codes "okd") || (same_bytes n (codes "pubd") || same_bytes n (codes "oklogd"))
-
--- Two of the columns have one name.
-abbrev pub repeats : List ColumnWords → Bool
-repeats [] = false
-repeats (c ∷ more) = list_any (λ (other : ColumnWords). same_bytes c.name other.name) more || repeats more
 
 -- The grant of query q at p to s is there.
 abbrev pub has_grant : List Granted → ℕ → ℕ → ℕ → Bool
@@ -128,10 +120,6 @@ is_taken_above above (Grant s p numbers) = regrants above.config.grants (found (
 is_taken_above above (Template n) = is_some (template_number above.config n)
 is_taken_above above (Read s t) = reads above.config (found (service_number above.config s)) (found (template_number above.config t))
 is_taken_above above (Log s) = logs above.config (found (service_number above.config s))
-
--- How many columns KEY marks.
-abbrev pub key_count : List ColumnWords → ℕ
-key_count columns = count_by (λ (c : ColumnWords). c.key) columns
 
 -- Rule 13: KEY stands at two columns.
 abbrev pub marks_two : Declaration → Bool

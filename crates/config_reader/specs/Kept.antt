@@ -1,6 +1,6 @@
 -- What is kept beside the rows, the grants and the owned paths while a configuration is read, so that no line looks through those above it.
 use Rattle.std.specs.Prelude.{◌≡◌, ℕ, ◌≤◌, Bool, false, ◌==◌, ◌&&◌, List, length, Option, Some, None, slice_get, Vec}
-use Rattle.std.specs.HashSet.{HashSet, contains, contains_by}
+use Rattle.std.specs.HashSet.{HashSet, contains}
 use Rattle.std.specs.List.{list_any}
 use Rattle.std.specs.Ordering.{int_eq}
 use Rattle.okws_base.specs.Value.{same_bytes, value_eq}
@@ -10,13 +10,10 @@ use Rattle.okws_plan.specs.Meaning.{at_column, key_place}
 use Rattle.okws_plan.specs.declared.configuration.Granted.{Granted}
 use Rattle.okws_plan.specs.declared.configuration.Owned.{Owned}
 use Rattle.okws_plan.specs.declared.configuration.Table.{Table}
+use Rattle.config_syntax.specs.ByteSets.{knows}
 use Rattle.config_reader.specs.Broken.{has_grant}
 use Rattle.config_reader.specs.declared.grants.Grant.{Grant}
 use Rattle.config_reader.specs.declared.keys.KeyValues.{KeyValues}
-
--- A set has these bytes.
-abbrev pub knows : {Z S : Type 0} → HashSet (Vec ℕ Z) S → List ℕ → Bool
-knows {Z} set bytes = contains_by (λ (key : Vec ℕ Z). same_bytes bytes key.items) set
 
 -- A value is among those that are kept.
 abbrev pub keeps_value : KeyValues → Value → Bool

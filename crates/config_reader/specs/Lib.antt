@@ -1,8 +1,5 @@
 pub mod RuleNumber
 pub mod Answers
-pub mod Words
-pub mod Declarations
-pub mod Literals
 pub mod Above
 pub mod Broken
 pub mod After

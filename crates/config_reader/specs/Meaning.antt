@@ -5,11 +5,11 @@ use Rattle.okws_base.specs.declared.limit.TheConstants.{LONGEST_CONFIGURATION, L
 use Rattle.okws_plan.specs.declared.configuration.Config.{Config}
 use Rattle.plain_text.specs.Words.{words, behind_word}
 use Rattle.config_reader.specs.Above.{Above, nothing_above}
-use Rattle.config_reader.specs.Declarations.{directive_of, declaration_of}
+use Rattle.config_syntax.specs.Declarations.{directive_of, declaration_of}
 use Rattle.config_reader.specs.After.{declared_if}
 use Rattle.std.specs.Str.Lines.{lines}
-use Rattle.config_reader.specs.Words.{is_text_line}
-use Rattle.config_reader.specs.declared.directive.Directive.{Directive}
+use Rattle.config_syntax.specs.Words.{is_text_line}
+use Rattle.config_syntax.specs.declared.directive.Directive.{Directive}
 use Rattle.config_reader.specs.declared.error.ConfigRule.{ConfigRule}
 use Rattle.config_reader.specs.declared.error.ConfigRule.TheVariants as rule
 use Rattle.config_reader.specs.declared.error.Refusal.{Refusal}

@@ -13,7 +13,7 @@ ghost use Rattle.std.specs.Result.{result_ok};
 
 mod declare;
 
-use crate::column::{ColumnWords, have_identifiers, have_repeats};
+use config_syntax::column::{ColumnWords, have_identifiers, have_repeats};
 use crate::error::{ConfigRule, LineError};
 use crate::grants::Grants;
 use crate::paths::Paths;

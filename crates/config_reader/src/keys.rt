@@ -7,7 +7,7 @@ ghost use Rattle.okws_base.specs.Value.{value_eq};
 ghost use Rattle.okws_base.specs.declared.value.Value.{Value};
 ghost use Rattle.config_reader.specs.Kept.{keeps_value};
 
-use crate::byte_set::{ByteSet, add_bytes, has_bytes};
+use config_syntax::byte_set::{ByteSet, add_bytes, has_bytes};
 use okws_base::value::Value;
 use std::alloc::{AllocError, Global};
 use std::collections::HashSet;

@@ -2,20 +2,15 @@
 //! which rule first.
 #![tactic(auto)]
 
-mod byte_set;
-mod column;
 mod declaring;
-mod directive;
 mod draft;
 mod error;
 mod grants;
 mod keys;
-mod literal;
 mod paths;
 mod plan;
 mod reader;
 mod tables;
-mod words;
 
 pub use error::{ConfigError, ConfigRule, Refusal};
 pub use reader::read;

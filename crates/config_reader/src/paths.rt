@@ -4,7 +4,7 @@ ghost use Rattle.std.specs.Prelude.{◌≡◌, ◌∷◌, ◌++◌, [], OnOk, On
 ghost use Rattle.std.specs.List.{list_any};
 ghost use Rattle.okws_base.specs.Value.{same_bytes};
 
-use crate::byte_set::{ByteSet, add_bytes, has_bytes};
+use config_syntax::byte_set::{ByteSet, add_bytes, has_bytes};
 use okws_base::name::Path;
 use okws_plan::configuration::Owned;
 use std::alloc::{AllocError, Global};

@@ -1,0 +1,5 @@
+pub mod ByteSets
+pub mod Columns
+pub mod Declarations
+pub mod Literals
+pub mod Words

@@ -1,4 +1,5 @@
-//! The rules that a proxy denies by, but the one on long answers, and a keeper that fails.
+//! The rules that a proxy denies by, but the one on long answers, and a keeper that fails. Not tested
+//! here: long answers, and what statements find, which the keeper's tests have.
 
 ghost use Rattle.std.specs.Prelude.{◌≡◌, ◌<◌, IfOk, OnOk, length};
 ghost use Rattle.okws_base.specs.Past.{last_by};

@@ -1,4 +1,5 @@
-//! Spellings of frames, byte by byte.
+//! Spellings of frames, byte by byte. Not tested here: frames that come in pieces, which the link's
+//! tests have.
 
 mod reading;
 mod server;

@@ -1,4 +1,5 @@
-//! Frames in whatever pieces they come, and where a link fails.
+//! Frames in whatever pieces they come, and where a link fails. Not tested here: each kind of frame,
+//! which the codec's tests have.
 
 use crate::receiving::{NextFrame, next};
 use crate::sending::send;

@@ -1,4 +1,5 @@
-//! What is logged, and what the sink is given.
+//! What is logged, and what the sink is given. Not tested here: who is installed when, which the tests
+//! of runs have.
 
 ghost use Rattle.std.specs.Prelude.{◌≡◌, ◌<◌, IfOk, OnOk, length, []};
 ghost use Rattle.okws_base.specs.Past.{last_by};

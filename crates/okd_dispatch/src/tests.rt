@@ -1,4 +1,4 @@
-//! Worked runs of the column.
+//! Worked runs of the column. Not tested here: many paths and many entries.
 
 ghost use Rattle.std.specs.Prelude.{◌≡◌, IfOk, length, []};
 ghost use Rattle.std.specs.Arc.{arc_value};

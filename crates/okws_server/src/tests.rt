@@ -1,4 +1,5 @@
-//! Whole runs over a world in memory: two worked scripts, what is refused, and each status.
+//! Whole runs over a world in memory: two worked scripts, what is refused, and each status. Not tested
+//! here: the other worked scripts, which are run by the program, and want of memory.
 
 use crate::okws;
 use crate::status::Status;

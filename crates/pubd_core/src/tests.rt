@@ -1,4 +1,4 @@
-//! Worked runs of the column.
+//! Worked runs of the column. Not tested here: the greatest sizes and counts of editions.
 
 ghost use Rattle.std.specs.Prelude.{◌≡◌, IfOk, OnOk, length, []};
 ghost use Rattle.okws_base.specs.Past.{last_by};

@@ -1,4 +1,5 @@
-//! Configurations that are read, and those that are refused.
+//! Configurations that are read, and those that are refused. Not tested here: what a query's text may
+//! be, which has files of its own.
 
 use config_reader::{ConfigError, read};
 use okws_plan::configuration::Config;

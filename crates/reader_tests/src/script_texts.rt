@@ -1,4 +1,5 @@
-//! Scripts read whole, and refusals printed.
+//! Scripts read whole, and refusals printed. Not tested here: rules that a line breaks by where it
+//! stands, which the tests of runs have.
 
 ghost use Rattle.std.specs.Prelude.{◌≡◌, ◌≤◌, IfOk, length, []};
 

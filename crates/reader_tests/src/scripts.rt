@@ -1,4 +1,4 @@
-//! Lines of scripts, and what each is read as.
+//! Lines of scripts, and what each is read as. Not tested here: what a line does.
 
 ghost use Rattle.std.specs.Prelude.{◌≡◌, ◌≤◌, IfOk, length, []};
 

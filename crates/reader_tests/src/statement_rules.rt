@@ -1,4 +1,5 @@
-//! Query texts that are refused for what they name, and the canonical texts of statements.
+//! Query texts that are refused for what they name, and the canonical texts of statements. Not tested
+//! here: what a statement finds.
 
 use crate::statements::{is_refused, tables};
 use okws_plan::configuration::Table;

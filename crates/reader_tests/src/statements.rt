@@ -1,4 +1,4 @@
-//! Query texts that are refused for their tokens and their grammar.
+//! Query texts that are refused for their tokens and their grammar. Not tested here: what they name.
 
 use okws_base::items::Items;
 use okws_base::name::Identifier;

@@ -1,4 +1,5 @@
-//! Each statement on a small table, and calls that fail.
+//! Each statement on a small table, and calls that fail. Not tested here: large tables, and each
+//! comparison, which the tests of statements have.
 
 ghost use Rattle.std.specs.Prelude.{◌≡◌, [], ◌∷◌, IfOk};
 ghost use Rattle.row_keeper.specs.Example.{tables, statement, IsExample};

@@ -1,3 +1,6 @@
+//! Words of ChaCha20 against RFC 8439 and worked tokens. Not tested here: seeds but zero and that of the
+//! RFC.
+
 use crate::{Claims, shown, token, word};
 use std::process::Abort;
 

@@ -1,4 +1,5 @@
-//! Turns that end, with fewer and with more threads than processors.
+//! Turns that end, with fewer and with more threads than processors. Not tested here: which
+//! interleavings come, which no test can say; the clauses hold in each.
 ghost use Rattle.std.specs.Prelude.{◌≡◌, ◌<◌, false};
 
 use crate::drawing::draw_numbers;

@@ -1,5 +1,5 @@
 //! Each object in memory on a plain way and on the ways that no clause tells: which calls fail, and
-//! where the bytes are cut.
+//! where the bytes are cut. Not tested here: real files, which the program's runs have.
 
 use crate::files::Files;
 use crate::memory::files::{Entry, MemoryFiles};

@@ -1,5 +1,5 @@
-//! Words of ChaCha20 against RFC 8439 and worked tokens. Not tested here: seeds but zero and that of the
-//! RFC.
+//! Words of ChaCha20 against RFC 8439, and worked tokens. Not tested here: seeds but zero and those of
+//! the RFC.
 
 use crate::{Claims, shown, token, word};
 use std::process::Abort;

@@ -7,10 +7,10 @@ ghost use Rattle.config_syntax.specs.Words.{one_and_more, two_and_more};
 ghost use Rattle.config_syntax.specs.Declarations.{declaration_of};
 ghost use Rattle.config_reader.specs.After.{declared_if};
 
-use config_syntax::column::table_words_of;
-use config_syntax::directive::Directive;
 use crate::draft::Draft;
 use crate::error::{ConfigRule, LineError};
+use config_syntax::column::table_words_of;
+use config_syntax::directive::Directive;
 use config_syntax::words::words_and_text;
 use okws_base::items::Items;
 use plain_text::words::{first_word, one_word, two_words, words_of};

@@ -13,11 +13,11 @@ ghost use Rattle.std.specs.Result.{result_ok};
 
 mod declare;
 
-use config_syntax::column::{ColumnWords, have_identifiers, have_repeats};
 use crate::error::{ConfigRule, LineError};
 use crate::grants::Grants;
 use crate::paths::Paths;
 use crate::plan::ProxyDraft;
+use config_syntax::column::{ColumnWords, have_identifiers, have_repeats};
 use okws_base::items::Items;
 use okws_base::limit::{DEFAULT_RETRY, MOST_COLUMNS, MOST_QUERIES, MOST_TABLES};
 use okws_base::name::{Name, Path, is_a_name, is_an_identifier};

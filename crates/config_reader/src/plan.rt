@@ -8,8 +8,8 @@ ghost use Rattle.config_reader.specs.Above.{table_number, has_query};
 ghost use Rattle.config_reader.specs.Broken.{is_row_in};
 ghost use Rattle.config_reader.specs.After.{table_of, with_table, with_row_in, with_query};
 
-use config_syntax::column::{ColumnWords, declared_columns, identifier_of};
 use crate::tables::Tables;
+use config_syntax::column::{ColumnWords, declared_columns, identifier_of};
 use okws_base::items::Items;
 use okws_base::name::Name;
 use okws_base::value::Value;

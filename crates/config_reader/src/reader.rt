@@ -8,9 +8,9 @@ ghost use Rattle.config_reader.specs.Meaning.{begins_comment, are_first_words, l
 ghost use Rattle.config_reader.specs.Ruled.{AreRuled};
 
 use crate::declaring::declare;
-use config_syntax::directive::Directive;
 use crate::draft::Draft;
 use crate::error::{ConfigError, ConfigRule, LineError, Refusal};
+use config_syntax::directive::Directive;
 use config_syntax::words::is_a_text_line;
 use okws_base::limit::{LONGEST_CONFIGURATION, LONGEST_LINE};
 use okws_plan::configuration::Config;

@@ -4,14 +4,14 @@ ghost use Rattle.config_reader.specs.Answers.{GivesLine};
 ghost use Rattle.config_syntax.specs.Declarations.{Proxy, Table as TableLine, Row, Query, Service, Retry, Uri, Grant, Template, Read, Log};
 ghost use Rattle.config_reader.specs.After.{declared};
 
-use config_syntax::column::{ColumnWords, TableWords, count_keys, have_kinds};
 use crate::draft::{
     Draft, add_grants, broken, has_bad_row_name, has_bad_table_name, is_logger, is_readable,
     is_reserved_name, name_of, path_of,
 };
 use crate::error::{ConfigRule, LineError};
-use config_syntax::literal::literals_of;
 use crate::plan::ProxyDraft;
+use config_syntax::column::{ColumnWords, TableWords, count_keys, have_kinds};
+use config_syntax::literal::literals_of;
 use config_syntax::words::{number_to, query_numbers};
 use okws_base::items::Items;
 use okws_base::limit::{

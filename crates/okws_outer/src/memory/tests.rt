@@ -116,7 +116,11 @@ fn passing_link_takes_all_that_is_put(rt: HostRuntime) -> Result<(), Fail> {
     let mut piece = [0u8; 2];
     link.feed(b"abc")?;
     link.feed_end();
-    for (pull, left) in [(Pull::Took(2), b"c".as_slice()), (Pull::Took(1), b""), (Pull::End, b"")] {
+    for (pull, left) in [
+        (Pull::Took(2), b"c".as_slice()),
+        (Pull::Took(1), b""),
+        (Pull::End, b""),
+    ] {
         assert_eq!(rt; link.put(b"abc"), Put::Done);
         assert_eq!(rt; link.pull(&mut piece), pull);
         assert_eq!(rt; link.left(), left);

@@ -1,0 +1,9 @@
+pub mod Lists
+pub mod Fields
+pub mod Payloads
+pub mod Whole
+pub mod Apart
+pub mod Again
+pub mod Stops
+pub mod Nexts
+pub mod Kept

@@ -1,0 +1,29 @@
+-- How the bytes of a frame come in.
+use Rattle.std.specs.Prelude.{◌≡◌, ◌<◌, ℕ, List, ◌++◌, length, IsTrue}
+use Rattle.std.specs.declared.option.Option.{Option}
+use Rattle.std.specs.Io.KnownBytes.{Consumes, IsAtEnd}
+use Rattle.frame_codec.specs.Spelling.{four, is_lawful_length}
+use Rattle.svc_kit.specs.Stream.{Spells, IsBad}
+use Rattle.svc_kit.specs.declared.receiving.Filled.{Filled}
+use Rattle.svc_kit.specs.declared.receiving.Filled.TheVariants.{Whole, Ended, Failed, NoMemory}
+use Rattle.svc_kit.specs.declared.receiving.NextFrame.{NextFrame}
+use Rattle.svc_kit.specs.declared.receiving.NextFrame.TheVariants as next
+
+-- Bytes were taken behind those that were there. Whole: so many are there as were wanted; Ended: fewer, and none are left.
+abbrev pub Fills : Option (List ℕ) → Option (List ℕ) → List ℕ → List ℕ → ℕ → Filled → Type 0
+Fills old new before now total Whole = (more : List ℕ) × Consumes old new more × (now ≡ before ++ more) × (length now ≡ total)
+Fills old new before now total Ended = (more : List ℕ) × Consumes old new more × (now ≡ before ++ more) × (length now < total) × IsAtEnd new
+Fills old new before now total Failed = (more : List ℕ) × Consumes old new more
+Fills old new before now total NoMemory = (more : List ℕ) × Consumes old new more
+
+-- The bytes are a lawful length and so many bytes.
+abbrev pub IsWhole : List ℕ → Type 0
+IsWhole bytes = (n : ℕ) × (body : List ℕ) × IsTrue (is_lawful_length n) × (bytes ≡ four n ++ body) × (length body ≡ n)
+
+-- The bytes spell this frame, or they are bad.
+abbrev pub Reads : List ℕ → NextFrame → Type 0
+Reads bytes (next.Frame frame) = Spells bytes frame
+Reads bytes next.BadFrame = IsBad bytes
+Reads bytes next.NoMemory = Unit {0}
+Reads bytes next.Ended = ⊥
+Reads bytes next.LinkFault = ⊥

@@ -1,0 +1,12 @@
+pub mod Finding
+pub mod Fields
+pub mod Stream
+pub mod Answer
+pub mod Filling
+pub mod Next
+pub mod Ends
+pub mod Asking
+pub mod Telling
+pub mod Serving
+pub mod Form
+pub mod Laws

@@ -1,0 +1,103 @@
+//! The next frame that the server says over a link.
+
+ghost use Rattle.std.specs.Prelude.{◌≡◌, ◌≤◌, length};
+ghost use Rattle.okws_outer.specs.Wire.{Receives};
+ghost use Rattle.svc_kit.specs.Next.{IsNext, IsBadFront};
+ghost use Rattle.svc_kit.specs.Filling.{Fills, IsWhole, Reads};
+
+use crate::reading::{Read, read_server_frame};
+use frame_codec::frame::ServerFrame;
+use frame_codec::reading::told_length;
+use okws_outer::stream::{Link, Pull};
+use std::alloc::Global;
+
+/// What comes next over a link.
+#[derive(Drop)]
+pub enum NextFrame {
+    /// A frame, of which all bytes were taken and none beyond it.
+    Frame(ServerFrame),
+    /// The bytes ended between frames.
+    Ended,
+    /// The bytes are no frame, or ended inside one.
+    BadFrame,
+    /// A call of the link failed and was counted.
+    LinkFault,
+    /// Memory was refused.
+    NoMemory,
+}
+
+/// What filling answers.
+#[derive(Clone, Copy, PartialEq, Eq)]
+enum Filled {
+    /// So many bytes are there as were wanted.
+    Whole,
+    /// The bytes ended before.
+    Ended,
+    /// A call of the link failed and was counted.
+    Failed,
+    /// Memory was refused.
+    NoMemory,
+}
+
+/// Bytes that are asked for at a time.
+const PIECE: usize = 4096;
+
+/// Takes bytes from the link until there are so many in all.
+fn fill<L: Link>(link: &mut L, bytes: &mut Vec<u8>, total: usize) -> Filled
+    requires { length bytes.old.items ≤ total }
+    ensures bytes { Fills (L.wire link.old).left (L.wire link.new).left bytes.old.items bytes.new.items total result }
+    ensures link { Receives (L.wire link.old) (L.wire link.new) (result ≡ Filled.Failed) }
+{
+    let mut piece = [0u8; PIECE];
+    while bytes.len() < total {
+        let wanted = (total - bytes.len()).min(PIECE);
+        match link.pull(&mut piece[..wanted]) {
+            Pull::Took(count) => {
+                if bytes.extend_from_slice(&piece[..count]).is_err() {
+                    return Filled::NoMemory;
+                }
+            }
+            Pull::End => return Filled::Ended,
+            Pull::Failed => return Filled::Failed,
+        }
+    }
+    Filled::Whole
+}
+
+/// The frame that these bytes are, whose length the first four tell.
+fn whole_frame(alloc: Global, bytes: &[u8]) -> NextFrame
+    requires { IsWhole bytes.now }
+    ensures { Reads bytes.now result }
+{
+    match read_server_frame(alloc, bytes) {
+        Read::Frame(frame, _) => NextFrame::Frame(frame),
+        Read::Short => unreachable!(),
+        Read::BadFrame => NextFrame::BadFrame,
+        Read::NoMemory => NextFrame::NoMemory,
+    }
+}
+
+/// Takes the next frame from the link, or as many bytes as tell that there is none.
+pub fn next<L: Link>(alloc: Global, link: &mut L) -> NextFrame
+    ensures next { IsNext (L.wire link.old).left (L.wire link.new).left result }
+    ensures bad { result ≡ NextFrame.BadFrame → IsBadFront (L.wire link.old).left (L.wire link.new).left }
+    ensures link { Receives (L.wire link.old) (L.wire link.new) (result ≡ NextFrame.LinkFault) }
+{
+    let mut bytes = Vec::new(alloc);
+    match fill(link, &mut bytes, 4) {
+        Filled::Whole => {}
+        Filled::Ended if bytes.is_empty() => return NextFrame::Ended,
+        Filled::Ended => return NextFrame::BadFrame,
+        Filled::Failed => return NextFrame::LinkFault,
+        Filled::NoMemory => return NextFrame::NoMemory,
+    }
+    let Some(size) = told_length(&bytes) else {
+        return NextFrame::BadFrame;
+    };
+    match fill(link, &mut bytes, 4 + size) {
+        Filled::Whole => whole_frame(alloc, &bytes),
+        Filled::Ended => NextFrame::BadFrame,
+        Filled::Failed => NextFrame::LinkFault,
+        Filled::NoMemory => NextFrame::NoMemory,
+    }
+}

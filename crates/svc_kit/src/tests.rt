@@ -1,0 +1,38 @@
+//! Frames read and written at the service's end, its link and its calls over memory, and forms. That
+//! each end reads all that the other writes is a law; only the worked frames are tried here. Standard
+//! input and output are not.
+
+mod calling;
+mod example;
+mod form;
+mod reading;
+
+use okws_outer::memory::link::MemoryLink;
+use okws_outer::stream::Link;
+use std::alloc::Global;
+use std::test::Fail;
+
+/// The Boot of service 0, incarnation 1, with a token at proxy 0.
+const BOOT: &str = "0000001e010000000000010100000000000000000001ade0b876903df1a0e56a5d40";
+
+/// A Request of `GET /guest` without content.
+const REQUEST: &str =
+    "000000310200000028474554202f677565737420485454502f312e310d0a486f73743a206c6f63616c686f73740d0a0d0a00000000";
+
+/// Opened with session 0.
+const OPENED: &str = "000000050400000000";
+
+/// The rows 1 `ann` and 2 `bob`.
+const ROWS: &str =
+    "000000280502000000020100000000000000010200000003616e6e0100000000000000020200000003626f62";
+
+/// A link with room, to which these frames were fed, and then the end.
+fn fed(alloc: Global, piece: usize, frames: &[&str]) -> Result<MemoryLink<'static>, Fail> {
+    let mut link = MemoryLink::new(alloc, piece, &[]);
+    link.make_room(4096)?;
+    for frame in frames {
+        link.feed(&hex::decode(alloc, *frame)?)?;
+    }
+    link.feed_end();
+    Ok(link)
+}

@@ -1,5 +1,5 @@
-# The gate; the proofs alone; the program; the example of the README, proved and unproved; and the manual pages.
-.PHONY: test check bin run try man
+# The gate; the proofs alone; the program; the programs that are services; the example of the README, proved and unproved; and the manual pages.
+.PHONY: test check bin services run try man
 test:
 	rt ci
 check:
@@ -9,6 +9,10 @@ bin:
 	rm -f crates/okws_program/out.txt
 	mkdir -p bin
 	cp crates/okws_program/out/okws_program bin/okws
+services:
+	cd crates/svc_probe && rt run </dev/null
+	mkdir -p bin
+	cp crates/svc_probe/out/svc_probe bin/svc_probe
 run: bin
 	bin/okws play examples/site.okws examples/one_dialog.script
 try:

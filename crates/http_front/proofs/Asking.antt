@@ -21,7 +21,7 @@ use Rattle.http_text.specs.Reading.{checked, has_hosts, is_served, values_named,
 use Rattle.http_front.specs.Kept.{method_text}
 use Rattle.http_front.specs.Looking.{Tells}
 use Rattle.http_front.specs.Pulling.{HasRead, IsPrompt, IsContentOf, FillsContent}
-use Rattle.http_front.specs.Requests.{IsAsked, Receives, due, HasBegun, HasAnswered, PutsInterim}
+use Rattle.http_front.specs.Requests.{target_text, path_text, HasTarget, IsAsked, Receives, due, HasBegun, HasAnswered, PutsInterim}
 use Rattle.http_front.specs.declared.kept.Kept.{Kept}
 use Rattle.http_front.specs.declared.looking.WholeHead.{WholeHead}
 use Rattle.http_front.specs.declared.pulling.Filled.{Filled}
@@ -75,6 +75,15 @@ size_passed target method minor n fields e =
 pub head_target : (h : RequestHead) (n : ℕ) → checked_head h ≡ Ok n → is_target h.target ≡ true
 head_target h n e = target_passed h.target h.method h.minor n (fields_of h) e
 
+pub method_passed : (target method : List ℕ) (minor n : ℕ) (fields : List (List ℕ × List ℕ)) → checked target method minor fields ≡ Ok n → is_served method ≡ true
+method_passed target method minor n fields e =
+    let one = passed_test (is_target target) 400 n _ e in
+    let two = passed_test (has_hosts minor (length (values_named (codes "Host") fields))) 400 n _ one.1 in
+    (passed_test (is_served method) 501 n _ two.1).0
+
+pub head_method : (h : RequestHead) (n : ℕ) → checked_head h ≡ Ok n → is_served h.method ≡ true
+head_method h n e = method_passed h.target h.method h.minor n (fields_of h) e
+
 pub head_size : (h : RequestHead) (n : ℕ) → checked_head h ≡ Ok n → n ≤ LONGEST_CONTENT
 head_size h n e = size_passed h.target h.method h.minor n (fields_of h) e
 
@@ -100,14 +109,17 @@ due_is h whole told = ap due (sym told.waits_is)
 
 -- all that a whole head and its content give
 pub asked_whole : (bytes : List ℕ) (h : RequestHead) (rest : List ℕ) (whole : WholeHead) (size : ℕ) (r : Request) → IsWholeHead bytes h rest → Tells h whole → whole.checked ≡ Ok size → whole.len + size ≤ length bytes
-    → r.method ≡ span_bytes bytes whole.method → r.path ≡ path (span_bytes bytes whole.target) → r.head ≡ take whole.len bytes → r.content ≡ take size (drop whole.len bytes)
-    → IsReading bytes (Asks r.method r.path r.head r.content)
+    → r.method.now ≡ span_bytes bytes whole.method → r.target ≡ whole.target → r.head ≡ take whole.len bytes → r.content ≡ take size (drop whole.len bytes)
+    → IsReading bytes (Asks r.method.now (path_text r) r.head r.content) × HasTarget r
 asked_whole bytes h rest whole size r is told passed all method target head content =
-    let m : r.method ≡ h.method = method ∙ span_of_front bytes (print_request h) rest whole.method whole.len is.reads.1 told.len told.method_within ∙ told.method in
-    let p : r.path ≡ path h.target = target ∙ ap path (span_of_front bytes (print_request h) rest whole.target whole.len is.reads.1 told.len told.target_within ∙ told.target) in
+    let m : r.method.now ≡ h.method = method ∙ span_of_front bytes (print_request h) rest whole.method whole.len is.reads.1 told.len told.method_within ∙ told.method in
     let front : take whole.len bytes ≡ print_request h = ap (λ (n : ℕ). take n bytes) told.len ∙ ap (take (length (print_request h))) is.reads.1 ∙ take-append_seam (print_request h) rest in
     let behind : drop whole.len bytes ≡ rest = ap (λ (n : ℕ). drop n bytes) told.len ∙ ap (drop (length (print_request h))) is.reads.1 ∙ drop-append_seam (print_request h) rest in
-    rw (m, p, head ∙ front, content ∙ ap (take size) behind) (whole_content bytes h rest size is (sym told.checked_is ∙ passed) (omega (arith, told.len, all)))
+    let t : target_text r ≡ h.target = ap (λ (b : List ℕ). span_bytes b r.target) (head ∙ front) ∙ ap (span_bytes (print_request h)) target ∙ told.target in
+    let long : length r.head ≡ whole.len = ap length (head ∙ front) ∙ sym told.len in (
+      rw (m, ap path t, head ∙ front, content ∙ ap (take size) behind) (whole_content bytes h rest size is (sym told.checked_is ∙ passed) (omega (arith, told.len, all))),
+      record { within = rw (long, target) told.target_within; taken = ap is_target t ∙ head_target h size (sym told.checked_is ∙ passed) },
+    )
 
 -- ---- answers
 

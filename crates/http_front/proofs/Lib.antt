@@ -1,3 +1,4 @@
+pub mod Naming
 pub mod Heads
 pub mod Progress
 pub mod Gathering

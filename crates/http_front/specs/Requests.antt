@@ -5,6 +5,8 @@ use Rattle.std.specs.Io.KnownBytes.{Appends, IsAtEnd}
 use Rattle.okws_outer.specs.Streams.{Rose}
 use Rattle.okws_outer.specs.Conns.{ConnWire}
 use Rattle.httparse.specs.Grammar.{RequestHead}
+use Rattle.httparse.specs.Spans.{span_bytes, IsWithin}
+use Rattle.http_text.specs.Target.{is_target, path}
 use Rattle.http_text.specs.Reading.{IsWholeHead, IsReading, IsInterim, IsMethod, continue_text}
 use Rattle.http_text.specs.Reading.{Asks, Refuses, Unsettled}
 use Rattle.http_front.specs.Kept.{method_text}
@@ -12,12 +14,26 @@ use Rattle.http_front.specs.Looking.{Tells}
 use Rattle.http_front.specs.Pulling.{HasRead}
 use Rattle.http_front.specs.declared.kept.Kept.{Kept}
 use Rattle.http_front.specs.declared.looking.WholeHead.{WholeHead}
+use Rattle.http_front.specs.declared.reading.Request.{Request as Asking}
 use Rattle.http_front.specs.declared.reading.Incoming.{Incoming}
 use Rattle.http_front.specs.declared.reading.Incoming.TheVariants.{Request, Refused, ConnFault, NoMemory}
 
+-- The target of a request, as it stands in the head.
+abbrev pub target_text : Asking → List ℕ
+target_text r = span_bytes r.head r.target
+
+-- The path of a request's target.
+abbrev pub path_text : Asking → List ℕ
+path_text r = path (target_text r)
+
+-- The target stands in the head, and is taken.
+pub record HasTarget (r : Asking) : Type 0 where
+  pub within : IsWithin (length r.head) r.target
+  pub taken : is_target (target_text r) ≡ true
+
 -- What a client asks for is the reading of the bytes; what they don't settle is refused by 400 where no more come.
 abbrev pub IsAsked : ConnWire → List ℕ → Incoming → Type 0
-IsAsked now bytes (Request request) = IsReading bytes (Asks request.method request.path request.head request.content)
+IsAsked now bytes (Request request) = IsReading bytes (Asks request.method.now (path_text request) request.head request.content) × HasTarget request
 IsAsked now bytes (Refused status) = IsReading bytes (Refuses status) ⊎ (IsReading bytes Unsettled × IsAtEnd now.left × (status ≡ 400))
 IsAsked now bytes ConnFault = Unit {0}
 IsAsked now bytes NoMemory = Unit {0}

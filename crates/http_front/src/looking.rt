@@ -1,17 +1,18 @@
 //! What stands at the front of the bytes that were read.
 
-ghost use Rattle.std.specs.Prelude.{◌≡◌, ◌≢◌, ◌≤◌, length, map, All, true, false};
+ghost use Rattle.std.specs.Prelude.{◌≡◌, ◌≢◌, ◌≤◌, ℕ, List, length, map, All, true, false};
 ghost use Rattle.http_text.specs.Response.{is_head};
 ghost use Rattle.http_text.specs.Target.{is_target};
 ghost use Rattle.http_text.specs.Reading.{checked, waits, is_served, ends_line, after_blanks, has_line_after, is_too_long};
 ghost use Rattle.httparse.specs.Spans.{IsWithin, IsHeaderWithin, header_bytes, span_bytes};
+ghost use Rattle.http_front.specs.Fields.{AreFound};
 ghost use Rattle.http_front.specs.Looking.{Looks, LooksOn, LooksWithout, Describes};
 
-use crate::fields::{content_length, expects_continue, has_codings, has_hosts};
+use crate::fields::{Found, found_in};
 use crate::places::{Place, advance, stays_over};
 use http::StatusCode;
-use http_text::target::path_of;
-use httparse::spans::{EMPTY_HEADER_SPAN, HeaderSpan, RequestSpans, Span, parse_request};
+use http_text::target::{are_target_bytes, path_of};
+use httparse::spans::{HeaderSpan, RequestSpans, Span, parse_request};
 use httparse::{Error, Status};
 use okws_base::limit::{LONGEST_HEAD, MOST_FIELDS};
 
@@ -42,10 +43,13 @@ pub(crate) enum Look {
     Open,
 }
 
-/// Whether a target is taken.
+/// Whether a target is taken; most begin with `/`.
 fn is_taken(target: &[u8]) -> bool
     ensures { result ≡ is_target target.now }
 {
+    if target.starts_with(b"/") {
+        return are_target_bytes(target);
+    }
     match path_of(target) {
         Some(_) => true,
         None => false,
@@ -55,49 +59,42 @@ fn is_taken(target: &[u8]) -> bool
 fn is_served(method: &[u8]) -> bool
     ensures { result ≡ is_served method.now }
 {
-    method == b"GET".as_slice() || method == b"HEAD".as_slice() || method == b"POST".as_slice()
+    matches!(method, b"GET" | b"HEAD" | b"POST")
 }
 
 pub(crate) fn is_head(method: &[u8]) -> bool
     ensures { result ≡ is_head method.now }
 {
-    method == b"HEAD".as_slice()
+    matches!(method, b"HEAD")
 }
 
 /// The length of a head's content, or the status of the first check that fails.
-fn check(bytes: &[u8], head: &RequestSpans, headers: &[HeaderSpan]) -> Result<usize, StatusCode>
+fn check(bytes: &[u8], head: &RequestSpans, found: &Found<'_>) -> Result<usize, StatusCode>
     requires target { IsWithin (length bytes.now) head.now.path }
     requires method { IsWithin (length bytes.now) head.now.method }
-    requires headers { All (IsHeaderWithin (length bytes.now)) headers.now }
-    ensures { result ≡ checked (span_bytes bytes.now head.now.path) (span_bytes bytes.now head.now.method) head.now.version (map (header_bytes bytes.now) headers.now) }
+    ensures { (fields : List (List ℕ × List ℕ)) → AreFound fields found.now → result ≡ checked (span_bytes bytes.now head.now.path) (span_bytes bytes.now head.now.method) head.now.version fields }
 {
     if !is_taken(head.path.of(bytes)) {
         return Err(StatusCode::BAD_REQUEST);
     }
-    if !has_hosts(head.version, bytes, headers) {
+    if !found.has_hosts(head.version) {
         return Err(StatusCode::BAD_REQUEST);
     }
     if !is_served(head.method.of(bytes)) {
         return Err(StatusCode::NOT_IMPLEMENTED);
     }
-    if has_codings(bytes, headers) {
+    if found.has_codings() {
         return Err(StatusCode::NOT_IMPLEMENTED);
     }
-    content_length(bytes, headers)
+    found.content_length()
 }
 
 /// Whether the client of a head that was checked waits for the interim response.
-fn waits(
-    checked: &Result<usize, StatusCode>,
-    minor: u8,
-    bytes: &[u8],
-    headers: &[HeaderSpan],
-) -> bool
-    requires { All (IsHeaderWithin (length bytes.now)) headers.now }
-    ensures { result ≡ waits checked.now minor (map (header_bytes bytes.now) headers.now) }
+fn waits(checked: &Result<usize, StatusCode>, minor: u8, found: &Found<'_>) -> bool
+    ensures { (fields : List (List ℕ × List ℕ)) → AreFound fields found.now → result ≡ waits checked.now minor fields }
 {
     match checked {
-        Ok(n) => *n > 0 && minor == 1 && expects_continue(bytes, headers),
+        Ok(n) => *n > 0 && minor == 1 && found.asks(),
         Err(_) => false,
     }
 }
@@ -108,8 +105,9 @@ fn whole_head(bytes: &[u8], head: &RequestSpans, headers: &[HeaderSpan]) -> Whol
     requires headers { All (IsHeaderWithin (length bytes.now)) headers.now }
     ensures { Describes bytes.now head.now (map (header_bytes bytes.now) headers.now) result }
 {
-    let checked = check(bytes, head, headers);
-    let waits = waits(&checked, head.version, bytes, headers);
+    let found = found_in(bytes, headers);
+    let checked = check(bytes, head, &found);
+    let waits = waits(&checked, head.version, &found);
     let to_head = is_head(head.method.of(bytes));
     WholeHead {
         method: head.method,
@@ -173,12 +171,11 @@ fn is_about_bytes(error: Error) -> bool
     }
 }
 
-/// Looks at the bytes from their start on.
-pub(crate) fn look_at(bytes: &[u8]) -> Look
+/// Looks at the bytes from their start on; the fields of a whole head stand in the room for them.
+pub(crate) fn look_at(bytes: &[u8], headers: &mut [HeaderSpan; MOST_FIELDS]) -> Look
     ensures { Looks bytes.now result }
 {
-    let mut headers = [EMPTY_HEADER_SPAN; MOST_FIELDS];
-    match parse_request(bytes, &mut headers) {
+    match parse_request(bytes, headers) {
         Ok(Status::Complete(head)) => {
             if head.len > LONGEST_HEAD {
                 return without_head(bytes, false);
@@ -192,17 +189,22 @@ pub(crate) fn look_at(bytes: &[u8]) -> Look
 
 /// Looks at the bytes behind the first so many, of which it's known where they end; and at all from
 /// their start on, where those could have completed or broken a head.
-pub(crate) fn look_on(place: &mut Place, bytes: &[u8], before: usize) -> Look
+pub(crate) fn look_on(
+    place: &mut Place,
+    bytes: &[u8],
+    before: usize,
+    headers: &mut [HeaderSpan; MOST_FIELDS],
+) -> Look
     requires { before ≤ length bytes.now }
     ensures { LooksOn place.old bytes.now before place.new result }
 {
-    if bytes.len() < LONGEST_HEAD {
+    if before > 0 && bytes.len() < LONGEST_HEAD {
         if let Some(next) = stays_over(*place, &bytes[before..]) {
             *place = next;
             return Look::Open;
         }
     }
-    match look_at(bytes) {
+    match look_at(bytes, headers) {
         Look::Whole(head) => Look::Whole(head),
         Look::TooLong => Look::TooLong,
         Look::Broken => Look::Broken,

@@ -6,17 +6,12 @@ ghost use Rattle.httparse.specs.Grammar.{RequestHead};
 ghost use Rattle.http_text.specs.Reading.{IsWholeHead, interim_head};
 ghost use Rattle.http_front.specs.Pulling.{TakesPiece, ReadsHead, HasRead, IsContentOf, FillsContent};
 
+use crate::kept::{PIECE, Room};
 use crate::looking::{Look, WholeHead, look_on};
 use crate::places::Place;
 use http::StatusCode;
 use okws_outer::conn::Conn;
 use okws_outer::stream::Pull;
-
-/// Bytes that are asked for at a time, while the head isn't whole.
-const HEAD_PIECE: usize = 4_096;
-
-/// Bytes of content that are asked for at a time.
-const CONTENT_PIECE: usize = 16_384;
 
 /// What came.
 pub(crate) enum Piece {
@@ -63,21 +58,20 @@ pub(crate) enum HeadRead {
 }
 
 /// Reads until a head is whole, or it is settled that there is none.
-pub(crate) fn read_head<C: Conn>(conn: &mut C, bytes: &mut Vec<u8>) -> HeadRead
+pub(crate) fn read_head<C: Conn>(conn: &mut C, bytes: &mut Vec<u8>, room: &mut Room) -> HeadRead
     requires { bytes.old.items ≡ [] }
     ensures { ReadsHead (C.wire conn.old) (C.wire conn.new) bytes.new.items result }
 {
-    let mut buffer = [0u8; HEAD_PIECE];
     let mut place = Place::Blanks;
     loop {
         let before = bytes.len();
-        match take_piece(conn, bytes, &mut buffer) {
+        match take_piece(conn, bytes, &mut room.piece) {
             Piece::Came => {}
             Piece::Ended => return HeadRead::Ended,
             Piece::Failed => return HeadRead::Failed,
             Piece::NoMemory => return HeadRead::NoMemory,
         }
-        match look_on(&mut place, bytes, before) {
+        match look_on(&mut place, bytes, before, &mut room.headers) {
             Look::Whole(head) => return HeadRead::Whole(head),
             Look::TooLong => {
                 return HeadRead::Refused(StatusCode::REQUEST_HEADER_FIELDS_TOO_LARGE);
@@ -101,7 +95,12 @@ pub(crate) enum Filled {
 }
 
 /// Reads until there are so many bytes in all: a head and its content.
-pub(crate) fn fill<C: Conn>(conn: &mut C, bytes: &mut Vec<u8>, total: usize) -> Filled
+pub(crate) fn fill<C: Conn>(
+    conn: &mut C,
+    bytes: &mut Vec<u8>,
+    room: &mut Room,
+    total: usize,
+) -> Filled
     ensures content { (start : ConnWire) (h : RequestHead) (rest : List ℕ) (written : ℕ) → IsContentOf h total → IsWholeHead bytes.old.items h rest → written ≡ length (interim_head h) → HasRead start (C.wire conn.old) bytes.old.items written → FillsContent start (C.wire conn.old) (C.wire conn.new) h bytes.new.items written total result }
     ensures grown { (more : List ℕ) × (bytes.new.items ≡ bytes.old.items ++ more) }
     ensures enough { result ≡ Filled.Whole → total ≤ length bytes.new.items }
@@ -109,19 +108,18 @@ pub(crate) fn fill<C: Conn>(conn: &mut C, bytes: &mut Vec<u8>, total: usize) -> 
     if bytes.len() >= total {
         return Filled::Whole;
     }
-    fill_from(conn, bytes, total)
+    fill_from(conn, bytes, room, total)
 }
 
 /// Reads further pieces until there are so many bytes in all.
-fn fill_from<C: Conn>(conn: &mut C, bytes: &mut Vec<u8>, total: usize) -> Filled
+fn fill_from<C: Conn>(conn: &mut C, bytes: &mut Vec<u8>, room: &mut Room, total: usize) -> Filled
     ensures content { (start : ConnWire) (h : RequestHead) (rest : List ℕ) (written : ℕ) → IsContentOf h total → IsWholeHead bytes.old.items h rest → written ≡ length (interim_head h) → HasRead start (C.wire conn.old) bytes.old.items written → FillsContent start (C.wire conn.old) (C.wire conn.new) h bytes.new.items written total result }
     ensures grown { (more : List ℕ) × (bytes.new.items ≡ bytes.old.items ++ more) }
     ensures enough { result ≡ Filled.Whole → total ≤ length bytes.new.items }
 {
-    let mut buffer = [0u8; CONTENT_PIECE];
     while bytes.len() < total {
-        let wanted = (total - bytes.len()).min(CONTENT_PIECE);
-        match take_piece(conn, bytes, &mut buffer[..wanted]) {
+        let wanted = (total - bytes.len()).min(PIECE);
+        match take_piece(conn, bytes, &mut room.piece[..wanted]) {
             Piece::Came => {}
             Piece::Ended => return Filled::Ended,
             Piece::Failed => return Filled::Failed,

@@ -1,15 +1,17 @@
 //! Reads a request (RFC 9112).
 
-ghost use Rattle.std.specs.Prelude.{◌≡◌, ◌≤◌, ◌+◌, true, length, take, drop, IfOk, Ok};
+ghost use Rattle.std.specs.Prelude.{◌≡◌, ◌≤◌, ◌+◌, true, length, take, drop, codes, IfOk, Ok, if◌then◌else◌};
 ghost use Rattle.httparse.specs.Spans.{IsWithin, span_bytes};
 ghost use Rattle.http_text.specs.Target.{is_target, path};
-ghost use Rattle.http_front.specs.Requests.{Receives, Stands, ReceivesRest, ReceivesContent, PutsInterim};
+ghost use Rattle.http_text.specs.Reading.{is_served};
+ghost use Rattle.http_front.specs.Requests.{HasTarget, target_text, path_text, Receives, Stands, ReceivesRest, ReceivesContent, PutsInterim};
 
 use crate::kept::Kept;
 use crate::looking::WholeHead;
 use crate::pulling::{Filled, HeadRead, fill, read_head};
 use http::StatusCode;
 use http_text::target::path_of;
+use httparse::spans::Span;
 use okws_base::items::Items;
 use okws_outer::conn::Conn;
 use okws_outer::stream::Put;
@@ -19,13 +21,39 @@ use std::alloc::{AllocError, Global};
 #[derive(Drop)]
 pub struct Request {
     /// GET, HEAD or POST.
-    pub method: Items<u8>,
-    /// The path of the target, without its query string.
-    pub path: Items<u8>,
+    pub method: &'static [u8],
     /// All bytes up to and with the empty line.
     pub head: Items<u8>,
+    /// Where the target stands in the head.
+    pub target: Span,
     /// As many bytes as the head tells, at most 262,144.
     pub content: Items<u8>,
+}
+
+impl Request {
+    /// The path of the target, without its query string (RFC 9112, section 3.2).
+    pub fn path(&self) -> &[u8]
+        ensures { HasTarget self.now → result.now ≡ path_text self.now }
+    {
+        path_or_slash(self.target_bytes())
+    }
+
+    fn target_bytes(&self) -> &[u8]
+        ensures { IsWithin (length self.now.head) self.now.target → result.now ≡ target_text self.now }
+    {
+        let head = self.head.as_slice();
+        head.get(self.target.start..self.target.end).unwrap_or(b"/")
+    }
+}
+
+/// The path of a target that is taken, else `/`.
+fn path_or_slash(target: &[u8]) -> &[u8]
+    ensures { result.now ≡ (if is_target target.now then path target.now else codes "/") }
+{
+    match path_of(target) {
+        Some(path) => path,
+        None => b"/",
+    }
 }
 
 /// What a client asks for.
@@ -53,7 +81,7 @@ pub fn read_request<C: Conn>(alloc: Global, conn: &mut C, kept: &mut Kept) -> In
     ensures { Receives (C.wire conn.old) (C.wire conn.new) kept.new result }
 {
     kept.begin();
-    match read_head(conn, &mut kept.bytes) {
+    match read_head(conn, &mut kept.bytes, &mut kept.room) {
         HeadRead::Whole(head) => {
             kept.to_head = head.to_head;
             read_rest(alloc, conn, kept, &head)
@@ -121,7 +149,7 @@ fn read_content<C: Conn>(
     requires passed { head.now.checked ≡ Ok size }
     ensures { ReceivesContent (C.wire conn.old) (C.wire conn.new) kept.old kept.new head.now result }
 {
-    match fill(conn, &mut kept.bytes, head.len + size) {
+    match fill(conn, &mut kept.bytes, &mut kept.room, head.len + size) {
         Filled::Whole => match request_of(alloc, &kept.bytes, head, size) {
             Ok(request) => Incoming::Request(request),
             Err(_) => Incoming::NoMemory,
@@ -138,6 +166,17 @@ fn items(alloc: Global, bytes: &[u8]) -> Result<Items<u8>, AllocError>
     Ok(Items::of(Vec::from_slice(alloc, bytes)?))
 }
 
+/// The method that is served and is this one; it stands in the program.
+fn served(method: &[u8]) -> &'static [u8]
+    ensures { is_served method.now ≡ true → result.now ≡ method.now }
+{
+    match method {
+        b"GET" => b"GET",
+        b"HEAD" => b"HEAD",
+        _ => b"POST",
+    }
+}
+
 /// The request of these bytes, which are a head and its content. Fails only where memory is refused.
 fn request_of(
     alloc: Global,
@@ -147,18 +186,16 @@ fn request_of(
 ) -> Result<Request, AllocError>
     requires whole { head.now.len + size ≤ length bytes.now }
     requires method { IsWithin head.now.len head.now.method }
-    requires target { IsWithin head.now.len head.now.target }
-    requires path { is_target (span_bytes bytes.now head.now.target) ≡ true }
-    ensures method { IfOk result (λ r. r.method ≡ span_bytes bytes.now head.now.method) }
-    ensures path { IfOk result (λ r. r.path ≡ path (span_bytes bytes.now head.now.target)) }
+    requires served { is_served (span_bytes bytes.now head.now.method) ≡ true }
+    ensures method { IfOk result (λ r. r.method.now ≡ span_bytes bytes.now head.now.method) }
+    ensures target { IfOk result (λ r. r.target ≡ head.now.target) }
     ensures head { IfOk result (λ r. r.head ≡ take head.now.len bytes.now) }
     ensures content { IfOk result (λ r. r.content ≡ take size (drop head.now.len bytes.now)) }
 {
-    let path = path_of(head.target.of(bytes)).unwrap_or(b"/");
     Ok(Request {
-        method: items(alloc, head.method.of(bytes))?,
-        path: items(alloc, path)?,
+        method: served(head.method.of(bytes)),
         head: items(alloc, &bytes[..head.len])?,
+        target: head.target,
         content: items(alloc, &bytes[head.len..head.len + size])?,
     })
 }

@@ -41,8 +41,8 @@ fn has_status(alloc: Global, bytes: &[u8], want: u16) -> Result<bool, AllocError
 }
 
 fn is(request: &Request, method: &[u8], path: &[u8], head: &[u8], content: &[u8]) -> bool {
-    request.method.as_slice() == method
-        && request.path.as_slice() == path
+    request.method == method
+        && request.path() == path
         && request.head.as_slice() == head
         && request.content.as_slice() == content
 }

@@ -4,13 +4,13 @@ use Rattle.http_front.proofs.pulling.fill_from.Goals as goal
 
 pub returns-clause-content : goal.returns-clause-content
 returns-clause-content g c = λ start h rest written content whole is read.
-    let so_far = c.loop-buffer.invariant in
+    let so_far = c.loop-bytes.invariant in
     let stands = so_far.read start h rest written content whole is read in
     fill_done start _ _ h stands.0 _ written _ stands.1 stands.2 so_far.given so_far.later (omega arith)
 
 pub returns-in-Ended-clause-content : goal.returns-in-Ended-clause-content
 returns-in-Ended-clause-content g c = λ start h rest written content whole is read.
-    let so_far = c.loop-buffer.invariant in
+    let so_far = c.loop-bytes.invariant in
     let stands = so_far.read start h rest written content whole is read in
     let took = c.in-Ended.ensures in
     fill_same start _ _ _ h stands.0 _ _ written _ _ stands.1 stands.2 so_far.given so_far.later took.bytes.0 took.bytes.1 took.bytes.2 took.given
@@ -18,7 +18,7 @@ returns-in-Ended-clause-content g c = λ start h rest written content whole is r
 
 pub returns-in-Failed-clause-content : goal.returns-in-Failed-clause-content
 returns-in-Failed-clause-content g c = λ start h rest written content whole is read.
-    let so_far = c.loop-buffer.invariant in
+    let so_far = c.loop-bytes.invariant in
     let stands = so_far.read start h rest written content whole is read in
     let took = c.in-Failed.ensures in
     fill_same start _ _ _ h stands.0 _ _ written _ _ stands.1 stands.2 so_far.given so_far.later took.bytes.0 took.bytes.1 took.bytes.2 took.given
@@ -26,24 +26,24 @@ returns-in-Failed-clause-content g c = λ start h rest written content whole is 
 
 pub returns-in-NoMemory-clause-content : goal.returns-in-NoMemory-clause-content
 returns-in-NoMemory-clause-content g c = λ start h rest written content whole is read.
-    let so_far = c.loop-buffer.invariant in
+    let so_far = c.loop-bytes.invariant in
     let stands = so_far.read start h rest written content whole is read in
     let took = c.in-NoMemory.ensures in
     fill_same start _ _ _ h stands.0 _ _ written _ _ stands.1 stands.2 so_far.given so_far.later took.bytes.0 took.bytes.1 took.bytes.2 took.given
     (record { later = took.faults.later; cause = λ e. cc }) tt
 
 pub returns-in-Ended-clause-grown : goal.returns-in-Ended-clause-grown
-returns-in-Ended-clause-grown g c = let so_far = c.loop-buffer.invariant in (so_far.grown.0, c.in-Ended.ensures.bytes.0 ∙ so_far.grown.1)
+returns-in-Ended-clause-grown g c = let so_far = c.loop-bytes.invariant in (so_far.grown.0, c.in-Ended.ensures.bytes.0 ∙ so_far.grown.1)
 
 pub returns-in-Failed-clause-grown : goal.returns-in-Failed-clause-grown
-returns-in-Failed-clause-grown g c = let so_far = c.loop-buffer.invariant in (so_far.grown.0, c.in-Failed.ensures.bytes.0 ∙ so_far.grown.1)
+returns-in-Failed-clause-grown g c = let so_far = c.loop-bytes.invariant in (so_far.grown.0, c.in-Failed.ensures.bytes.0 ∙ so_far.grown.1)
 
 pub returns-in-NoMemory-clause-grown : goal.returns-in-NoMemory-clause-grown
-returns-in-NoMemory-clause-grown g c = let so_far = c.loop-buffer.invariant in (so_far.grown.0, c.in-NoMemory.ensures.bytes.0 ∙ so_far.grown.1)
+returns-in-NoMemory-clause-grown g c = let so_far = c.loop-bytes.invariant in (so_far.grown.0, c.in-NoMemory.ensures.bytes.0 ∙ so_far.grown.1)
 
-pub loop-buffer-preserved : goal.loop-buffer-preserved
-loop-buffer-preserved g c =
-    let so_far = c.loop-buffer.invariant in
+pub loop-bytes-preserved : goal.loop-bytes-preserved
+loop-bytes-preserved g c =
+    let so_far = c.loop-bytes.invariant in
     let took = c.in-Came.ensures in
     record {
       read = λ start h rest written content whole is read.

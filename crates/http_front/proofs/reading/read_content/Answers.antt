@@ -2,11 +2,10 @@ use Rattle.std.proofs.Common.{◌≡◌, ◌≤◌, ℕ, List, length, take, dro
 use Rattle.okws_base.specs.declared.limit.TheConstants.{LONGEST_CONTENT}
 use Rattle.httparse.specs.Grammar.{print_request}
 use Rattle.httparse.specs.Spans.{span_bytes}
-use Rattle.http_text.specs.Target.{is_target, path}
-use Rattle.http_text.specs.Reading.{checked_head}
+use Rattle.http_text.specs.Reading.{checked_head, is_served}
 use Rattle.http_front.proofs.Heads.{span_of_front}
 use Rattle.http_front.proofs.Progress.{whole_more, short_content}
-use Rattle.http_front.proofs.Asking.{head_target, head_size, request_is_no_fault, refused_is_no_fault, want_is_no_fault, content_of, due_is, asked_whole, receive_content}
+use Rattle.http_front.proofs.Asking.{head_method, head_size, request_is_no_fault, refused_is_no_fault, want_is_no_fault, content_of, due_is, asked_whole, receive_content}
 use Rattle.http_front.proofs.reading.read_content.Goals as goal
 
 pub overflow_add-head : goal.overflow_add-head
@@ -19,14 +18,14 @@ overflow_add-head g c =
 pub request_of-requires-clause-whole : goal.request_of-requires-clause-whole
 request_of-requires-clause-whole g c = omega (arith, c.in-Whole.ensures.enough refl, ap length c.deref.ensures.value)
 
-pub request_of-requires-clause-path : goal.request_of-requires-clause-path
-request_of-requires-clause-path g c =
+pub request_of-requires-clause-served : goal.request_of-requires-clause-served
+request_of-requires-clause-served g c =
     let stands = c.requires.stands in
     let passed : checked_head stands.head ≡ Ok c.args.size = sym stands.told.checked_is ∙ c.requires.passed in
     let grown = c.in-Whole.ensures.grown in
     let whole = whole_more _ _ grown.0 stands.head stands.rest grown.1 stands.is in
-    let target = span_of_front _ (print_request stands.head) _ c.args.head.now.target c.args.head.now.len (c.deref.ensures.value ∙ whole.reads.1) stands.told.len stands.told.target_within ∙ stands.told.target in
-    ap is_target target ∙ head_target stands.head c.args.size passed
+    let method = span_of_front _ (print_request stands.head) _ c.args.head.now.method c.args.head.now.len (c.deref.ensures.value ∙ whole.reads.1) stands.told.len stands.told.method_within ∙ stands.told.method in
+    ap is_served method ∙ head_method stands.head c.args.size passed
 
 pub returns-in-Ok : goal.returns-in-Ok
 returns-in-Ok g c = λ start begun.
@@ -37,7 +36,7 @@ returns-in-Ok g c = λ start begun.
     receive_content start _ _ c.args.kept.now _ c.args.head.now stands.head _ _ _ stands.told begun fills refl refl refl
     (asked_whole _ stands.head fills.rest c.args.head.now c.args.size c.in-Ok.request fills.whole stands.told c.requires.passed fills.ends
     (c.in-Ok.ensures.method ∙ ap (λ (b : List ℕ). span_bytes b c.args.head.now.method) same)
-    (c.in-Ok.ensures.path ∙ ap (λ (b : List ℕ). path (span_bytes b c.args.head.now.target)) same)
+    c.in-Ok.ensures.target
     (c.in-Ok.ensures.head ∙ ap (take c.args.head.now.len) same)
     (c.in-Ok.ensures.content ∙ ap (λ (b : List ℕ). take c.args.size (drop c.args.head.now.len b)) same))
     (λ e. absurd (request_is_no_fault _ e))

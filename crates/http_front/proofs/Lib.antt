@@ -5,3 +5,5 @@ pub mod Gathering
 pub mod Asking
 pub mod Steps
 pub mod Open
+pub mod Long
+pub mod Agreeing

@@ -4,4 +4,5 @@ pub mod Looking
 pub mod Places
 pub mod Pulling
 pub mod Requests
+pub mod Agreement
 pub mod Writing

@@ -11,4 +11,6 @@ mod pulling;
 pub mod reading;
 #[cfg(test)]
 mod tests;
+#[cfg(test)]
+mod texts;
 pub mod writing;

@@ -12,14 +12,14 @@ use std::test::Fail;
 const ROOM: usize = 1_000;
 
 /// What the bytes ask for where they come in pieces of these sizes.
-fn read(alloc: Global, bytes: &[u8], sizes: &[usize]) -> Result<Incoming, AllocError> {
+pub(crate) fn read(alloc: Global, bytes: &[u8], sizes: &[usize]) -> Result<Incoming, AllocError> {
     let mut conn = MemoryConn::new(alloc, bytes, sizes, ROOM, &[])?;
     let mut kept = Kept::new(alloc)?;
     Ok(read_request(alloc, &mut conn, &mut kept))
 }
 
 /// The status of a refusal; 200 for a request, 0 for a fault or want of memory.
-fn status(incoming: &Incoming) -> u16 {
+pub(crate) fn status(incoming: &Incoming) -> u16 {
     match incoming {
         Incoming::Request(_) => 200,
         Incoming::Refused(status) => status.as_u16(),
@@ -28,7 +28,7 @@ fn status(incoming: &Incoming) -> u16 {
 }
 
 /// Whether the bytes have this status whole, in every two pieces and in single bytes.
-fn has_status(alloc: Global, bytes: &[u8], want: u16) -> Result<bool, AllocError> {
+pub(crate) fn has_status(alloc: Global, bytes: &[u8], want: u16) -> Result<bool, AllocError> {
     if status(&read(alloc, bytes, &[])?) != want || status(&read(alloc, bytes, &[1])?) != want {
         return Ok(false);
     }
@@ -154,20 +154,38 @@ fn limits_are_kept(rt: HostRuntime) -> Result<(), Fail> {
     Ok(())
 }
 
+/// The bytes of content that are read of so many, in pieces of these sizes; 0 where they are refused.
+fn read_content(alloc: Global, content: usize, sizes: &[usize]) -> Result<usize, AllocError> {
+    let mut text = Vec::from_slice(alloc, b"POST / HTTP/1.0\r\nContent-Length: 262144\r\n\r\n")?;
+    text.resize(content.saturating_add(43), b'a')?;
+    match read(alloc, &text, sizes)? {
+        Incoming::Request(request) => Ok(request.content.as_slice().len()),
+        _ => Ok(0),
+    }
+}
+
 #[test]
 fn content_comes_in_pieces(rt: HostRuntime) -> Result<(), Fail> {
-    let mut text = Vec::from_slice(
-        rt.alloc(),
-        b"POST / HTTP/1.0\r\nContent-Length: 262144\r\n\r\n",
-    )?;
-    let head = text.len();
-    text.resize(head + 262_144, b'a')?;
-    for sizes in [[usize::MAX].as_slice(), &[1_000], &[head, usize::MAX]] {
-        match read(rt.alloc(), &text, sizes)? {
-            Incoming::Request(request) => {
-                assert_eq!(rt; request.content.as_slice().len(), 262_144);
-            }
-            _ => assert!(rt; false, "at {sizes:?}"),
+    for sizes in [
+        [usize::MAX].as_slice(),
+        &[1],
+        &[7],
+        &[1_000],
+        &[43, usize::MAX],
+        &[42, 16_384],
+        &[44, 16_383],
+        &[43, 16_384],
+        &[43, 16_385],
+        &[43, 65_536],
+        &[262_186, 1],
+        &[262_187, 1],
+    ] {
+        for (content, want) in [(262_144, 262_144), (262_145, 262_144), (262_143, 0), (0, 0)] {
+            assert_eq!(rt;
+                read_content(rt.alloc(), content, sizes)?,
+                want,
+                "at {content} {sizes:?}"
+            );
         }
     }
     Ok(())

@@ -7,3 +7,6 @@ pub mod Again
 pub mod Stops
 pub mod Nexts
 pub mod Kept
+pub mod Escaping
+pub mod PutParts
+pub mod Keeping

@@ -10,3 +10,8 @@ pub mod Telling
 pub mod Serving
 pub mod Form
 pub mod Laws
+pub mod Bounded
+pub mod Escape
+pub mod Templates
+pub mod Filled
+pub mod Pages

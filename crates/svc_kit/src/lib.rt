@@ -1,6 +1,6 @@
 //! The service's end of the frames: reading what the server says, saying what a service says, and
-//! what a service is written with: its link, its tokens by proxy, its calls with their answers, and
-//! the forms that requests carry.
+//! what a service is written with: its link, its tokens by proxy, its calls with their answers, the
+//! forms that requests carry, and templates that it fills with values.
 //!
 //! A whole service, which answers each request with a line for each row that query 1 of proxy 0
 //! selects. It opens its session in its first dialog, and keeps it.
@@ -40,12 +40,16 @@
 #![tactic(auto)]
 
 pub mod answer;
+pub mod bounded;
 pub mod calling;
+pub mod escape;
 mod field;
+pub mod fill;
 pub mod form;
 pub mod laws;
 pub mod link;
 mod list;
+pub mod pages;
 pub mod reading;
 pub mod receiving;
 pub mod saying;

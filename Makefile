@@ -11,8 +11,9 @@ bin:
 	cp crates/okws_program/out/okws_program bin/okws
 services:
 	cd crates/svc_probe && rt run </dev/null
+	cd crates/svc_guest && rt run </dev/null
 	mkdir -p bin
-	cp crates/svc_probe/out/svc_probe bin/svc_probe
+	cp crates/svc_probe/out/svc_probe crates/svc_guest/out/svc_guest bin
 run: bin
 	bin/okws play examples/site.okws examples/one_dialog.script
 try:

@@ -64,5 +64,29 @@ if [ -x "$crates/svc_probe/out/svc_probe" ]; then
 else
     echo "svc_probe isn't built"
 fi
+if [ -x "$crates/svc_guest/out/svc_guest" ]; then
+    open=00000017410000$token
+    select=0000000a42000000000000000100
+    listed=0000001f4500c80a746578742f706c61696e000000000c3120616e6e0a3220626f620a
+    filled=000000254500c809746578742f68746d6c00000000133c703e3120616e6e0a3220626f620a3c2f703e
+    page=0000001c030470616765000000010000000e3c703e407b726f77737d3c2f703e
+    head=$(printf 'POST /guest HTTP/1.1\r\nHost: localhost\r\n\r\n' | xxd -p | tr -d '\n')
+    form=$(printf 'id=3&who=cy&note=x' | xxd -p | tr -d '\n')
+    post=$(printf '%08x02%08x%s%08x%s' $((9 + (${#head} + ${#form}) / 2)) $((${#head} / 2)) "$head" $((${#form} / 2)) "$form")
+    insert=000000204200000000000000020301000000000000000302000000026379020000000178
+    log=0000000b4400000006706f73742033
+    there=0000001945012f0a746578742f706c61696e062f677565737400000000
+    taken=000000194501990a746578742f706c61696e000000000674616b656e0a
+    says svc_guest 0 "" ""
+    says svc_guest 0 "$open$select$listed" "$boot$get$opened$rows"
+    says svc_guest 0 "$open$select$filled" "$boot$page$get$opened$rows"
+    says svc_guest 0 "$open$insert$log$there" "$boot$post${opened}000000090600000000000000010000000108"
+    says svc_guest 0 "$open$insert$taken" "$boot$post${opened}000000010c"
+    says svc_guest 1 "" "$get"
+    says svc_guest 1 "$open" "$boot$get$rows"
+    says svc_guest 1 "" "${boot}0000000141"
+else
+    echo "svc_guest isn't built"
+fi
 echo "$passed passed, $failed failed"
 [ "$failed" = 0 ]

@@ -1,0 +1,30 @@
+//! The guestbook: a service that shows entries and takes new ones. It speaks frames over its standard input and output.
+#![tactic(auto)]
+
+mod book;
+mod frames;
+mod guest;
+mod listing;
+mod request;
+#[cfg(test)]
+mod tests;
+
+use guest::guest;
+use std::io;
+use std::process::ExitCode;
+use svc_kit::link::over;
+use svc_kit::standard::{Incoming, Outgoing};
+use svc_kit::stop::Stop;
+
+/// The status is 0 where the server ended it, and else 1.
+fn main(rt: HostRuntime) -> ExitCode {
+    let source = Incoming::new(rt.reader());
+    let sink = Outgoing::new(io::writer(&rt));
+    match over(rt.alloc(), source, sink) {
+        Ok(mut link) => match guest(&rt, rt.alloc(), &mut link) {
+            Stop::Ended => ExitCode::from(0),
+            _ => ExitCode::from(1),
+        },
+        Err(_) => ExitCode::from(1),
+    }
+}

@@ -1,0 +1,15 @@
+use Rattle.std.proofs.Common.{◌≡◌, take}
+use Rattle.std.specs.List.{list_any}
+use Rattle.std.specs.Ordering.{nat_cmp}
+use Rattle.std.specs.BTreeMap.{get}
+use Rattle.index_keeper.specs.Slots.{has_slot}
+use Rattle.index_keeper.specs.Changes.{comes_with, goes_with}
+use Rattle.index_keeper.specs.declared.slot.Slot.{Slot}
+use Rattle.index_keeper.specs.declared.changing.Change.{Change}
+use Rattle.index_keeper.proofs.changing.moves_of.Given as goal
+
+abbrev pub invariant-loop-change : goal.invariant-loop-change
+invariant-loop-change l = record {
+  coming : (q : Slot) → has_slot l.moves.coming.items q ≡ list_any (λ (ch : Change). comes_with l.columns (get nat_cmp l.rows ch.place) ch q) (take l.change-index l.changes);
+  going : (q : Slot) → has_slot l.moves.going.items q ≡ list_any (λ (ch : Change). goes_with l.columns (get nat_cmp l.rows ch.place) ch q) (take l.change-index l.changes);
+}

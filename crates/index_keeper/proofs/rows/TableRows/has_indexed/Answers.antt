@@ -1,0 +1,20 @@
+use Rattle.std.proofs.Common.{◌≡◌, ◌∙◌, ap, sym, subst, ℕ, List, Bool, Some, true, length}
+use Rattle.std.specs.Prelude.{not, ◌==◌}
+use Rattle.okws_base.specs.Value.{value_eq}
+use Rattle.okws_base.specs.declared.value.Value.{Value}
+use Rattle.okws_plan.specs.Meaning.{at_column}
+use Rattle.index_keeper.specs.Places.{Indexed, is_indexed, is_value, rows_of}
+use Rattle.index_keeper.proofs.Found.{listed, any_alike}
+use Rattle.index_keeper.proofs.Entries.{any_rows, value_eq_is}
+use Rattle.index_keeper.proofs.rows.TableRows.has_indexed.Goals as goal
+
+pub returns : goal.returns
+returns c =
+    let holds : List Value → Bool = λ (row : List Value). is_value c.args.value.now (Some (at_column row c.args.own)) in
+    let has : is_indexed c.self.inside.columns.items c.args.own ≡ true = subst (λ (t : Indexed). is_indexed t.columns c.args.own ≡ true) (sym c.self.view_is) c.requires in
+    rw (← c.self.view_is)
+    (ap (λ (n : ℕ). not (n == 0))
+    (c.count_of-count.ensures
+    ∙ ap length (c.deref.ensures.value ∙ c.in_ok-places.ensures.places ∙ listed c.self.inside.columns.items c.self.inside.rows c.self.inside.slots c.args.own c.args.value.now c.self.invariant.index c.self.invariant.rising c.in_ok-places.ensures.ordered has))
+    ∙ any_rows holds c.self.inside.rows.entries
+    ∙ any_alike holds (λ (row : List Value). value_eq (at_column row c.args.own) c.args.value.now) (rows_of c.self.inside.rows.entries) (λ (row : List Value). value_eq_is (at_column row c.args.own) c.args.value.now))

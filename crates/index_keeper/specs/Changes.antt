@@ -1,0 +1,74 @@
+-- Changes of rows at their places, and the slots that come and go with them.
+use Rattle.std.specs.Prelude.{ℕ, Bool, true, false, not, ◌&&◌, ◌==◌, List, fold, if◌then◌else◌, Option, Some, None}
+use Rattle.std.specs.List.{list_any, filter_map}
+use Rattle.std.specs.Ordering.{nat_cmp, is_eq}
+use Rattle.std.specs.Map.{lookup}
+use Rattle.std.specs.BTreeMap.{is_at}
+use Rattle.okws_base.specs.Value.{value_cmp}
+use Rattle.okws_base.specs.declared.value.Value.{Value}
+use Rattle.index_keeper.specs.Places.{cell, is_value}
+use Rattle.index_keeper.specs.declared.slot.Slot.{Slot}
+use Rattle.index_keeper.specs.declared.changing.Change.{Change}
+
+-- Two values that may not be there are the same.
+abbrev pub same_cell : Option Value → Option Value → Bool
+same_cell None None = true
+same_cell None (Some y) = false
+same_cell (Some x) None = false
+same_cell (Some x) (Some y) = is_eq (value_cmp x y)
+
+-- A slot is of this column and this place.
+abbrev pub stands : ℕ → ℕ → Slot → Bool
+stands d p q = (d == q.column) && (p == q.place)
+
+-- Where a column at a place changes from a to another value b, the slot of b comes.
+abbrev pub arrives : ℕ → ℕ → Option Value → Option Value → Slot → Bool
+arrives d p a b q = stands d p q && (not (same_cell a b) && is_value q.value b)
+
+-- And that of a goes.
+abbrev pub departs : ℕ → ℕ → Option Value → Option Value → Slot → Bool
+departs d p a b q = stands d p q && (not (same_cell a b) && is_value q.value a)
+
+-- A slot comes where the row at a place changes from o to n.
+abbrev pub comes : List ℕ → ℕ → Option (List Value) → Option (List Value) → Slot → Bool
+comes columns p o n q = list_any (λ (d : ℕ). arrives d p (cell d o) (cell d n) q) columns
+
+-- A slot goes where the row at a place changes from o to n.
+abbrev pub goes : List ℕ → ℕ → Option (List Value) → Option (List Value) → Slot → Bool
+goes columns p o n q = list_any (λ (d : ℕ). departs d p (cell d o) (cell d n) q) columns
+
+-- A slot comes with a change, where there is a row to change.
+abbrev pub comes_with : List ℕ → Option (List Value) → Change → Slot → Bool
+comes_with columns None ch q = false
+comes_with columns (Some o) ch q = comes columns ch.place (Some o) ch.row q
+
+-- A slot goes with a change, where there is a row to change.
+abbrev pub goes_with : List ℕ → Option (List Value) → Change → Slot → Bool
+goes_with columns None ch q = false
+goes_with columns (Some o) ch q = goes columns ch.place (Some o) ch.row q
+
+-- What is to stand where a row was; nothing where none was.
+abbrev pub merged : Option (List Value) → Option (List Value) → Option (List Value)
+merged None n = None
+merged (Some o) n = n
+
+-- What stands at a place after one change, from what stood there.
+abbrev pub after_change : ℕ → Option (List Value) → Change → Option (List Value)
+after_change p o ch = if ch.place == p then merged o ch.row else o
+
+-- What stands at a place after each change in turn, from what stood there.
+abbrev pub changed : List Change → Option (List Value) → ℕ → Option (List Value)
+changed changes o p = fold (after_change p) o changes
+
+-- The row at a place, if there is one.
+abbrev pub row_at : List (ℕ × List Value) → ℕ → Option (List Value)
+row_at entries p = lookup (is_at (nat_cmp p)) entries
+
+-- The row that is to stand at a place, made of the one that stands there.
+abbrev pub change_of : (List Value → Option (List Value)) → ℕ → Option (List Value) → Option Change
+change_of make p None = None
+change_of make p (Some row) = Some (record { place = p; row = make row })
+
+-- A change for each of the places that has a row.
+abbrev pub changes_at : (List Value → Option (List Value)) → (ℕ → Option (List Value)) → List ℕ → List Change
+changes_at make at places = filter_map (λ (p : ℕ). change_of make p (at p)) places

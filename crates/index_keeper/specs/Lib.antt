@@ -1,0 +1,5 @@
+pub mod Slots
+pub mod Order
+pub mod Places
+pub mod Changes
+pub mod Indexed

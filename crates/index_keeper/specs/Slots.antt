@@ -1,0 +1,24 @@
+-- The slots of an index, and their order.
+use Rattle.std.specs.Prelude.{ℕ, Bool, List, map, filter}
+use Rattle.std.specs.List.{list_any}
+use Rattle.std.specs.Ordering.{nat_cmp, ordering_then, is_eq}
+use Rattle.std.specs.declared.cmp.Ordering.{Ordering}
+use Rattle.okws_base.specs.Value.{value_cmp}
+use Rattle.okws_base.specs.declared.value.Value.{Value}
+use Rattle.index_keeper.specs.declared.slot.Slot.{Slot}
+
+-- Slots are ordered by column, then by value, then by place.
+abbrev pub slot_cmp : Slot → Slot → Ordering
+slot_cmp a b = ordering_then (ordering_then (nat_cmp a.column b.column) (value_cmp a.value b.value)) (nat_cmp a.place b.place)
+
+-- A list of slots has this one.
+abbrev pub has_slot : List Slot → Slot → Bool
+has_slot slots q = list_any (λ (s : Slot). is_eq (slot_cmp s q)) slots
+
+-- A slot is of this column and this value.
+abbrev pub is_of : ℕ → Value → Slot → Bool
+is_of c v s = is_eq (ordering_then (nat_cmp c s.column) (value_cmp v s.value))
+
+-- The places in the slots of a column that have this value, in their order.
+abbrev pub places_in : ℕ → Value → List Slot → List ℕ
+places_in c v slots = map (λ (s : Slot). s.place) (filter (is_of c v) slots)

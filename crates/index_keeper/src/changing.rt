@@ -1,0 +1,251 @@
+//! Changes of rows at their places, and the slots that come and go with them.
+
+ghost use Rattle.std.specs.Prelude.{◌≡◌, ◌||◌, ◌&&◌, ℕ, [], cond, true, false, IfOk, OnOk, OnErr, map, if◌then◌else◌, ◌==◌, None, Some};
+ghost use Rattle.std.specs.Option.{option_copied};
+ghost use Rattle.std.specs.List.{list_any};
+ghost use Rattle.std.specs.List.Sorted.{IsStrictlySortedBy};
+ghost use Rattle.std.specs.Ordering.{nat_cmp, is_eq};
+ghost use Rattle.std.specs.BTreeMap.{get, insert_entry, IsOrdered};
+ghost use Rattle.okws_plan.specs.Meaning.{nothing};
+ghost use Rattle.index_keeper.specs.Slots.{has_slot};
+ghost use Rattle.index_keeper.specs.Places.{cell, is_value, IsIndex};
+ghost use Rattle.index_keeper.specs.Changes.{same_cell, stands, arrives, departs, comes, goes, comes_with, goes_with, merged, changed};
+ghost use Rattle.index_keeper.specs.declared.slot.Slot.{Slot};
+
+use crate::finding::at;
+use crate::slot::Slot;
+use crate::slots::{put_all, take_all};
+use okws_base::items::Exact;
+use okws_base::value::{Row, Value};
+use std::alloc::{AllocError, Global};
+use std::cmp::Ordering;
+use std::collections::{BTreeMap, BTreeSet};
+
+/// What is to stand at a place that has a row: another row, or none.
+#[derive(Drop)]
+pub struct Change {
+    pub place: u64,
+    pub row: Option<Row>,
+}
+
+/// The slots that come and those that go.
+#[derive(Drop)]
+pub struct Moves {
+    pub coming: Vec<Slot>,
+    pub going: Vec<Slot>,
+}
+
+fn same_cells(a: Option<&Value>, b: Option<&Value>) -> bool
+    ensures { result ≡ same_cell (option_copied a.entry) (option_copied b.entry) }
+{
+    match a {
+        None => b.is_none(),
+        Some(x) => match b {
+            None => false,
+            Some(y) => x.compare(y) == Ordering::Equal,
+        },
+    }
+}
+
+fn cell_of<'a>(row: Option<&'a Row>, column: u8, other: &'a Value) -> Option<&'a Value>
+    requires { other.now ≡ nothing }
+    ensures { option_copied result ≡ cell column (option_copied row.entry) }
+{
+    match row {
+        None => None,
+        Some(row) => Some(at(row.as_slice(), column as usize, other)),
+    }
+}
+
+fn push_slot(
+    alloc: Global,
+    slots: &mut Vec<Slot>,
+    column: u8,
+    place: u64,
+    value: Option<&Value>,
+) -> Result<(), AllocError>
+    ensures { OnOk result ((q : Slot) → has_slot slots.new.items q ≡ (has_slot slots.old.items q || (stands column place q && is_value q.value (option_copied value.entry)))) }
+{
+    if let Some(value) = value {
+        slots.push(Slot {
+            column,
+            value: value.copy(alloc)?,
+            place,
+        })?;
+    }
+    Ok(())
+}
+
+impl Moves {
+    /// No moves yet.
+    pub fn none(alloc: Global) -> Moves
+        ensures coming { result.coming.items ≡ [] }
+        ensures going { result.going.items ≡ [] }
+    {
+        Moves {
+            coming: Vec::new(alloc),
+            going: Vec::new(alloc),
+        }
+    }
+
+    fn note_cell(
+        &mut self,
+        alloc: Global,
+        column: u8,
+        place: u64,
+        old: Option<&Value>,
+        new: Option<&Value>,
+    ) -> Result<(), AllocError>
+        ensures coming { OnOk result ((q : Slot) → has_slot self.new.coming.items q ≡ (has_slot self.old.coming.items q || arrives column place (option_copied old.entry) (option_copied new.entry) q)) }
+        ensures going { OnOk result ((q : Slot) → has_slot self.new.going.items q ≡ (has_slot self.old.going.items q || departs column place (option_copied old.entry) (option_copied new.entry) q)) }
+    {
+        if same_cells(old, new) {
+            return Ok(());
+        }
+        push_slot(alloc, &mut self.going, column, place, old)?;
+        push_slot(alloc, &mut self.coming, column, place, new)
+    }
+
+    /// Notes the slots that come and go where the row at a place changes; `other` stands for a
+    /// column that isn't there.
+    pub fn note(
+        &mut self,
+        alloc: Global,
+        columns: &[u8],
+        place: u64,
+        rows: (Option<&Row>, Option<&Row>),
+        other: &Value,
+    ) -> Result<(), AllocError>
+        requires { other.now ≡ nothing }
+        ensures coming { OnOk result ((q : Slot) → has_slot self.new.coming.items q ≡ (has_slot self.old.coming.items q || comes columns.now place (option_copied rows.entry.0) (option_copied rows.entry.1) q)) }
+        ensures going { OnOk result ((q : Slot) → has_slot self.new.going.items q ≡ (has_slot self.old.going.items q || goes columns.now place (option_copied rows.entry.0) (option_copied rows.entry.1) q)) }
+    {
+        let (old, new) = rows;
+        for column in columns {
+            let before = cell_of(old, *column, other);
+            let after = cell_of(new, *column, other);
+            self.note_cell(alloc, *column, place, before, after)?;
+        }
+        Ok(())
+    }
+
+    // Notes what a change brings, where there is a row to change.
+    fn note_change(
+        &mut self,
+        alloc: Global,
+        columns: &[u8],
+        old: Option<&Row>,
+        change: &Change,
+        other: &Value,
+    ) -> Result<(), AllocError>
+        requires { other.now ≡ nothing }
+        ensures coming { OnOk result ((q : Slot) → has_slot self.new.coming.items q ≡ (has_slot self.old.coming.items q || comes_with columns.now (option_copied old.entry) change.now q)) }
+        ensures going { OnOk result ((q : Slot) → has_slot self.new.going.items q ≡ (has_slot self.old.going.items q || goes_with columns.now (option_copied old.entry) change.now q)) }
+    {
+        match old {
+            None => Ok(()),
+            Some(row) => {
+                let rows = (Some(row), change.row.as_ref());
+                self.note(alloc, columns, change.place, rows, other)
+            }
+        }
+    }
+}
+
+fn moves_of(
+    alloc: Global,
+    columns: &[u8],
+    rows: &BTreeMap<u64, Row>,
+    changes: &[Change],
+    other: &Value,
+) -> Result<Moves, AllocError>
+    requires { other.now ≡ nothing }
+    ensures coming { IfOk result (λ m. (q : Slot) → has_slot m.coming.items q ≡ list_any (λ ch. comes_with columns.now (get nat_cmp rows.now ch.place) ch q) changes.now) }
+    ensures going { IfOk result (λ m. (q : Slot) → has_slot m.going.items q ≡ list_any (λ ch. goes_with columns.now (get nat_cmp rows.now ch.place) ch q) changes.now) }
+{
+    let mut moves = Moves::none(alloc);
+    for change in changes {
+        let old = rows.get(&change.place);
+        moves.note_change(alloc, columns, old, change, other)?;
+    }
+    Ok(moves)
+}
+
+/// Makes the changes, in the rows and in their slots, or none of them where memory is refused. No
+/// two are at one place.
+pub fn apply(
+    alloc: Global,
+    columns: &[u8],
+    rows: &mut BTreeMap<u64, Row>,
+    slots: &mut BTreeSet<Slot>,
+    changes: Vec<Change>,
+) -> Result<(), AllocError>
+    requires index { IsIndex columns.now rows.old slots.old }
+    requires apart { IsStrictlySortedBy nat_cmp (map (λ ch. ch.place) changes.items) }
+    ensures index { IsIndex columns.now rows.new slots.new }
+    ensures ok { OnOk result ((p : ℕ) → get nat_cmp rows.new p ≡ changed changes.items (get nat_cmp rows.old p) p) }
+    ensures err { OnErr result (rows.new ≡ rows.old) }
+    ensures none { (p : ℕ) → get nat_cmp rows.old p ≡ None → get nat_cmp rows.new p ≡ None }
+    ensures rising { IsOrdered nat_cmp rows.old → IsOrdered nat_cmp rows.new }
+{
+    let other = Value::Int(0);
+    let moves = moves_of(alloc, columns, rows, &changes, &other)?;
+    put_all(alloc, slots, &moves.coming)?;
+    take_all(slots, &moves.going);
+    carry_out(rows, changes);
+    Ok(())
+}
+
+/// Puts a row at a place that has none, with its slots, or neither where memory is refused.
+pub fn append(
+    alloc: Global,
+    columns: &[u8],
+    rows: &mut BTreeMap<u64, Row>,
+    slots: &mut BTreeSet<Slot>,
+    place: u64,
+    row: Row,
+) -> Result<(), AllocError>
+    requires index { IsIndex columns.now rows.old slots.old }
+    requires free { get nat_cmp rows.old place ≡ None }
+    ensures index { IsIndex columns.now rows.new slots.new }
+    ensures entries { OnOk result (rows.new.entries ≡ insert_entry nat_cmp rows.old.entries place row) }
+    ensures rows { OnOk result ((p : ℕ) → get nat_cmp rows.new p ≡ cond (is_eq (nat_cmp place p)) (Some row) (get nat_cmp rows.old p)) }
+    ensures err { OnErr result (rows.new.entries ≡ rows.old.entries) }
+    ensures rising { IsOrdered nat_cmp rows.old → IsOrdered nat_cmp rows.new }
+{
+    let other = Value::Int(0);
+    let mut moves = Moves::none(alloc);
+    moves.note(alloc, columns, place, (None, Some(&row)), &other)?;
+    put_all(alloc, slots, &moves.coming)?;
+    if let Err(refused) = rows.insert(place, row) {
+        take_all(slots, &moves.coming);
+        return Err(AllocError::from(refused));
+    }
+    Ok(())
+}
+
+fn carry_out(rows: &mut BTreeMap<u64, Row>, changes: Vec<Change>)
+    ensures rows { (p : ℕ) → get nat_cmp rows.new p ≡ changed changes.items (get nat_cmp rows.old p) p }
+    ensures rising { IsOrdered nat_cmp rows.old → IsOrdered nat_cmp rows.new }
+{
+    for change in changes {
+        let Change { place, row } = change;
+        put_at(rows, place, row);
+    }
+}
+
+fn put_at(rows: &mut BTreeMap<u64, Row>, place: u64, row: Option<Row>)
+    ensures rows { (p : ℕ) → get nat_cmp rows.new p ≡ (if place == p then merged (get nat_cmp rows.old p) row else get nat_cmp rows.old p) }
+    ensures rising { IsOrdered nat_cmp rows.new }
+{
+    match row {
+        None => {
+            rows.remove(&place);
+        }
+        Some(row) => {
+            if let Some(kept) = rows.get_mut(&place) {
+                *kept = row;
+            }
+        }
+    }
+}

@@ -1,0 +1,92 @@
+//! Which columns have an index.
+
+ghost use Rattle.std.specs.Prelude.{◌≡◌, ◌||◌, ◌&&◌, ◌==◌, IfOk, slice_get};
+ghost use Rattle.std.specs.List.{list_any};
+ghost use Rattle.okws_plan.specs.Meaning.{key_place};
+ghost use Rattle.index_keeper.specs.Indexed.{conditions_of, compares, is_key, is_wanted, wanted};
+ghost use Rattle.index_keeper.specs.Places.{is_equality};
+
+use okws_plan::configuration::{Column, Query};
+use okws_plan::statement::{Action, Comparison, Condition};
+use std::alloc::{AllocError, Global};
+
+/// The conditions of an action; an INSERT has none.
+pub fn conditions(action: &Action) -> &[Condition]
+    ensures { result.now ≡ conditions_of action.now }
+{
+    match action {
+        Action::Select(selection) => selection.conditions.as_slice(),
+        Action::Insert { values: _ } => &[],
+        Action::Update {
+            assignments: _,
+            conditions,
+        } => conditions.as_slice(),
+        Action::Delete { conditions } => conditions.as_slice(),
+    }
+}
+
+fn asks(condition: &Condition, column: usize) -> bool
+    ensures { result ≡ (is_equality condition.now.comparison && (condition.now.column == column)) }
+{
+    condition.comparison == Comparison::Equal && condition.column as usize == column
+}
+
+fn asks_any(conditions: &[Condition], column: usize) -> bool
+    ensures { result ≡ list_any (λ k. is_equality k.comparison && (k.column == column)) conditions.now }
+{
+    conditions.iter().any(|condition| asks(condition, column))
+}
+
+fn asked_by(query: &Query, table: usize, column: usize) -> bool
+    ensures { result ≡ compares table column query.now }
+{
+    let statement = &query.statement;
+    statement.table as usize == table && asks_any(conditions(&statement.action), column)
+}
+
+fn asked(queries: &[Query], table: usize, column: usize) -> bool
+    ensures { result ≡ list_any (compares table column) queries.now }
+{
+    queries.iter().any(|query| asked_by(query, table, column))
+}
+
+/// The place of the KEY column, if there is one.
+pub fn key_column(columns: &[Column]) -> Option<usize>
+    ensures { result ≡ key_place columns.now }
+{
+    columns.iter().position(|column| column.key)
+}
+
+fn key_at(columns: &[Column], column: usize) -> bool
+    ensures { result ≡ is_key (slice_get columns.now column) }
+{
+    match columns.get(column) {
+        None => false,
+        Some(column) => column.key,
+    }
+}
+
+fn wants(queries: &[Query], table: usize, columns: &[Column], column: usize) -> bool
+    ensures { result ≡ is_wanted queries.now table columns.now column }
+{
+    let key = key_at(columns, column);
+    key || asked(queries, table, column)
+}
+
+/// The columns of a table that have an index: the KEY, and each that some query compares by `=`.
+pub fn wanted_columns(
+    alloc: Global,
+    queries: &[Query],
+    table: usize,
+    columns: &[Column],
+) -> Result<Vec<u8>, AllocError>
+    ensures { IfOk result (λ v. v.items ≡ wanted queries.now table columns.now) }
+{
+    let mut out = Vec::new(alloc);
+    for column in 0..columns.len().min(256) {
+        if wants(queries, table, columns, column) {
+            out.push(column as u8)?;
+        }
+    }
+    Ok(out)
+}

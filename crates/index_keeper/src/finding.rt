@@ -1,0 +1,126 @@
+//! Which rows meet conditions, with a count of the rows that are tested.
+
+ghost use Rattle.std.specs.Prelude.{◌≡◌, ◌+◌, ◌≤◌, ℕ, IfOk, OnOk, length, filter, ◌&&◌, slice_index_or};
+ghost use Rattle.std.specs.Option.{option_copied};
+ghost use Rattle.std.specs.Ordering.{nat_cmp};
+ghost use Rattle.std.specs.BTreeMap.{get};
+ghost use Rattle.std.specs.BTreeSet.{IsOrdered};
+ghost use Rattle.okws_plan.specs.Meaning.{meets_all, operand, nothing};
+ghost use Rattle.index_keeper.specs.Slots.{slot_cmp, places_in};
+ghost use Rattle.index_keeper.specs.Places.{places_where, leading, passes_at, is_indexed, is_equality};
+
+use crate::slot::Slot;
+use crate::slots::places_at;
+use crate::steps::Steps;
+use okws_base::value::{Row, Value};
+use okws_plan::meaning::meets_every;
+use okws_plan::statement::{Comparison, Condition, Operand};
+use std::alloc::{AllocError, Global};
+use std::collections::{BTreeMap, BTreeSet};
+use std::sync::ledger::Ledger;
+
+fn leads(columns: &[u8], condition: &Condition) -> bool
+    ensures { result ≡ (is_equality condition.now.comparison && is_indexed columns.now condition.now.column) }
+{
+    condition.comparison == Comparison::Equal && columns.contains(&condition.column)
+}
+
+/// The condition by which rows are looked up, if there is one.
+pub fn leading_of<'a>(columns: &[u8], conditions: &'a [Condition]) -> Option<&'a Condition>
+    ensures { option_copied result ≡ leading columns.now conditions.now }
+{
+    conditions
+        .iter()
+        .find(|condition| leads(columns, condition))
+}
+
+// The value of an operand; `other` stands for an argument that isn't there.
+fn value_of<'a>(args: &'a [Value], given: &'a Operand, other: &'a Value) -> &'a Value
+    requires { other.now ≡ nothing }
+    ensures { result.now ≡ operand args.now given.now }
+{
+    match given {
+        Operand::Parameter(n) => at(args, n.saturating_sub(1) as usize, other),
+        Operand::Literal(value) => value,
+    }
+}
+
+/// The value at a place, or `other` where there is none.
+pub fn at<'a>(values: &'a [Value], place: usize, other: &'a Value) -> &'a Value
+    ensures { result.now ≡ slice_index_or values.now place other.now }
+{
+    if place < values.len() {
+        &values[place]
+    } else {
+        other
+    }
+}
+
+/// The places in the slots that have what the condition compares with in its column, ascending.
+pub fn candidates(
+    alloc: Global,
+    args: &[Value],
+    condition: &Condition,
+    slots: &BTreeSet<Slot>,
+) -> Result<Vec<u64>, AllocError>
+    ensures places { IfOk result (λ v. v.items ≡ places_in condition.now.column (operand args.now condition.now.operand) slots.now.keys) }
+    ensures ordered { OnOk result (IsOrdered slot_cmp slots.now) }
+{
+    let other = Value::Int(0);
+    let value = value_of(args, &condition.operand, &other);
+    places_at(alloc, slots, condition.column, value)
+}
+
+/// The places of the rows that meet the conditions; all rows are tested.
+pub fn scanned<L: Ledger>(
+    alloc: Global,
+    args: &[Value],
+    conditions: &[Condition],
+    rows: &BTreeMap<u64, Row>,
+    steps: &mut Steps<L>,
+) -> Result<Vec<u64>, AllocError>
+    ensures places { IfOk result (λ v. v.items ≡ places_where (meets_all args.now conditions.now) rows.now.entries) }
+    ensures tested { OnOk result (steps.new ≡ steps.old + length rows.now.entries) }
+    ensures most { steps.new ≤ steps.old + length rows.now.entries }
+{
+    let mut places = Vec::new(alloc);
+    for (place, row) in rows {
+        steps.tick();
+        if meets_every(args, conditions, row.as_slice()) {
+            places.push(*place)?;
+        }
+    }
+    Ok(places)
+}
+
+/// Those of the places whose rows meet the conditions; only their rows are tested.
+pub fn met_among<L: Ledger>(
+    alloc: Global,
+    args: &[Value],
+    conditions: &[Condition],
+    rows: &BTreeMap<u64, Row>,
+    places: &[u64],
+    steps: &mut Steps<L>,
+) -> Result<Vec<u64>, AllocError>
+    ensures places { IfOk result (λ v. v.items ≡ filter (λ (p : ℕ). passes_at (meets_all args.now conditions.now) (get nat_cmp rows.now p)) places.now) }
+    ensures tested { OnOk result (steps.new ≡ steps.old + length places.now) }
+    ensures most { steps.new ≤ steps.old + length places.now }
+{
+    let mut met = Vec::new(alloc);
+    for place in places {
+        steps.tick();
+        if meets_at(args, conditions, rows, *place) {
+            met.push(*place)?;
+        }
+    }
+    Ok(met)
+}
+
+fn meets_at(args: &[Value], conditions: &[Condition], rows: &BTreeMap<u64, Row>, place: u64) -> bool
+    ensures { result ≡ passes_at (meets_all args.now conditions.now) (get nat_cmp rows.now place) }
+{
+    match rows.get(&place) {
+        None => false,
+        Some(row) => meets_every(args, conditions, row.as_slice()),
+    }
+}

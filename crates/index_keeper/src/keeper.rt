@@ -1,0 +1,143 @@
+//! The keeper.
+
+ghost use Rattle.std.specs.Prelude.{◌≡◌, ◌+◌, ◌≤◌, true, Some, map, length, slice_set, IfOk, OnOk, OnErr};
+ghost use Rattle.okws_plan.specs.Fits.{fits};
+ghost use Rattle.okws_plan.specs.Rules.{keeps_rules};
+ghost use Rattle.okws_plan.specs.Meaning.{mean_on};
+ghost use Rattle.index_keeper.specs.Places.{rows_of};
+ghost use Rattle.index_keeper.specs.Indexed.{hit_places, hit_tests, wanted_by};
+
+use crate::declared::{conditions, wanted_columns};
+use crate::rows::TableRows;
+use crate::steps::Steps;
+use okws_base::items::{Exact, copies};
+use okws_base::value::{Row, Value};
+use okws_outer::keeper::{Keeper, RunError};
+use okws_plan::configuration::{Column, Query, Table};
+use okws_plan::meaning::columns_at;
+use okws_plan::statement::{Action, Answer, Statement};
+use std::alloc::{AllocError, Global};
+use std::marker::Brand;
+use std::sync::ledger::{Blank, Ledger};
+
+/// The rows of some tables, which are found by the KEY and by each column that some query compares
+/// by `=`. It tells them, and no call fails. A call by such a column takes time in line with the
+/// rows that have the value there, and the logarithm of the table's rows; another one in line with
+/// the table's rows. An ordered SELECT sorts its hits besides.
+#[derive(Drop)]
+pub struct IndexKeeper {
+    tables: Vec<Table>,
+    rows: Vec<TableRows>,
+    ghost whole: { length rows.items ≡ length tables.items },
+}
+
+impl IndexKeeper {
+    /// A keeper for these tables, with their first rows and with indexes for these queries.
+    pub fn new(alloc: Global, tables: &[Table], queries: &[Query]) -> Result<Self, AllocError>
+        ensures tables { IfOk result (λ k. ⟦<IndexKeeper as Keeper>⟧.tables k ≡ tables.now) }
+        ensures told { IfOk result (λ k. ⟦<IndexKeeper as Keeper>⟧.told k ≡ Some (map (λ t. t.first) tables.now)) }
+        ensures faults { IfOk result (λ k. ⟦<IndexKeeper as Keeper>⟧.faults k ≡ 0) }
+        ensures steady { IfOk result (λ k. ⟦<IndexKeeper as Keeper>⟧.steady k ≡ true) }
+        ensures indexed { IfOk result (λ k. map (λ r. r.columns) k.rows.items ≡ wanted_by tables.now queries.now) }
+    {
+        Ok(IndexKeeper {
+            rows: first_rows(alloc, tables, queries)?,
+            tables: copies(alloc, tables)?,
+        })
+    }
+
+    /// The places of a statement's hits, ascending; an INSERT has none. A step is counted for each
+    /// row that is tested.
+    pub fn hits<L: Ledger>(
+        &self,
+        alloc: Global,
+        statement: &Statement,
+        args: &[Value],
+        steps: &mut Steps<L>,
+    ) -> Result<Vec<u64>, AllocError>
+        requires fits { fits statement.now.parameters args.now ≡ true }
+        requires rules { keeps_rules (⟦<IndexKeeper as Keeper>⟧.tables self.now) statement.now ≡ true }
+        ensures places { IfOk result (λ v. v.items ≡ hit_places self.now.rows.items statement.now.table statement.now.action args.now) }
+        ensures tested { OnOk result (steps.new ≡ steps.old + hit_tests self.now.rows.items statement.now.table statement.now.action args.now) }
+        ensures most { steps.new ≤ steps.old + hit_tests self.now.rows.items statement.now.table statement.now.action args.now }
+    {
+        let action = &statement.action;
+        if let Action::Insert { values: _ } = action {
+            return Ok(Vec::new(alloc));
+        }
+        let Some(rows) = self.rows.get(statement.table as usize) else {
+            return Ok(Vec::new(alloc));
+        };
+        rows.hits(alloc, args, conditions(action), steps)
+    }
+}
+
+fn first_rows(
+    alloc: Global,
+    tables: &[Table],
+    queries: &[Query],
+) -> Result<Vec<TableRows>, AllocError>
+    ensures rows { IfOk result (λ v. map (λ r. rows_of r.entries) v.items ≡ map (λ t. t.first) tables.now) }
+    ensures columns { IfOk result (λ v. map (λ r. r.columns) v.items ≡ wanted_by tables.now queries.now) }
+{
+    let mut rows = Vec::new(alloc);
+    for table in 0..tables.len() {
+        let columns = wanted_columns(alloc, queries, table, columns_at(tables, table))?;
+        rows.push(filled(alloc, columns, tables[table].first.as_slice())?)?;
+    }
+    Ok(rows)
+}
+
+fn filled(alloc: Global, columns: Vec<u8>, first: &[Row]) -> Result<TableRows, AllocError>
+    ensures columns { IfOk result (λ r. r.columns ≡ columns.items) }
+    ensures rows { IfOk result (λ r. rows_of r.entries ≡ first.now) }
+{
+    let mut rows = TableRows::new(alloc, columns);
+    for row in first {
+        rows.push(alloc, row.copy(alloc)?)?;
+    }
+    Ok(rows)
+}
+
+// Runs an action where nobody asks how many rows are tested.
+fn run_on<L: Ledger>(
+    rows: &mut TableRows,
+    alloc: Global,
+    columns: &[Column],
+    action: &Action,
+    args: &[Value],
+    blank: Blank,
+) -> Result<Answer, AllocError>
+    requires name { blank.name ≡ L.name }
+    requires parts { blank.parts ≡ L.parts }
+    requires one { blank.parts ≡ 1 }
+    ensures ok { IfOk result (λ answer. (answer, rows_of rows.new.entries) ≡ mean_on columns.now action.now args.now (rows_of rows.old.entries)) }
+    ensures err { OnErr result (rows.new ≡ rows.old) }
+{
+    let mut steps = Steps::<L>::new(blank);
+    rows.run(alloc, columns, action, args, &mut steps)
+}
+
+impl Keeper for IndexKeeper {
+    ghost tables = { λ k. k.tables.items };
+
+    ghost told = { λ k. Some (map (λ r. rows_of r.entries) k.rows.items) };
+
+    ghost faults = { λ _. 0 };
+
+    ghost steady = { λ _. true };
+
+    fn run(
+        &mut self,
+        alloc: Global,
+        statement: &Statement,
+        args: &[Value],
+    ) -> Result<Answer, RunError> {
+        let table = statement.table as usize;
+        let columns = columns_at(&self.tables, table);
+        let rows = &mut self.rows[table];
+        let action = &statement.action;
+        let answer = run_on::<Brand>(rows, alloc, columns, action, args, Blank::new(1))?;
+        Ok(answer)
+    }
+}

@@ -1,0 +1,292 @@
+//! The rows of one table, with an index.
+
+ghost use Rattle.std.specs.Prelude.{◌≡◌, ◌+◌, ◌≤◌, ◌++◌, ◌∷◌, [], ◌==◌, true, ℕ, IfOk, OnOk, OnErr, length, map, Some};
+ghost use Rattle.std.specs.List.{list_any, filter_map, find};
+ghost use Rattle.std.specs.BTreeMap.{values};
+ghost use Rattle.std.specs.List.Sorted.{IsStrictlySortedBy};
+ghost use Rattle.std.specs.Ordering.{nat_cmp};
+ghost use Rattle.std.specs.Map.{keys_of};
+ghost use Rattle.okws_base.specs.Value.{value_eq};
+ghost use Rattle.okws_plan.specs.Meaning.{nothing, mean_on, meets_all, at_column, selection_answer, is_taken};
+ghost use Rattle.okws_plan.specs.Meaning.{hits, misses, updated, assigned, inserted, row_of};
+ghost use Rattle.index_keeper.specs.Places.{places_where, rows_of, tests, is_indexed};
+ghost use Rattle.index_keeper.specs.Changes.{row_at, changed, changes_at};
+
+use crate::answering::{answer, rows_at};
+use crate::changing::{Change, append, apply};
+use crate::declared::key_column;
+use crate::editing::{removals, replacements};
+use crate::finding::{at, candidates, leading_of, met_among, scanned};
+use crate::slot::Slot;
+use crate::slots::places_at;
+use crate::steps::Steps;
+use okws_base::value::{Row, Value};
+use okws_plan::configuration::Column;
+use okws_plan::meaning::new_row;
+use okws_plan::statement::{Action, Answer, Assignment, Condition, Operand, Selection};
+use std::alloc::{AllocError, Global};
+use std::collections::{BTreeMap, BTreeSet};
+use std::marker::Model;
+use std::sync::ledger::Ledger;
+
+/// The rows of one table at their places, the next place, and the slots of the columns that have an
+/// index. Contracts see the columns, and the rows with their places.
+#[derive(Drop)]
+pub struct TableRows {
+    columns: Vec<u8>,
+    rows: BTreeMap<u64, Row>,
+    next: u64,
+    slots: BTreeSet<Slot>,
+}
+
+impl Model for TableRows {
+    ghost use Rattle.index_keeper.specs.Places.{Indexed, IsSound};
+
+    ghost Value = { Indexed };
+
+    ghost view = { λ a. record { columns = a.columns.items; entries = a.rows.entries } };
+
+    ghost invariant = { λ a. IsSound a.columns.items a.rows a.next a.slots };
+}
+
+impl TableRows {
+    /// The places of the rows that meet the conditions, ascending. A step is counted for each row
+    /// that is tested.
+    pub fn hits<L: Ledger>(
+        &self,
+        alloc: Global,
+        args: &[Value],
+        conditions: &[Condition],
+        steps: &mut Steps<L>,
+    ) -> Result<Vec<u64>, AllocError>
+        ensures places { IfOk result (λ v. v.items ≡ places_where (meets_all args.now conditions.now) self.now.entries) }
+        ensures tested { OnOk result (steps.new ≡ steps.old + tests self.now.columns args.now conditions.now (rows_of self.now.entries)) }
+        ensures most { steps.new ≤ steps.old + tests self.now.columns args.now conditions.now (rows_of self.now.entries) }
+        ensures rise { IsStrictlySortedBy nat_cmp (keys_of self.now.entries) }
+    {
+        let Some(condition) = leading_of(&self.columns, conditions) else {
+            return scanned(alloc, args, conditions, &self.rows, steps);
+        };
+        let places = candidates(alloc, args, condition, &self.slots)?;
+        met_among(alloc, args, conditions, &self.rows, &places, steps)
+    }
+
+    /// No rows, with an index by each of these columns.
+    pub fn new(alloc: Global, columns: Vec<u8>) -> TableRows
+        ensures { result ≡ record { columns = columns.items; entries = [] } }
+    {
+        TableRows {
+            columns,
+            rows: BTreeMap::new(alloc),
+            next: 0,
+            slots: BTreeSet::new(alloc),
+        }
+    }
+
+    /// Puts a row behind the others; where memory is refused, the rows are as they were.
+    pub fn push(&mut self, alloc: Global, row: Row) -> Result<(), AllocError>
+        ensures columns { self.new.columns ≡ self.old.columns }
+        ensures rows { OnOk result (rows_of self.new.entries ≡ rows_of self.old.entries ++ row ∷ []) }
+        ensures err { OnErr result (self.new ≡ self.old) }
+    {
+        let place = self.next;
+        let Some(next) = place.checked_add(1) else {
+            return Err(AllocError);
+        };
+        let columns = &self.columns;
+        append(alloc, columns, &mut self.rows, &mut self.slots, place, row)?;
+        self.next = next;
+        Ok(())
+    }
+
+    /// Does what the action means, and counts a step for each row that is tested to find its hits;
+    /// where memory is refused, the rows are as they were.
+    pub fn run<L: Ledger>(
+        &mut self,
+        alloc: Global,
+        columns: &[Column],
+        action: &Action,
+        args: &[Value],
+        steps: &mut Steps<L>,
+    ) -> Result<Answer, AllocError>
+        ensures columns { self.new.columns ≡ self.old.columns }
+        ensures ok { IfOk result (λ answer. (answer, rows_of self.new.entries) ≡ mean_on columns.now action.now args.now (rows_of self.old.entries)) }
+        ensures err { OnErr result (self.new ≡ self.old) }
+    {
+        match action {
+            Action::Select(selection) => self.select(alloc, args, selection, steps),
+            Action::Insert { values } => self.insert(alloc, columns, values.as_slice(), args),
+            Action::Update {
+                assignments,
+                conditions,
+            } => {
+                let assignments = assignments.as_slice();
+                self.update(alloc, args, assignments, conditions.as_slice(), steps)
+            }
+            Action::Delete { conditions } => {
+                self.delete(alloc, args, conditions.as_slice(), steps)
+            }
+        }
+    }
+
+    fn select<L: Ledger>(
+        &self,
+        alloc: Global,
+        args: &[Value],
+        selection: &Selection,
+        steps: &mut Steps<L>,
+    ) -> Result<Answer, AllocError>
+        ensures { IfOk result (λ answer. answer ≡ selection_answer args.now selection.now (rows_of self.now.entries)) }
+    {
+        let places = self.hits(alloc, args, selection.conditions.as_slice(), steps)?;
+        let found = self.rows_at(alloc, &places)?;
+        answer(alloc, selection, found)
+    }
+
+    fn insert(
+        &mut self,
+        alloc: Global,
+        columns: &[Column],
+        values: &[Operand],
+        args: &[Value],
+    ) -> Result<Answer, AllocError>
+        ensures columns { self.new.columns ≡ self.old.columns }
+        ensures ok { IfOk result (λ answer. (answer, rows_of self.new.entries) ≡ inserted (is_taken columns.now (rows_of self.old.entries) (row_of args.now values.now)) (rows_of self.old.entries) (row_of args.now values.now)) }
+        ensures err { OnErr result (self.new ≡ self.old) }
+    {
+        let new = new_row(alloc, args, values)?;
+        if self.is_taken(alloc, columns, new.as_slice())? {
+            return Ok(Answer::Duplicate);
+        }
+        self.push(alloc, new)?;
+        Ok(Answer::Changed(1))
+    }
+
+    fn update<L: Ledger>(
+        &mut self,
+        alloc: Global,
+        args: &[Value],
+        assignments: &[Assignment],
+        conditions: &[Condition],
+        steps: &mut Steps<L>,
+    ) -> Result<Answer, AllocError>
+        ensures columns { self.new.columns ≡ self.old.columns }
+        ensures answer { IfOk result (λ answer. answer ≡ Answer.Changed (length (hits args.now conditions.now (rows_of self.old.entries)))) }
+        ensures rows { OnOk result (rows_of self.new.entries ≡ updated args.now assignments.now conditions.now (rows_of self.old.entries)) }
+        ensures err { OnErr result (self.new ≡ self.old) }
+    {
+        let places = self.hits(alloc, args, conditions, steps)?;
+        let count = count_of(&places);
+        let changes = self.replacements(alloc, args, assignments, &places)?;
+        self.change(alloc, changes)?;
+        Ok(Answer::Changed(count))
+    }
+
+    fn delete<L: Ledger>(
+        &mut self,
+        alloc: Global,
+        args: &[Value],
+        conditions: &[Condition],
+        steps: &mut Steps<L>,
+    ) -> Result<Answer, AllocError>
+        ensures columns { self.new.columns ≡ self.old.columns }
+        ensures answer { IfOk result (λ answer. answer ≡ Answer.Changed (length (hits args.now conditions.now (rows_of self.old.entries)))) }
+        ensures rows { OnOk result (rows_of self.new.entries ≡ misses args.now conditions.now (rows_of self.old.entries)) }
+        ensures err { OnErr result (self.new ≡ self.old) }
+    {
+        let places = self.hits(alloc, args, conditions, steps)?;
+        let count = count_of(&places);
+        let changes = removals(alloc, &places)?;
+        self.change(alloc, changes)?;
+        Ok(Answer::Changed(count))
+    }
+
+    // Whether the KEY value of the new row is in a row already.
+    fn is_taken(&self, alloc: Global, columns: &[Column], new: &[Value]) -> Result<bool, AllocError>
+        ensures { IfOk result (λ b. b ≡ is_taken columns.now (rows_of self.now.entries) new.now) }
+    {
+        match key_column(columns) {
+            None => Ok(false),
+            Some(key) => self.has_value(alloc, key, new),
+        }
+    }
+
+    // Whether a row has the value of another one in this column.
+    fn has_value(&self, alloc: Global, column: usize, new: &[Value]) -> Result<bool, AllocError>
+        ensures { IfOk result (λ b. b ≡ list_any (λ row. value_eq (at_column row column) (at_column new.now column)) (rows_of self.now.entries)) }
+    {
+        let other = Value::Int(0);
+        let value = at(new, column, &other);
+        match own_column(&self.columns, column) {
+            None => Ok(any_has(&self.rows, column, value, &other)),
+            Some(own) => self.has_indexed(alloc, own, value),
+        }
+    }
+
+    // Whether a row has the value in a column that has an index.
+    fn has_indexed(&self, alloc: Global, own: u8, value: &Value) -> Result<bool, AllocError>
+        requires { is_indexed self.now.columns own ≡ true }
+        ensures { IfOk result (λ b. b ≡ list_any (λ row. value_eq (at_column row own) value.now) (rows_of self.now.entries)) }
+    {
+        let places = places_at(alloc, &self.slots, own, value)?;
+        let count = count_of(&places);
+        Ok(count != 0)
+    }
+
+    fn replacements(
+        &self,
+        alloc: Global,
+        args: &[Value],
+        assignments: &[Assignment],
+        places: &[u64],
+    ) -> Result<Vec<Change>, AllocError>
+        ensures { IfOk result (λ v. v.items ≡ changes_at (λ row. Some (assigned args.now assignments.now row)) (row_at self.now.entries) places.now) }
+    {
+        replacements(alloc, args, assignments, &self.rows, places)
+    }
+
+    fn rows_at(&self, alloc: Global, places: &[u64]) -> Result<Vec<Row>, AllocError>
+        ensures { IfOk result (λ v. v.items ≡ filter_map (row_at self.now.entries) places.now) }
+    {
+        rows_at(alloc, &self.rows, places)
+    }
+
+    // Makes the changes, or none of them where memory is refused.
+    fn change(&mut self, alloc: Global, changes: Vec<Change>) -> Result<(), AllocError>
+        requires { IsStrictlySortedBy nat_cmp (map (λ ch. ch.place) changes.items) }
+        ensures columns { self.new.columns ≡ self.old.columns }
+        ensures rows { OnOk result ((p : ℕ) → row_at self.new.entries p ≡ changed changes.items (row_at self.old.entries p) p) }
+        ensures rose { IsStrictlySortedBy nat_cmp (keys_of self.old.entries) }
+        ensures rises { IsStrictlySortedBy nat_cmp (keys_of self.new.entries) }
+        ensures err { OnErr result (self.new ≡ self.old) }
+    {
+        apply(
+            alloc,
+            &self.columns,
+            &mut self.rows,
+            &mut self.slots,
+            changes,
+        )
+    }
+}
+
+fn count_of(places: &[u64]) -> u64
+    ensures { result ≡ length places.now }
+{
+    places.len() as u64
+}
+
+// The number of a column, where it has an index.
+fn own_column(columns: &[u8], column: usize) -> Option<u8>
+    ensures { result ≡ find (λ d. d == column) columns.now }
+{
+    columns.iter().copied().find(|own| *own as usize == column)
+}
+
+fn any_has(rows: &BTreeMap<u64, Row>, column: usize, value: &Value, other: &Value) -> bool
+    requires { other.now ≡ nothing }
+    ensures { result ≡ list_any (λ row. value_eq (at_column row column) value.now) (values rows.now) }
+{
+    rows.values()
+        .any(|row| at(row.as_slice(), column, other).same(value))
+}

@@ -2,6 +2,8 @@ pub mod Ended
 pub mod Files
 pub mod Monitored
 pub mod InOrder
+pub mod Off
 mod Ordering
 pub mod Said
 pub mod ScriptLines
+pub mod Sents

@@ -1,5 +1,5 @@
 -- How the lines of a script follow one another.
-use Rattle.std.proofs.Common.{◌≡◌, ◌∙◌, ℕ, ◌+◌, Bool, List, [], ◌∷◌, ◌++◌, length, reverse, Option, Some, None, option_map, refl, sym, ap, subst, arith, append_assoc, append-nil}
+use Rattle.std.proofs.Common.{◌≡◌, ◌∙◌, ℕ, ◌+◌, Bool, List, [], ◌∷◌, ◌++◌, length, reverse, Option, Some, None, option_map, refl, sym, ap, subst, arith, append_assoc, append-nil, inl, inr}
 use Rattle.std.proofs.lemmas.List.{reverse-append}
 use Rattle.std.proofs.lemmas.Grind.{common_steps}
 use Rattle.std.specs.declared.result.Result.{Result}
@@ -10,15 +10,18 @@ use Rattle.okws_plan.specs.Lines.{LineFits}
 use Rattle.okws_plan.specs.declared.configuration.Config.{Config}
 use Rattle.okws_plan.specs.declared.script.Line.{Line}
 use Rattle.monitor_model.specs.Stage.{Stage, first_stage}
+use Rattle.monitor_model.specs.Script.{Does}
 use Rattle.play_script.specs.Reading.{ReadFits, script_reads}
+use Rattle.play_script.specs.Rule.{script_rule_number}
 use Rattle.play_script.specs.declared.reading.LineRead.{LineRead}
 use Rattle.play_script.specs.declared.reading.LineRead.TheVariants as read
 use Rattle.play_script.specs.declared.rule.ScriptRule.{ScriptRule}
-use Rattle.okws_outer.specs.Printing.{Prints}
-use Rattle.okws_outer.proofs.Printed.{prints_nothing, prints_then}
+use Rattle.okws_outer.specs.Printing.{Printer, PrintsOn, PrintsFront}
+use Rattle.okws_outer.proofs.Printed.{then_on, whole_front, front_then}
 use Rattle.okws_play.specs.Run.{Run, at_stage}
 use Rattle.okws_play.specs.Played.{PlayedLine}
-use Rattle.okws_server.specs.Script.{before_lines, said_by, PlaysRead, Breaks, HasPlayed, IsBrokenAt, PlayedRead}
+use Rattle.okws_server.specs.Script.{before_lines, said_by, PlaysRead, Breaks, HasPlayed, IsBrokenAt, IsDue, PlayedRead, PlayedLines}
+use Rattle.okws_server.specs.declared.script.Broken.{Broken}
 
 -- what holds of all and of one more
 each_more : {A : Type 0} (P : A → Type 0) (xs : List A) (x : A) → Each P xs → P x → Each P (xs ++ x ∷ [])
@@ -78,34 +81,121 @@ played_more C seed reads (read.Says line) printed text S now h fits step = recor
 }
 
 -- a line that was read and says something is played as that line
-pub played_says : (run after : Run) (line : Line) (prints : List ℕ → Type 0) (r : Result (Option ScriptRule) AllocError) →
-    PlayedLine run line prints r after → PlayedRead run (read.Says line) prints r after
-played_says run after line prints (Ok None) h = h
-played_says run after line prints (Ok (Some rule)) h = h
-played_says run after line prints (Err e) h = h
+pub played_says : (run after : Run) (line : Line) (a b : Printer) (r : Result (Option ScriptRule) AllocError) →
+    PlayedLine run line a b r after → PlayedRead run (read.Says line) a b r after
+played_says run after line a b (Ok None) h = h
+played_says run after line a b (Ok (Some rule)) h = h
+played_says run after line a b (Err e) h = (line, h.0, h.1, refl, h.2, h.3)
 
 -- where no rule is broken
-pub read_on : (run after : Run) (one : LineRead) (prints : List ℕ → Type 0) (found : Option ScriptRule) → found ≡ None → PlayedRead run one prints (Ok found) after →
-    PlayedRead run one prints (Ok None) after
-read_on run after one prints found e h = subst (λ (o : Option ScriptRule). PlayedRead run one prints (Ok o) after) e h
+pub read_on : (run after : Run) (one : LineRead) (a b : Printer) (found : Option ScriptRule) → found ≡ None → PlayedRead run one a b (Ok found) after →
+    PlayedRead run one a b (Ok None) after
+read_on run after one a b found e h = subst (λ (o : Option ScriptRule). PlayedRead run one a b (Ok o) after) e h
+
+-- how far a run has come: it played these lines that were read, which print this, and the rest of the script is still to be read
+pub record ComesTo (C : Config) (first run : Run) (whole rest : List LineRead) (n : ℕ) (a b : Printer) : Type 0 where
+  pub reads : List LineRead
+  pub printed : List ℕ
+  pub parts : whole ≡ reads ++ rest
+  pub number : n ≡ length reads
+  pub played : HasPlayed C first.seed reads printed run.stage
+  pub same : run ≡ at_stage first run.stage
+  pub on : PrintsOn a b printed
+
+-- the line that comes next was read
+pub reads_on : (C : Config) (first run : Run) (whole rest next : List LineRead) (n : ℕ) (a b : Printer) → rest ≡ next → ComesTo C first run whole rest n a b → ComesTo C first run whole next n a b
+reads_on C first run whole rest next n a b e i = subst (λ (r : List LineRead). ComesTo C first run whole r n a b) e i
 
 -- the lines so far, with a line more
-pub lines_more : (C : Config) (first run after : Run) (whole reads more : List LineRead) (one : LineRead) (printed : List ℕ) (n : ℕ) (old mid new : Option (List ℕ)) (s t u : Bool) →
-    first.config ≡ C → run ≡ at_stage first run.stage → whole ≡ reads ++ one ∷ more → n ≡ length reads → HasPlayed C first.seed reads printed run.stage → Prints old s mid t printed →
-    ReadFits C one → PlayedRead run one (Prints mid t new u) (Ok None) after →
-    (reads' : List LineRead) × (printed' : List ℕ) × (whole ≡ reads' ++ more) × (n + 1 ≡ length reads') × HasPlayed C first.seed reads' printed' after.stage × Prints old s new u printed'
-lines_more C first run after whole reads more one printed n old mid new s t u config_is same parts number played prints fits step =
-    let config_at : run.config ≡ C = ap (λ (r : Run). r.config) same ∙ config_is in
-    let seed_at : run.seed ≡ first.seed = ap (λ (r : Run). r.seed) same in
-    let plays : PlaysRead C first.seed one run.stage step.0 after.stage = subst (λ (D : Config). PlaysRead D first.seed one run.stage step.0 after.stage) config_at (subst (λ (x : List ℕ). PlaysRead run.config x one run.stage step.0 after.stage) seed_at step.1) in (
-      reads ++ one ∷ [],
-      printed ++ step.0,
-      parts ∙ sym (append_assoc reads (one ∷ []) more),
-      grind (arith, common_steps),
-      played_more C first.seed reads one printed step.0 run.stage after.stage played fits plays,
-      prints_then old mid new s t u printed step.0 prints step.3,
-    )
+pub lines_more : (C : Config) (first run after : Run) (whole more : List LineRead) (one : LineRead) (n : ℕ) (a b c : Printer) →
+    first.config ≡ C → ComesTo C first run whole (one ∷ more) n a b → ReadFits C one → PlayedRead run one b c (Ok None) after → ComesTo C first after whole more (n + 1) a c
+lines_more C first run after whole more one n a b c config_is i fits step =
+    let config_at : run.config ≡ C = ap (λ (r : Run). r.config) i.same ∙ config_is in
+    let seed_at : run.seed ≡ first.seed = ap (λ (r : Run). r.seed) i.same in
+    let plays : PlaysRead C first.seed one run.stage step.0 after.stage = subst (λ (D : Config). PlaysRead D first.seed one run.stage step.0 after.stage) config_at (subst (λ (x : List ℕ). PlaysRead run.config x one run.stage step.0 after.stage) seed_at step.1) in
+    record {
+      reads = i.reads ++ one ∷ [];
+      printed = i.printed ++ step.0;
+      parts = i.parts ∙ sym (append_assoc i.reads (one ∷ []) more);
+      number = grind (arith, common_steps, i.number);
+      played = played_more C first.seed i.reads one i.printed step.0 run.stage after.stage i.played fits plays;
+      same = step.2 ∙ ap (λ (r : Run). at_stage r after.stage) i.same;
+      on = then_on a b c i.printed step.0 i.on step.3;
+    }
 
--- nothing but the stage changed
-pub same_more : (first run after : Run) (one : LineRead) (prints : List ℕ → Type 0) → run ≡ at_stage first run.stage → PlayedRead run one prints (Ok None) after → after ≡ at_stage first after.stage
-same_more first run after one prints same step = step.2 ∙ ap (λ (r : Run). at_stage r after.stage) same
+-- what is due of lines that were played
+due_of : (C : Config) (seed text printed : List ℕ) (front rest : List LineRead) (S : Stage) → script_reads C text ≡ front ++ rest → HasPlayed C seed front printed S → IsDue C seed text printed
+due_of C seed text printed front rest S parts h = record {
+  front = front;
+  rest = rest;
+  parts = parts;
+  lines = h.lines;
+  says = h.says;
+  printed = printed;
+  stage = S;
+  plays = h.plays;
+  last = [];
+  next = inl refl;
+  due_is = sym (append-nil printed);
+}
+
+-- memory was refused before the next line was read
+pub breaks_between : (C : Config) (first run : Run) (text : List ℕ) (rest : List LineRead) (n : ℕ) (a b : Printer) → first.config ≡ C →
+    ComesTo C first run (script_reads C text) rest n a b → (due : List ℕ) × IsDue first.config first.seed text due × PrintsFront a b due
+breaks_between C first run text rest n a b config_is i =
+    let due : IsDue C first.seed text i.printed = due_of C first.seed text i.printed i.reads rest run.stage i.parts i.played in
+    (i.printed, subst (λ (D : Config). IsDue D first.seed text i.printed) (sym config_is) due, rw (append-nil i.printed) at (whole_front a b i.printed [] i.on))
+
+-- memory was refused in the next line
+pub breaks_within : (C : Config) (first run after : Run) (text : List ℕ) (more : List LineRead) (one : LineRead) (n : ℕ) (a b c : Printer) (e : AllocError) → first.config ≡ C →
+    ComesTo C first run (script_reads C text) (one ∷ more) n a b → PlayedRead run one b c (Err e) after → (due : List ℕ) × IsDue first.config first.seed text due × PrintsFront a c due
+breaks_within C first run after text more one n a b c e config_is i step =
+    let config_at : run.config ≡ C = ap (λ (r : Run). r.config) i.same ∙ config_is in
+    let seed_at : run.seed ≡ first.seed = ap (λ (r : Run). r.seed) i.same in
+    let does : Does C first.seed step.0 run.stage step.1 step.2 = subst (λ (D : Config). Does D first.seed step.0 run.stage step.1 step.2) config_at (subst (λ (x : List ℕ). Does run.config x step.0 run.stage step.1 step.2) seed_at step.4) in
+    let due : IsDue C first.seed text (i.printed ++ step.1) = record {
+      front = i.reads;
+      rest = one ∷ more;
+      parts = i.parts;
+      lines = i.played.lines;
+      says = i.played.says;
+      printed = i.printed;
+      stage = run.stage;
+      plays = i.played.plays;
+      last = step.1;
+      next = inr (step.0, more, step.2, ap (λ (l : LineRead). l ∷ more) step.3, does);
+      due_is = refl;
+    } in
+    (i.printed ++ step.1, subst (λ (D : Config). IsDue D first.seed text (i.printed ++ step.1)) (sym config_is) due, front_then a b c i.printed step.1 i.on step.5)
+
+-- what is due of lines that were played to their end, or up to one that is broken
+pub due_played : (run after : Run) (text : List ℕ) (found : Option Broken) (a b : Printer) → PlayedLines run text a b (Ok found) after →
+    (due : List ℕ) × IsDue run.config run.seed text due × PrintsFront a b due
+due_played run after text None a b h =
+    (h.0, due_of run.config run.seed text h.0 (script_reads run.config text) [] after.stage (sym (append-nil (script_reads run.config text))) h.1, rw (append-nil h.0) at (whole_front a b h.0 [] h.3))
+due_played run after text (Some found) a b h =
+    (h.0, due_of run.config run.seed text h.0 h.1.front (h.1.broken ∷ h.1.rest) after.stage h.1.parts h.1.played, rw (append-nil h.0) at (whole_front a b h.0 [] h.3))
+
+-- the next line breaks a rule
+pub lines_broken : (C : Config) (first run after : Run) (text : List ℕ) (more : List LineRead) (one : LineRead) (n : ℕ) (rule : ScriptRule) (found : Option ScriptRule) (a b c : Printer) →
+    first.config ≡ C → found ≡ Some rule → ComesTo C first run (script_reads C text) (one ∷ more) n a b → PlayedRead run one b c (Ok found) after →
+    (printed : List ℕ) × IsBrokenAt first.config first.seed text printed after.stage (n + 1) (script_rule_number rule) × (after ≡ at_stage first after.stage) × PrintsOn a c printed
+lines_broken C first run after text more one n rule found a b c config_is e i h =
+    let step : Breaks one run.stage (script_rule_number rule) × (after ≡ run) × PrintsOn b c [] = subst (λ (o : Option ScriptRule). PlayedRead run one b c (Ok o) after) e h in
+    let on : PrintsOn a c (i.printed ++ []) = then_on a b c i.printed [] i.on step.2 in
+    let broken : IsBrokenAt C first.seed text i.printed run.stage (n + 1) (script_rule_number rule) = record {
+      front = i.reads;
+      broken = one;
+      rest = more;
+      parts = i.parts;
+      number = ap (λ (k : ℕ). k + 1) i.number;
+      played = i.played;
+      breaks = step.0;
+    } in
+    let here : IsBrokenAt first.config first.seed text i.printed run.stage (n + 1) (script_rule_number rule) =
+    subst (λ (D : Config). IsBrokenAt D first.seed text i.printed run.stage (n + 1) (script_rule_number rule)) (sym config_is) broken in (
+      i.printed,
+      subst (λ (S : Stage). IsBrokenAt first.config first.seed text i.printed S (n + 1) (script_rule_number rule)) (sym (ap (λ (r : Run). r.stage) step.1)) here,
+      subst (λ (r : Run). r ≡ at_stage first r.stage) (sym step.1) i.same,
+      rw (append-nil i.printed) at on,
+    )

@@ -38,6 +38,13 @@ pub record Told (old new : Option (List ℕ)) (due : List ℕ) (out_rose : Type 
   pub part : AppendsPrefix old new due
   pub whole : Appends old new due ⊎ out_rose
 
+-- What was due broke off for want of memory: a front of it is told, and `no memory` behind that.
+pub record BreaksOff (old new : Option (List ℕ)) (due : List ℕ) (out_rose : Type 0) : Type 0 where
+  pub front : List ℕ
+  pub rest : List ℕ
+  pub whole : front ++ rest ≡ due
+  pub told : Told old new (front ++ no_memory_line) out_rose
+
 -- The same of a run.
 abbrev pub Tells : Outlook → Outlook → List ℕ → Type 0
 Tells before after due = Told before.given after.given due (HasOutFault before after)

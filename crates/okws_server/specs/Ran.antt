@@ -5,6 +5,7 @@ use Rattle.std.specs.Io.KnownBytes.{Appends}
 use Rattle.std.specs.declared.option.Option.{Option}
 use Rattle.okws_base.specs.declared.limit.TheConstants.{LONGEST_SCRIPT}
 use Rattle.okws_outer.specs.Streams.{AppendsPrefix, Tells, IsFrontOf}
+use Rattle.okws_outer.specs.Printing.{Printer, PrintsOn, PrintsFront}
 use Rattle.okws_outer.specs.Shelf.{Shelf, Reads}
 use Rattle.okws_plan.specs.declared.configuration.Config.{Config}
 use Rattle.config_reader.specs.Meaning.{meaning}
@@ -15,8 +16,8 @@ use Rattle.config_reader.specs.declared.error.ConfigError.TheVariants as config_
 use Rattle.monitor_model.specs.declared.record.Record.{Record}
 use Rattle.play_script.specs.Refusal.{config_refused, script_refused}
 use Rattle.play_script.specs.Rule.{script_rule_number}
-use Rattle.okws_server.specs.Ending.{Told, read_fault_line, no_memory_line}
-use Rattle.okws_server.specs.Headline.{IsWholeRun, IsRefused, IsEmptyRecord, Leaves}
+use Rattle.okws_server.specs.Ending.{Told, BreaksOff, read_fault_line, no_memory_line}
+use Rattle.okws_server.specs.Headline.{IsWholeRun, IsRefused, IsEmptyRecord, IsDueOf, Leaves}
 use Rattle.okws_server.specs.Listing.{listing}
 use Rattle.okws_server.specs.declared.script_run.Outcome.{Outcome}
 use Rattle.okws_server.specs.declared.preparing.ConfigStop.{ConfigStop}
@@ -89,7 +90,7 @@ IsPrepared before after config script (Err stop.NoMemory) = ReadsInOrder before 
 abbrev pub Lists : Config → Option (List ℕ) → Option (List ℕ) → Type 0 → Status → Type 0
 Lists C old new out_rose status.Ok = Appends old new (listing C)
 Lists C old new out_rose status.OutFault = out_rose × AppendsPrefix old new (listing C)
-Lists C old new out_rose status.NoMemory = ⊤
+Lists C old new out_rose status.NoMemory = BreaksOff old new (listing C) out_rose
 Lists C old new out_rose _ = ⊥
 
 -- A configuration that the file gives is listed.
@@ -108,24 +109,25 @@ Checked before after path old new out_rose _ = ⊥
 
 -- ---- play
 
--- What playing a script leaves and prints, unless memory was refused.
-abbrev pub PlaysText : Config → List ℕ → (List ℕ → Type 0) → Result Outcome AllocError → Type 0
-PlaysText C text prints (Ok outcome) = (printed : List ℕ) × Leaves C zero_seed text outcome.broken outcome.record printed × prints printed
-PlaysText C text prints (Err e) = ⊤
+-- What playing a script leaves, and what is printed from one printer to another: where memory was refused, a front of what is due.
+abbrev pub PlaysText : Config → List ℕ → Printer → Printer → Result Outcome AllocError → Type 0
+PlaysText C text before after (Ok outcome) = (printed : List ℕ) × Leaves C zero_seed text outcome.broken outcome.record printed × PrintsOn before after printed
+PlaysText C text before after (Err e) = (due : List ℕ) × IsDueOf C zero_seed text due × PrintsFront before after due
 
 -- How a run ends whose script was played: where it is broken nowhere by whether out has stopped; else with the last line that says where, or that memory was refused.
-abbrev pub Ends : Option Broken → (List ℕ → Type 0) → Bool → Status → Type 0
-Ends None prints stopped how = prints [] × (how ≡ out_status stopped)
-Ends (Some found) prints stopped how =
-    ((how ≡ status.ScriptRefused) × prints (script_refused found.line (script_rule_number found.rule))) ⊎ ((how ≡ status.NoMemory) × prints no_memory_line)
+abbrev pub Ends : Option Broken → Printer → Printer → Status → Type 0
+Ends None before after how = PrintsOn before after [] × (how ≡ out_status after.stopped)
+Ends (Some found) before after how =
+    ((how ≡ status.ScriptRefused) × PrintsOn before after (script_refused found.line (script_rule_number found.rule)))
+    ⊎ ((how ≡ status.NoMemory) × PrintsOn before after no_memory_line)
 
--- What playing a script of this text answers and gives, and the record that it leaves.
+-- What playing a script of this text answers and gives, and the record that it leaves: the empty one where memory was refused, whatever was played.
 abbrev pub Plays : Config → List ℕ → Option (List ℕ) → Option (List ℕ) → Type 0 → Record → Status → Type 0
 Plays C text old new out_rose R status.Ok = (printed : List ℕ) × IsWholeRun C zero_seed text R printed × Appends old new printed
 Plays C text old new out_rose R status.OutFault = out_rose × (printed : List ℕ) × IsWholeRun C zero_seed text R printed × AppendsPrefix old new printed
 Plays C text old new out_rose R status.ScriptRefused =
     (printed : List ℕ) × (line rule : ℕ) × IsRefused C zero_seed text R printed line rule × Told old new (printed ++ script_refused line rule) out_rose
-Plays C text old new out_rose R status.NoMemory = IsEmptyRecord R
+Plays C text old new out_rose R status.NoMemory = IsEmptyRecord R × (due : List ℕ) × IsDueOf C zero_seed text due × BreaksOff old new due out_rose
 Plays C text old new out_rose R _ = ⊥
 
 -- A script that its file gives is played by the configuration that its file gives.

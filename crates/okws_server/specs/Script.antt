@@ -1,12 +1,13 @@
 -- The script of a run, line by line, and where it is refused.
-use Rattle.std.specs.Prelude.{◌≡◌, ⊤, ℕ, ◌+◌, List, [], ◌∷◌, ◌++◌, length, reverse, option_map, Option, Some, None, Result, Ok, Err}
+use Rattle.std.specs.Prelude.{◌≡◌, ◌⊎◌, ℕ, ◌+◌, List, [], ◌∷◌, ◌++◌, length, reverse, option_map, Option, Some, None, Result, Ok, Err}
 use Rattle.std.specs.declared.alloc.AllocError.{AllocError}
 use Rattle.okws_base.specs.Runs.{Each}
 use Rattle.okws_plan.specs.Lines.{LineFits}
 use Rattle.okws_plan.specs.declared.configuration.Config.{Config}
 use Rattle.okws_plan.specs.declared.script.Line.{Line}
+use Rattle.okws_outer.specs.Printing.{Printer, PrintsOn, PrintsFront}
 use Rattle.monitor_model.specs.Stage.{Stage}
-use Rattle.monitor_model.specs.Script.{Plays, PlaysAll, refusal}
+use Rattle.monitor_model.specs.Script.{Does, Plays, PlaysAll, refusal}
 use Rattle.play_script.specs.Reading.{script_reads}
 use Rattle.play_script.specs.Rule.{script_rule_number}
 use Rattle.play_script.specs.declared.rule.ScriptRule.{ScriptRule}
@@ -61,18 +62,38 @@ pub record IsBrokenAt (C : Config) (seed text printed : List ℕ) (S : Stage) (l
   pub played : HasPlayed C seed front printed S
   pub breaks : Breaks broken S rule
 
--- What a line that was read makes of a run, and what it prints; where it breaks a rule, all is as before and nothing is printed.
-abbrev pub PlayedRead : Run → LineRead → (List ℕ → Type 0) → Result (Option ScriptRule) AllocError → Run → Type 0
-PlayedRead run line prints (Ok None) after =
-    (text : List ℕ) × PlaysRead run.config run.seed line run.stage text after.stage × (after ≡ at_stage run after.stage) × prints text
-PlayedRead run line prints (Ok (Some rule)) after = Breaks line run.stage (script_rule_number rule) × (after ≡ run) × prints []
-PlayedRead run line prints (Err e) after = ⊤
+-- What the next of these lines prints at a state: what it does there, or nothing.
+abbrev pub PrintsNext : Config → List ℕ → List LineRead → Stage → List ℕ → Type 0
+PrintsNext C seed rest S text =
+    (text ≡ []) ⊎ ((line : Line) × (more : List LineRead) × (later : Stage) × (rest ≡ read.Says line ∷ more) × Does C seed line S text later)
 
--- What the lines of a script make of a run, up to the first that is broken, and what they print.
-abbrev pub PlayedLines : Run → List ℕ → (List ℕ → Type 0) → Result (Option Broken) AllocError → Run → Type 0
-PlayedLines run text prints (Ok None) after =
-    (printed : List ℕ) × HasPlayed run.config run.seed (script_reads run.config text) printed after.stage × (after ≡ at_stage run after.stage) × prints printed
-PlayedLines run text prints (Ok (Some found)) after =
-    (printed : List ℕ) × IsBrokenAt run.config run.seed text printed after.stage found.line (script_rule_number found.rule) × (after ≡ at_stage run after.stage)
-    × prints printed
-PlayedLines run text prints (Err e) after = ⊤
+-- What a run of the script prints as far as it comes: some of its lines, from the first on, lead from nothing to a state and print a text; and the next one prints the last of it there.
+pub record IsDue (C : Config) (seed text due : List ℕ) : Type 0 where
+  pub front : List LineRead
+  pub rest : List LineRead
+  pub parts : script_reads C text ≡ front ++ rest
+  pub lines : List Line
+  pub says : said_by front ≡ Some lines
+  pub printed : List ℕ
+  pub stage : Stage
+  pub plays : PlaysAll C seed (reverse lines) printed stage
+  pub last : List ℕ
+  pub next : PrintsNext C seed rest stage last
+  pub due_is : due ≡ printed ++ last
+
+-- What a line that was read makes of a run, and what is printed from one printer to another; where it breaks a rule, all is as before and nothing is printed. Where memory is refused, it says something, and a front of what that prints was printed.
+abbrev pub PlayedRead : Run → LineRead → Printer → Printer → Result (Option ScriptRule) AllocError → Run → Type 0
+PlayedRead run line before after (Ok None) now =
+    (text : List ℕ) × PlaysRead run.config run.seed line run.stage text now.stage × (now ≡ at_stage run now.stage) × PrintsOn before after text
+PlayedRead run line before after (Ok (Some rule)) now = Breaks line run.stage (script_rule_number rule) × (now ≡ run) × PrintsOn before after []
+PlayedRead run line before after (Err e) now =
+    (said : Line) × (text : List ℕ) × (later : Stage) × (line ≡ read.Says said) × Does run.config run.seed said run.stage text later × PrintsFront before after text
+
+-- What the lines of a script make of a run, up to the first that is broken, and what is printed from one printer to another. Where memory is refused, a front of what is due was printed.
+abbrev pub PlayedLines : Run → List ℕ → Printer → Printer → Result (Option Broken) AllocError → Run → Type 0
+PlayedLines run text before after (Ok None) now =
+    (printed : List ℕ) × HasPlayed run.config run.seed (script_reads run.config text) printed now.stage × (now ≡ at_stage run now.stage) × PrintsOn before after printed
+PlayedLines run text before after (Ok (Some found)) now =
+    (printed : List ℕ) × IsBrokenAt run.config run.seed text printed now.stage found.line (script_rule_number found.rule) × (now ≡ at_stage run now.stage)
+    × PrintsOn before after printed
+PlayedLines run text before after (Err e) now = (due : List ℕ) × IsDue run.config run.seed text due × PrintsFront before after due

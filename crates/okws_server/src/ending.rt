@@ -1,7 +1,7 @@
 //! The last lines of runs that end early.
 
 ghost use Rattle.std.specs.Prelude.{◌≡◌, OnOk, OnErr, []};
-ghost use Rattle.okws_outer.specs.Printing.{Prints, CountsOn};
+ghost use Rattle.okws_outer.specs.Printing.{PrintsOn, printer};
 ghost use Rattle.play_script.specs.Refusal.{script_refused};
 ghost use Rattle.play_script.specs.Rule.{script_rule_number};
 ghost use Rattle.okws_server.specs.Ending.{Told, read_fault_line, no_memory_line};
@@ -69,16 +69,15 @@ pub fn print_config_refusal<O: Sink>(alloc: Global, out: &mut O, refusal: Refusa
 }
 
 /// Prints where a script is refused, behind what was printed before; nothing where memory is refused.
-#[tactic(auto, using(okws_outer::proofs::Printed::prints_nothing))]
+#[tactic(auto, using(okws_outer::proofs::Printed::nothing_on))]
 pub fn print_script_refusal<O: Sink>(
     alloc: Global,
     out: &mut O,
     stopped: &mut bool,
     found: Broken,
 ) -> Result<(), AllocError>
-    ensures ok { OnOk result (Prints (O.given out.old) stopped.old (O.given out.new) stopped.new (script_refused found.line (script_rule_number found.rule))) }
-    ensures err { OnErr result (Prints (O.given out.old) stopped.old (O.given out.new) stopped.new []) }
-    ensures counted { CountsOn (O.faults out.old) stopped.old (O.faults out.new) stopped.new }
+    ensures ok { OnOk result (PrintsOn (printer O.given O.faults out.old stopped.old) (printer O.given O.faults out.new stopped.new) (script_refused found.line (script_rule_number found.rule))) }
+    ensures err { OnErr result (PrintsOn (printer O.given O.faults out.old stopped.old) (printer O.given O.faults out.new stopped.new) []) }
 {
     let line = script_refused(alloc, found.line, found.rule.number())?;
     print(out, stopped, &line);

@@ -2,7 +2,7 @@
 
 ghost use Rattle.std.specs.Prelude.{◌≡◌, ◌≤◌, length};
 ghost use Rattle.okws_base.specs.declared.limit.TheConstants.{MOST_SERVICES, MOST_PROXIES, MOST_TEMPLATES};
-ghost use Rattle.okws_outer.specs.Printing.{Prints, CountsOn};
+ghost use Rattle.okws_outer.specs.Printing.{printer};
 ghost use Rattle.monitor_model.specs.Stage.{first_stage};
 ghost use Rattle.play_script.specs.Reading.{ReadFits, ReadKeeps};
 ghost use Rattle.okws_server.specs.Script.{IsShortRead, PlayedRead, PlayedLines};
@@ -32,8 +32,7 @@ fn play_read<O: Sink>(
     requires fits { ReadFits play.old.config read }
     requires keeps { ReadKeeps read }
     requires short { IsShortRead read }
-    ensures played { PlayedRead play.old read (Prints (O.given out.old) stopped.old (O.given out.new) stopped.new) result play.new }
-    ensures counted { CountsOn (O.faults out.old) stopped.old (O.faults out.new) stopped.new }
+    ensures { PlayedRead play.old read (printer O.given O.faults out.old stopped.old) (printer O.given O.faults out.new stopped.new) result play.new }
 {
     match read {
         LineRead::Skipped => Ok(None),
@@ -42,7 +41,8 @@ fn play_read<O: Sink>(
     }
 }
 
-/// Plays the lines of a script, up to the first that is broken.
+/// Plays the lines of a script, up to the first that is broken. Where memory is refused, a front of
+/// what they print was printed.
 pub fn play_lines<O: Sink>(
     alloc: Global,
     play: &mut Play,
@@ -56,8 +56,7 @@ pub fn play_lines<O: Sink>(
     requires proxies { length config.now.proxies ≤ MOST_PROXIES }
     requires templates { length config.now.templates ≤ MOST_TEMPLATES }
     requires first { play.old.stage ≡ first_stage config.now }
-    ensures played { PlayedLines play.old text.now (Prints (O.given out.old) stopped.old (O.given out.new) stopped.new) result play.new }
-    ensures counted { CountsOn (O.faults out.old) stopped.old (O.faults out.new) stopped.new }
+    ensures { PlayedLines play.old text.now (printer O.given O.faults out.old stopped.old) (printer O.given O.faults out.new stopped.new) result play.new }
 {
     let mut rest = text;
     let mut number = 0;

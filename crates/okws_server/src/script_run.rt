@@ -3,7 +3,7 @@
 ghost use Rattle.std.specs.Prelude.{◌≡◌, ◌≤◌, length};
 ghost use Rattle.std.specs.Arc.{arc_value};
 ghost use Rattle.okws_plan.specs.Sound.{IsSound};
-ghost use Rattle.okws_outer.specs.Printing.{Prints, CountsOn};
+ghost use Rattle.okws_outer.specs.Printing.{printer};
 ghost use Rattle.okws_outer.specs.Streams.{Rose};
 ghost use Rattle.config_reader.specs.Ruled.{AreRuled};
 ghost use Rattle.okws_server.specs.Headline.{IsEmptyRecord};
@@ -67,8 +67,7 @@ fn play_fitting<O: Sink>(
     requires sound { IsSound (arc_value config) }
     requires rules { AreRuled (arc_value config) }
     requires fits { length text.now ≤ LONGEST_SCRIPT }
-    ensures played { PlaysText (arc_value config) text.now (Prints (O.given out.old) stopped.old (O.given out.new) stopped.new) result }
-    ensures counted { CountsOn (O.faults out.old) stopped.old (O.faults out.new) stopped.new }
+    ensures { PlaysText (arc_value config) text.now (printer O.given O.faults out.old stopped.old) (printer O.given O.faults out.new stopped.new) result }
 {
     let shared = Arc::try_clone(&config)?;
     let mut play = Play::new(alloc, config, SEED)?;
@@ -93,8 +92,7 @@ fn play_text<O: Sink>(
 ) -> Result<Outcome, AllocError>
     requires sound { IsSound config }
     requires rules { AreRuled config }
-    ensures played { PlaysText config text.now (Prints (O.given out.old) stopped.old (O.given out.new) stopped.new) result }
-    ensures counted { CountsOn (O.faults out.old) stopped.old (O.faults out.new) stopped.new }
+    ensures { PlaysText config text.now (printer O.given O.faults out.old stopped.old) (printer O.given O.faults out.new stopped.new) result }
 {
     if text.len() > LONGEST_SCRIPT {
         return Ok(Outcome {
@@ -115,8 +113,7 @@ fn ending_of<O: Sink>(
     stopped: &mut bool,
     broken: Option<Broken>,
 ) -> Status
-    ensures ends { Ends broken (Prints (O.given out.old) stopped.old (O.given out.new) stopped.new) stopped.new result }
-    ensures counted { CountsOn (O.faults out.old) stopped.old (O.faults out.new) stopped.new }
+    ensures { Ends broken (printer O.given O.faults out.old stopped.old) (printer O.given O.faults out.new stopped.new) result }
 {
     match broken {
         None => out_status(*stopped),
@@ -142,7 +139,7 @@ fn record_with(alloc: Global, status: Status, left: Record) -> Record
 }
 
 /// Plays a script and prints what it prints, and the last line of one that is refused. Where memory
-/// is refused, the record is empty, and the last line says so.
+/// is refused, a front of what is due was printed, the last line says so, and the record is empty.
 fn play_to_end<O: Sink>(alloc: Global, config: Config, text: &[u8], out: &mut O) -> (Status, Record)
     requires sound { IsSound config }
     requires rules { AreRuled config }

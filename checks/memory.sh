@@ -1,8 +1,9 @@
 #!/usr/bin/env bash
 # Has each allocation of a few runs of the built program fail in turn, by a library of its own that a C compiler makes in a temporary folder.
 #   checks/memory.sh [PROGRAM]
-# A run then ends with status 11, whose last line is `no memory`; or with the status that it has else, where a call of a service was answered
-# by the frame of want of memory, 0b, or where so many allocations weren't made. The last line is 'N passed, M failed'.
+# A run then ends with status 11, and has printed a front of what it prints else and `no memory` behind that; or with the status that it has
+# else, where a call of a service was answered by the frame of want of memory, 0b, or where so many allocations weren't made.
+# The last line is 'N passed, M failed'.
 set -uo pipefail
 okws=$(realpath "${1:-crates/okws_program/out/okws_program}")
 cd "$(dirname "$0")/.."
@@ -36,7 +37,7 @@ each() {
     for at in $(seq 1 400); do
         printed=$(FAIL_AT=$at LD_PRELOAD="$folder/failing.so" "$okws" "$@")
         status=$?
-        if [ "$status" = 11 ] && [ "$(tail -n 1 <<<"$printed")" = "no memory" ]; then
+        if [ "$status" = 11 ] && [ "$(tail -n 1 <<<"$printed")" = "no memory" ] && [[ $wanted$'\n' == "${printed%no memory}"* ]]; then
             passed=$((passed + 1))
         elif [ "$status" = "$usual" ] && { [ "$printed" = "$wanted" ] || grep -q '^heard .* 000000010b$' <<<"$printed"; }; then
             passed=$((passed + 1))

@@ -174,6 +174,9 @@ for words in "" "play whole.okws" "check" "serve whole.okws" "--help" "Check who
     echo "usage: okws check CONFIG" >"$folder/wanted"
     told "the words '$words'" 2 "$folder/wanted"
 done
+run play whole.okws $'\xff'
+head -n 1 "$folder/printed" >"$folder/first" && mv "$folder/first" "$folder/printed"
+told "a word that isn't UTF-8" 2 "$folder/wanted"
 : >"$folder/printed"
 "$okws" check whole.okws >/dev/full
 status=$?

@@ -2,7 +2,7 @@
 //! refused isn't tested here.
 
 use crate::guest::guest;
-use okws_outer::memory::link::MemoryLink;
+use okws_outer::memory::link::{FedLink, MemoryLink};
 use okws_outer::stream::Link;
 use std::alloc::{AllocError, Global};
 use std::process::Abort;

@@ -7,7 +7,7 @@ mod example;
 mod form;
 mod reading;
 
-use okws_outer::memory::link::MemoryLink;
+use okws_outer::memory::link::{FedLink, MemoryLink};
 use okws_outer::stream::Link;
 use std::alloc::Global;
 use std::test::Fail;

@@ -2,7 +2,7 @@
 //! here.
 
 use crate::probe::{Early, probe};
-use okws_outer::memory::link::MemoryLink;
+use okws_outer::memory::link::{FedLink, MemoryLink};
 use okws_outer::stream::Link;
 use std::alloc::Global;
 use std::process::Abort;

@@ -5,13 +5,13 @@ use Rattle.okws_plan.specs.Configuration.{grants_at, numbered_from, proxies_of, 
 use Rattle.okws_plan.specs.declared.configuration.Config.{Config}
 use Rattle.okws_plan.specs.declared.script.Place.{Place}
 use Rattle.okws_plan.specs.declared.script.Place.TheVariants.{Proxy, Pubd, Oklogd}
-use Rattle.monitor_model.specs.Cell.{boot_frame}
+use Rattle.monitor_model.specs.Cell.{boot_frame, last_booted}
 use Rattle.monitor_model.specs.Launcher.{begun}
 use Rattle.monitor_model.specs.Script.{installed, installed_all, revoked, revoked_all, superseded_text, boot_text, booting_text}
 use Rattle.monitor_model.specs.Seen.{proxy_past}
 use Rattle.monitor_model.specs.Stage.{Stage, Opened, stand, empty_stand, heard_line}
 use Rattle.monitor_model.specs.Standing.{proxy_grant}
-use Rattle.okws_play.specs.Run.{Run, at_stage, IsOnlyAt, IsAtProxies, KeepsCells}
+use Rattle.okws_play.specs.Run.{Run, at_stage, IsOnlyAt, IsAtProxies, KeepsCells, MayLaunch}
 use Rattle.service_cell.proofs.Granted.{granted_from, grants_first, skips_first}
 
 -- what is still to be installed at the proxies from i on makes all of it
@@ -133,3 +133,17 @@ relaunch_prints R B D s X Y b d closed e =
     ap (λ o. superseded_text s o D.stage ++ boot_text D.config D.seed s D.stage) closed
     ∙ boot_same D.config R.config D.seed R.seed s D.stage B.stage (ap (λ v. v.config) d ∙ ap (λ v. v.config) b) (ap (λ v. v.seed) d ∙ ap (λ v. v.seed) b) e in
     ap (λ y. superseded_text s (stand B.stage s).open_dialog B.stage ++ y) rest ∙ ap (λ S. booting_text R.config R.seed s S) (ap (λ v. v.stage) b)
+
+-- what a relaunch prints before the rest of it
+pub taken_prints : (R B : Run) (s : ℕ) (X : Stage) → B ≡ at_stage R X → superseded_text s (stand B.stage s).open_dialog B.stage ++ boot_text R.config R.seed s X ≡ booting_text R.config R.seed s X
+taken_prints R B s X b = ap (λ (S : Stage). superseded_text s (stand S s).open_dialog S ++ boot_text R.config R.seed s X) (ap (λ v. v.stage) b)
+
+-- what may be launched may be launched where nothing was begun, installed or booted since
+pub may_kept : (s : ℕ) (S T : Stage) → T.seen.launcher ≡ S.seen.launcher → T.seen.proxies ≡ S.seen.proxies → T.seen.pubd ≡ S.seen.pubd → T.seen.oklogd ≡ S.seen.oklogd → last_booted (stand T s).past ≡ last_booted (stand S s).past → MayLaunch s S → MayLaunch s T
+may_kept s S T l p q o b may = record {
+  first = rw l may.first;
+  at_proxies = λ i. rw (l, p) (may.at_proxies i);
+  at_pubd = rw (l, q) may.at_pubd;
+  at_log = rw (l, o) may.at_log;
+  booted = rw (l, b) may.booted;
+}

@@ -1,8 +1,13 @@
 pub mod Accepting
 pub mod Cells
-pub mod Dialogs
+pub mod Changing
+pub mod Closing
 pub mod Going
 pub mod Launching
+pub mod Lawful
 pub mod Opening
 pub mod Playing
+pub mod Printing
+pub mod Running
 pub mod Stages
+pub mod Steps

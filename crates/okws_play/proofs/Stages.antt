@@ -1,6 +1,5 @@
 use Rattle.std.proofs.Common.{◌≡◌, ◌∙◌, ℕ, zero, suc, ◌<◌, Bool, List, [], ◌∷◌, Option, Some, None, length, get_or, refl, sym, ap, arith, get_or-set_same}
 use Rattle.std.specs.Prelude.{IfSome, option_map, slice_get, slice_set, unwrap_or}
-use Rattle.okws_outer.specs.Printing.{Prints}
 use Rattle.okws_plan.specs.declared.configuration.Config.{Config}
 use Rattle.frame_codec.specs.declared.frame.ServerFrame.{ServerFrame}
 use Rattle.http_text.specs.Response.{own_response}
@@ -11,10 +10,6 @@ use Rattle.monitor_model.specs.Script.{greatest, superseded, superseded_if, supe
 use Rattle.monitor_model.specs.Stage.{Stage, Stand, Opened, Asked, stand, empty_stand, heard_line, answer_line}
 use Rattle.okws_play.specs.Cells.{stand_at, closed_stand, booted_stand}
 use Rattle.okws_play.specs.Run.{Run}
-
--- the same bytes are printed
-pub prints_same : (a b : Option (List ℕ)) (s t : Bool) (x y : List ℕ) → x ≡ y → Prints a s b t x → Prints a s b t y
-prints_same a b s t x y e p = rw (sym e) p
 
 -- an item that is there, whatever stands for one that isn't
 pub get_at : {A : Type 0} (xs : List A) (i : ℕ) (x d : A) → x ≡ get_or xs i x → i < length xs → get_or xs i d ≡ x

@@ -1,5 +1,4 @@
 pub mod Cells
-pub mod Dialogs
 pub mod Played
 pub mod Printed
 pub mod Run

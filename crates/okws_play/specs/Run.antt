@@ -18,7 +18,8 @@ use Rattle.monitor_model.specs.Script.{retired, superseded, revoked_all, downed,
 use Rattle.monitor_model.specs.Stage.{Stage, Asked, stand, with_seen, request_head}
 use Rattle.monitor_model.specs.Standing.{proxy_grant, pubd_grant, log_grant}
 use Rattle.site_columns.specs.Site.{Site}
-use Rattle.okws_play.specs.Cells.{FitsRequest}
+use Rattle.service_cell.specs.Standing.{Standing}
+use Rattle.okws_play.specs.Cells.{FitsRequest, AreSeats, stand_at, stands_by}
 
 -- The site's configuration, the run's seed, and what was made so far.
 pub record Run : Type 0 where
@@ -91,12 +92,13 @@ pub record KeepsCells (S T : Stage) : Type 0 where
   pub stands_are : T.stands ≡ S.stands
   pub requests_are : T.requests ≡ S.requests
 
--- At most 16 proxies are declared, the columns are those of the site and its seed, as number 0 has them, each service has a cell, no incarnation was booted that was not begun, and each request's frame fits.
-pub record IsRun (C : Config) (seed : List ℕ) (columns : Site) (S : Stage) : Type 0 where
+-- At most 16 proxies are declared, the columns are those of the site and its seed, as number 0 has them, each service has its cell, no incarnation was booted that was not begun, and each request's frame fits.
+pub record IsRun (C : Config) (seed : List ℕ) (columns : Site) (cells : List Standing) (requests : List Asked) : Type 0 where
   pub few : length C.proxies ≤ MOST_PROXIES
   pub config_is : columns.config ≡ C
   pub seed_is : columns.seed ≡ seed
   pub worker_is : columns.worker ≡ 0
-  pub cells_are : length S.stands ≡ length C.services
-  pub booted_are : (s : ℕ) → last_booted (stand S s).past ≤ begun S.seen.launcher s
-  pub requests_are : Each (FitsRequest C) S.requests
+  pub cells_are : length cells ≡ length C.services
+  pub seats_are : AreSeats C seed 0 cells
+  pub booted_are : (s : ℕ) → last_booted (stand_at (stands_by cells) s).past ≤ begun columns.seen.launcher s
+  pub requests_are : Each (FitsRequest C) requests

@@ -1,9 +1,10 @@
 //! A run of a script, in one thread, through the same columns and cells as the server's.
 
 mod accepting;
-mod cell;
+mod booting;
 mod cells;
-mod dialog;
+mod dialogs;
+mod entering;
 mod judging;
 mod launching;
 mod lines;

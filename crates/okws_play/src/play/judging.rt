@@ -21,7 +21,7 @@ impl Play {
     fn rule_of_begin(&self, service: u16) -> Option<ScriptRule>
         ensures { option_map script_rule_number result ≡ broken (nat_le MOST_INCARNATIONS (greatest self.now.stage service)) 8 None }
     {
-        if MOST_INCARNATIONS <= self.greatest(service) {
+        if MOST_INCARNATIONS <= self.columns.greatest(service) {
             return Some(ScriptRule::Spent);
         }
         None
@@ -33,11 +33,11 @@ impl Play {
         requires place { PlaceFits self.now.config place }
         ensures { option_map script_rule_number result ≡ broken (greatest self.now.stage service == 0) 3 (broken (nat_le (greatest self.now.stage service) (last_at service place self.now.stage.seen)) 4 None) }
     {
-        let greatest = self.greatest(service);
+        let greatest = self.columns.greatest(service);
         if greatest == 0 {
             return Some(ScriptRule::NotBegun);
         }
-        if greatest <= self.last_at(service, place) {
+        if greatest <= self.columns.last(service, place) {
             return Some(ScriptRule::AlreadyDone);
         }
         None
@@ -48,11 +48,11 @@ impl Play {
         requires { service < length self.now.config.services }
         ensures { option_map script_rule_number result ≡ broken (greatest self.now.stage service == 0) 3 (broken (nat_le (greatest self.now.stage service) (last_booted (stand self.now.stage service).past)) 4 None) }
     {
-        let greatest = self.greatest(service);
+        let greatest = self.columns.greatest(service);
         if greatest == 0 {
             return Some(ScriptRule::NotBegun);
         }
-        if greatest <= self.last_booted(service) {
+        if greatest <= self.cell(service).last_booted() {
             return Some(ScriptRule::AlreadyDone);
         }
         None
@@ -63,11 +63,11 @@ impl Play {
         requires { service < length self.now.config.services }
         ensures { option_map script_rule_number result ≡ broken (not (no_cell self.now.stage service) && is_just (incarnation (stand self.now.stage service).past) (up_at_okd self.now.stage.seen.okd service)) 4 (broken (no_cell self.now.stage service) 7 None) }
     {
-        let incarnation = self.incarnation(service);
+        let incarnation = self.cell(service).incarnation();
         if incarnation == 0 {
             return Some(ScriptRule::NoCell);
         }
-        if self.up_of(service) == Some(incarnation) {
+        if self.columns.standing_at_okd(service) == Some(incarnation) {
             return Some(ScriptRule::AlreadyDone);
         }
         None
@@ -78,10 +78,34 @@ impl Play {
         requires { service < length self.now.config.services }
         ensures { option_map script_rule_number result ≡ broken (no_cell self.now.stage service || (stand self.now.stage service).has_ended) 7 None }
     {
-        if self.incarnation(service) == 0 || self.has_ended(service) {
+        let cell = self.cell(service);
+        if cell.incarnation() == 0 || cell.has_ended() {
             return Some(ScriptRule::NoCell);
         }
         None
+    }
+
+    // Whether the request goes to an incarnation and its dialog was not begun.
+    fn is_pending(&self, request: u32) -> bool
+        ensures { result ≡ is_pending (slice_get self.now.stage.requests request) }
+    {
+        match self.requests.get(request as usize) {
+            None => false,
+            Some(asked) => asked.is_pending(),
+        }
+    }
+
+    // Whether a dialog is open at the cell of the request.
+    fn is_busy(&self, request: u32) -> bool
+        ensures { result ≡ is_busy_request (slice_get self.now.stage.requests request) self.now.stage }
+    {
+        match self.requests.get(request as usize) {
+            None => false,
+            Some(asked) => match asked.goes() {
+                None => false,
+                Some((service, _)) => self.cell(service).open_request().is_some(),
+            },
+        }
     }
 
     // `dialog`: there is no such request to begin, or a dialog is open at its cell.
@@ -102,7 +126,7 @@ impl Play {
         requires { template < length self.now.config.templates }
         ensures { option_map script_rule_number result ≡ broken (nat_le MOST_EDITIONS (edition self.now.stage.seen.pubd template)) 8 (broken (nat_lt LONGEST_TEMPLATE (length content.now)) 9 None) }
     {
-        if MOST_EDITIONS <= self.edition(template) {
+        if MOST_EDITIONS <= self.columns.edition(template) {
             return Some(ScriptRule::Spent);
         }
         if LONGEST_TEMPLATE < content.len() {

@@ -6,8 +6,8 @@ ghost use Rattle.okws_plan.specs.Configuration.{proxies_of, cols, all_places, nu
 ghost use Rattle.okws_plan.specs.declared.script.Place.TheVariants as at_column;
 ghost use Rattle.monitor_model.specs.Cell.{incarnation, last_booted};
 ghost use Rattle.monitor_model.specs.Stage.{stand};
-ghost use Rattle.monitor_model.specs.Script.{greatest, begins, installed_all, revoked_all, booted, booting_text, launched_rest, launched, relaunched, superseded_text};
-ghost use Rattle.okws_outer.specs.Printing.{Prints, CountsOn};
+ghost use Rattle.monitor_model.specs.Script.{greatest, begins, installed_all, revoked_all, booting_text, launched_rest, launched, relaunched, superseded_text};
+ghost use Rattle.okws_outer.specs.Printing.{PrintsAs, printer};
 ghost use Rattle.okws_play.specs.Run.{at_stage, down_from, MayLaunch, IsAtProxies, KeepsCells};
 
 use crate::play::run::Play;
@@ -66,27 +66,6 @@ impl Play {
         Ok(())
     }
 
-    /// `boot`: an open dialog of the service ends as superseded; the cell is retired; a fresh link gets
-    /// Boot of the greatest incarnation begun.
-    pub fn boot<O: Sink>(
-        &mut self,
-        out: &mut O,
-        stopped: &mut bool,
-        service: u16,
-    ) -> Result<(), AllocError>
-        requires service { service < length self.old.config.services }
-        requires later { last_booted (stand self.old.stage service).past < greatest self.old.stage service }
-        ensures state { OnOk result (self.new ≡ at_stage self.old (booted service self.old.stage)) }
-        ensures printed { OnOk result (Prints (O.given out.old) stopped.old (O.given out.new) stopped.new (booting_text self.old.config self.old.seed service self.old.stage)) }
-        ensures there { OnOk result (0 < incarnation (stand self.new.stage service).past) }
-        ensures counted { CountsOn (O.faults out.old) stopped.old (O.faults out.new) stopped.new }
-    {
-        self.supersede(out, stopped, service)?;
-        self.retire(service)?;
-        self.boot_freshly(out, stopped, service)?;
-        Ok(())
-    }
-
     // The rest of a launch, once the next incarnation has begun.
     fn launch_rest<O: Sink>(
         &mut self,
@@ -97,8 +76,7 @@ impl Play {
         requires service { service < length self.old.config.services }
         requires may { MayLaunch service self.old.stage }
         ensures state { OnOk result (self.new ≡ at_stage self.old (launched_rest self.old.config self.old.seed service self.old.stage)) }
-        ensures printed { OnOk result (Prints (O.given out.old) stopped.old (O.given out.new) stopped.new (booting_text self.old.config self.old.seed service self.old.stage)) }
-        ensures counted { CountsOn (O.faults out.old) stopped.old (O.faults out.new) stopped.new }
+        ensures printed { PrintsAs result (printer O.given O.faults out.old stopped.old) (printer O.given O.faults out.new stopped.new) (booting_text self.old.config self.old.seed service self.old.stage) }
     {
         self.install_all(service)?;
         self.boot(out, stopped, service)?;
@@ -116,8 +94,7 @@ impl Play {
         requires service { service < length self.old.config.services }
         requires more { greatest self.old.stage service < MOST_INCARNATIONS }
         ensures state { OnOk result (self.new ≡ at_stage self.old (launched self.old.config self.old.seed service self.old.stage)) }
-        ensures printed { OnOk result (Prints (O.given out.old) stopped.old (O.given out.new) stopped.new (booting_text self.old.config self.old.seed service (begins service self.old.stage))) }
-        ensures counted { CountsOn (O.faults out.old) stopped.old (O.faults out.new) stopped.new }
+        ensures printed { PrintsAs result (printer O.given O.faults out.old stopped.old) (printer O.given O.faults out.new stopped.new) (booting_text self.old.config self.old.seed service (begins service self.old.stage)) }
     {
         self.begin(service)?;
         self.launch_rest(out, stopped, service)?;
@@ -134,11 +111,10 @@ impl Play {
         requires service { service < length self.old.config.services }
         requires may { MayLaunch service self.old.stage }
         ensures state { OnOk result (self.new ≡ at_stage self.old (down_from self.old.config service self.old.stage)) }
-        ensures printed { OnOk result (Prints (O.given out.old) stopped.old (O.given out.new) stopped.new (superseded_text service (stand self.old.stage service).open_dialog self.old.stage)) }
+        ensures printed { PrintsAs result (printer O.given O.faults out.old stopped.old) (printer O.given O.faults out.new stopped.new) (superseded_text service (stand self.old.stage service).open_dialog self.old.stage) }
         ensures closed { OnOk result ((stand self.new.stage service).open_dialog ≡ None) }
         ensures launcher { OnOk result (self.new.stage.seen.launcher ≡ self.old.stage.seen.launcher) }
         ensures may { OnOk result (MayLaunch service self.new.stage) }
-        ensures counted { CountsOn (O.faults out.old) stopped.old (O.faults out.new) stopped.new }
     {
         self.down(service)?;
         self.revoke_all(service)?;
@@ -157,8 +133,7 @@ impl Play {
         requires service { service < length self.old.config.services }
         requires more { greatest self.old.stage service < MOST_INCARNATIONS }
         ensures state { OnOk result (self.new ≡ at_stage self.old (relaunched self.old.config self.old.seed service self.old.stage)) }
-        ensures printed { OnOk result (Prints (O.given out.old) stopped.old (O.given out.new) stopped.new (booting_text self.old.config self.old.seed service (begins service self.old.stage))) }
-        ensures counted { CountsOn (O.faults out.old) stopped.old (O.faults out.new) stopped.new }
+        ensures printed { PrintsAs result (printer O.given O.faults out.old stopped.old) (printer O.given O.faults out.new stopped.new) (booting_text self.old.config self.old.seed service (begins service self.old.stage)) }
     {
         self.begin(service)?;
         self.take_down(out, stopped, service)?;

@@ -5,7 +5,7 @@ ghost use Rattle.frame_codec.specs.Spelling.{HasSpelling};
 ghost use Rattle.monitor_model.specs.Logd.{hex_digit, hex_byte, hex, escaped_byte, escaped};
 ghost use Rattle.monitor_model.specs.Stage.{heard_line, answer_line};
 ghost use Rattle.monitor_model.specs.Script.{way_text};
-ghost use Rattle.okws_outer.specs.Printing.{Prints, CountsOn};
+ghost use Rattle.okws_outer.specs.Printing.{PrintsAs, printer};
 
 use frame_codec::frame::ServerFrame;
 use frame_codec::server::write_server_frame;
@@ -103,8 +103,7 @@ pub fn print_heard<O: Sink>(
     frame: &ServerFrame,
 ) -> Result<(), AllocError>
     requires { HasSpelling frame.now }
-    ensures printed { OnOk result (Prints (O.given out.old) stopped.old (O.given out.new) stopped.new (heard_line config.now service incarnation frame.now)) }
-    ensures counted { CountsOn (O.faults out.old) stopped.old (O.faults out.new) stopped.new }
+    ensures { PrintsAs result (printer O.given O.faults out.old stopped.old) (printer O.given O.faults out.new stopped.new) (heard_line config.now service incarnation frame.now) }
 {
     let line = line_of_heard(alloc, config, service, incarnation, frame)?;
     print(out, stopped, &line);
@@ -119,8 +118,7 @@ pub fn print_answer<O: Sink>(
     request: usize,
     text: &[u8],
 ) -> Result<(), AllocError>
-    ensures printed { OnOk result (Prints (O.given out.old) stopped.old (O.given out.new) stopped.new (answer_line request text.now)) }
-    ensures counted { CountsOn (O.faults out.old) stopped.old (O.faults out.new) stopped.new }
+    ensures { PrintsAs result (printer O.given O.faults out.old stopped.old) (printer O.given O.faults out.new stopped.new) (answer_line request text.now) }
 {
     let line = line_of_answer(alloc, request, text)?;
     print(out, stopped, &line);
@@ -136,8 +134,7 @@ pub fn print_way<O: Sink>(
     way: Way,
     method: &[u8],
 ) -> Result<(), AllocError>
-    ensures printed { OnOk result (Prints (O.given out.old) stopped.old (O.given out.new) stopped.new (way_text request way method.now)) }
-    ensures counted { CountsOn (O.faults out.old) stopped.old (O.faults out.new) stopped.new }
+    ensures { PrintsAs result (printer O.given O.faults out.old stopped.old) (printer O.given O.faults out.new stopped.new) (way_text request way method.now) }
 {
     match way {
         Way::NotOwned => {

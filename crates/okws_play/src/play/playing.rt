@@ -1,12 +1,12 @@
 //! What a line of a script does.
 
-ghost use Rattle.std.specs.Prelude.{◌≡◌, OnOk, None};
+ghost use Rattle.std.specs.Prelude.{◌≡◌, None};
 ghost use Rattle.okws_plan.specs.Lines.{LineFits};
 ghost use Rattle.play_script.specs.Reading.{LineKeeps};
 ghost use Rattle.monitor_model.specs.Script.{refusal};
-ghost use Rattle.okws_outer.specs.Printing.{Prints, CountsOn};
+ghost use Rattle.okws_outer.specs.Printing.{printer};
 ghost use Rattle.okws_play.specs.Played.{PlayedLine};
-ghost use Rattle.okws_play.specs.Printed.{DoesLine};
+ghost use Rattle.okws_play.specs.Printed.{DoesAs};
 ghost use Rattle.okws_play.specs.Run.{IsShortLine};
 
 use crate::play::run::Play;
@@ -26,8 +26,7 @@ impl Play {
         requires keeps { LineKeeps line }
         requires short { IsShortLine line }
         requires allowed { refusal line self.old.stage ≡ None }
-        ensures played { OnOk result (DoesLine line self.old (Prints (O.given out.old) stopped.old (O.given out.new) stopped.new) self.new) }
-        ensures counted { CountsOn (O.faults out.old) stopped.old (O.faults out.new) stopped.new }
+        ensures { DoesAs line self.old (printer O.given O.faults out.old stopped.old) (printer O.given O.faults out.new stopped.new) result self.new }
     {
         match line {
             Line::Begin(service) => self.begin(service),
@@ -61,8 +60,7 @@ impl Play {
         requires fits { LineFits self.old.config line }
         requires keeps { LineKeeps line }
         requires short { IsShortLine line }
-        ensures played { PlayedLine self.old line (Prints (O.given out.old) stopped.old (O.given out.new) stopped.new) result self.new }
-        ensures counted { CountsOn (O.faults out.old) stopped.old (O.faults out.new) stopped.new }
+        ensures played { PlayedLine self.old line (printer O.given O.faults out.old stopped.old) (printer O.given O.faults out.new stopped.new) result self.new }
     {
         match self.judge(&line) {
             Some(rule) => Ok(Some(rule)),

@@ -1,6 +1,6 @@
 //! A request of a run.
 
-ghost use Rattle.std.specs.Prelude.{◌≡◌, ◌&&◌, ◌++◌, IfOk, OnOk, false, is_some, not, option_map};
+ghost use Rattle.std.specs.Prelude.{◌≡◌, ◌&&◌, ◌++◌, IfOk, OnOk, false, is_some, not};
 ghost use Rattle.monitor_model.specs.Script.{goes_of};
 ghost use Rattle.monitor_model.specs.Stage.{method_text, length_line, request_head};
 
@@ -10,30 +10,23 @@ use okws_plan::script::Method;
 use std::alloc::{AllocError, Global};
 use std::marker::Model;
 
-/// To which incarnation of which service a request goes.
-#[derive(Clone, Copy)]
-pub struct Going {
-    pub service: u16,
-    pub incarnation: u32,
-}
-
 /// A request that was accepted. Its head is written when its dialog begins.
 #[derive(Drop)]
 pub struct Request {
     pub method: Method,
     pub target: Items<u8>,
     pub content: Items<u8>,
-    pub goes: Option<Going>,
+    // The service and the incarnation.
+    pub goes: Option<(u16, u32)>,
     pub has_begun: bool,
 }
 
 impl Model for Request {
-    ghost use Rattle.std.specs.Prelude.{option_map};
     ghost use Rattle.monitor_model.specs.Stage.{Asked, request_head};
 
     ghost Value = { Asked };
 
-    ghost view = { λ a. record { method = a.method; head = request_head a.method a.target a.content; content = a.content; goes = option_map (λ g. (g.service, g.incarnation)) a.goes; has_begun = a.has_begun } };
+    ghost view = { λ a. record { method = a.method; head = request_head a.method a.target a.content; content = a.content; goes = a.goes; has_begun = a.has_begun } };
 }
 
 impl Request {
@@ -58,8 +51,8 @@ impl Request {
     }
 
     /// To whom the request goes.
-    pub fn goes(&self) -> Option<Going>
-        ensures { option_map (λ g. (g.service, g.incarnation)) result ≡ self.now.goes }
+    pub fn goes(&self) -> Option<(u16, u32)>
+        ensures { result ≡ self.now.goes }
     {
         self.goes
     }
@@ -84,8 +77,8 @@ pub fn method_name(method: Method) -> &'static [u8]
 }
 
 /// To whom a request goes.
-fn goes_by(way: Way) -> Option<Going>
-    ensures { option_map (λ g. (g.service, g.incarnation)) result ≡ goes_of way }
+fn goes_by(way: Way) -> Option<(u16, u32)>
+    ensures { result ≡ goes_of way }
 {
     match way {
         Way::NotOwned => None,
@@ -93,10 +86,7 @@ fn goes_by(way: Way) -> Option<Going>
         Way::To {
             service,
             incarnation,
-        } => Some(Going {
-            service,
-            incarnation,
-        }),
+        } => Some((service, incarnation)),
     }
 }
 

@@ -1,11 +1,11 @@
 //! The responses of dialogs that ended.
 
-ghost use Rattle.std.specs.Prelude.{◌≡◌, IfOk, reverse};
-ghost use Rattle.monitor_model.specs.Answering.{said_response, reply_response, end_response};
+ghost use Rattle.std.specs.Prelude.{◌≡◌, IfOk};
+ghost use Rattle.monitor_model.specs.Answering.{said_response, end_response};
 
 use frame_codec::frame::ServiceFrame;
 use http_text::response::{own_response, response};
-use monitor_model::record::{End, Item};
+use monitor_model::record::End;
 use service_cell::ending::Finished;
 use std::alloc::{AllocError, Global};
 
@@ -31,16 +31,6 @@ fn said_response(alloc: Global, said: &ServiceFrame, method: &[u8]) -> Result<Ve
     }
 }
 
-// The response of a dialog's last item, its Reply.
-fn reply_response(alloc: Global, items: &[Item], method: &[u8]) -> Result<Vec<u8>, AllocError>
-    ensures { IfOk result (λ v. v.items ≡ reply_response (reverse items.now) method.now) }
-{
-    match items.last() {
-        Some(Item::Said(said)) => said_response(alloc, said, method),
-        _ => Ok(Vec::new(alloc)),
-    }
-}
-
 /// The response of a dialog that ended.
 pub fn dialog_response(
     alloc: Global,
@@ -49,8 +39,11 @@ pub fn dialog_response(
 ) -> Result<Vec<u8>, AllocError>
     ensures { IfOk result (λ v. v.items ≡ end_response dialog.now.end dialog.now.items method.now) }
 {
+    if let Some(reply) = dialog.reply() {
+        return said_response(alloc, reply, method);
+    }
     match dialog.end() {
-        End::Reply => reply_response(alloc, dialog.items(), method),
+        End::Reply => unreachable!(),
         End::Superseded(_) => own_response(alloc, 503, method),
         End::BadFrame | End::Ended | End::LinkFault | End::FrameLimit => {
             own_response(alloc, 502, method)

@@ -1,5 +1,5 @@
-use Rattle.okws_outer.proofs.Printed.{prints_nothing}
+use Rattle.okws_outer.proofs.Printed.{nothing_on}
 use Rattle.okws_play.proofs.play.lines.print_way.Goals as goal
 
-pub returns-in-To-clause-printed : goal.returns-in-To-clause-printed
-returns-in-To-clause-printed g c = rw c.in-To.is (prints_nothing _ _)
+pub returns-in-To : goal.returns-in-To
+returns-in-To g c = rw c.in-To.is (nothing_on _)

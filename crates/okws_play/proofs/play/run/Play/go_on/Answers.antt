@@ -1,28 +1,24 @@
-use Rattle.std.proofs.Common.{subst}
-use Rattle.std.specs.Prelude.{◌↔◌, IsTrue, IsSome}
+use Rattle.okws_outer.specs.Printing.{printer}
+use Rattle.okws_play.specs.Printed.{RunsAs}
 use Rattle.monitor_model.specs.Script.{IsReady}
 use Rattle.monitor_model.specs.Stage.{stand}
-use Rattle.okws_outer.specs.Printing.{Prints}
-use Rattle.okws_outer.proofs.Printed.{prints_then, counts_then}
-use Rattle.okws_play.specs.Run.{Run}
-use Rattle.okws_play.proofs.Going.{gone_more, gone_off, not_ready}
+use Rattle.okws_play.proofs.Going.{gone_none, gone_more, gone_off, gone_stopped, not_ready}
+use Rattle.okws_play.proofs.Printing.{by_err}
 use Rattle.okws_play.proofs.play.run.Play.go_on.Goals as goal
 
+pub ready-init : goal.ready-init
+ready-init g c = gone_none c.args.service c.args.self.now _
+
 pub step-requires-clause-ready : goal.step-requires-clause-ready
-step-requires-clause-ready g c = subst (λ (v : Run). IsReady (stand v.stage c.args.service)) c.self.view_is (c.is_ready.ensures.0 c.ready-test.true).1
+step-requires-clause-ready g c = (c.is_ready.ensures.0 c.ready-test.true).1
 
 pub ready-preserved : goal.ready-preserved
-ready-preserved g c = record {
-  gone = gone_more c.args.service c.args.self.now c.ready.self c.step.new.self
-      (Prints (g.O.Sink.given c.args.out.now) c.args.stopped.now (g.O.Sink.given c.ready.out) c.ready.stopped)
-      (Prints (g.O.Sink.given c.ready.out) c.ready.stopped (g.O.Sink.given c.step.new.out) c.step.new.stopped)
-      (Prints (g.O.Sink.given c.args.out.now) c.args.stopped.now (g.O.Sink.given c.step.new.out) c.step.new.stopped)
-      (λ x y first second. prints_then _ _ _ _ _ _ x y first second) c.ready.invariant.gone c.in_ok-step.ensures.steps;
-  counted = counts_then _ _ _ _ _ _ c.ready.invariant.counted c.step.ensures.counted;
-}
+ready-preserved g c = gone_more _ c.args.service c.args.self.now c.ready.self c.step.new.self _ _ _ c.ready.invariant c.in_ok-step.ensures.steps
 
-pub returns-clause-went : goal.returns-clause-went
-returns-clause-went g c =
-    gone_off c.args.service c.args.self.now c.ready.self (Prints (g.O.Sink.given c.args.out.now) c.args.stopped.now (g.O.Sink.given c.ready.out) c.ready.stopped) c.ready.invariant.gone
-    (not_ready c.is_ready.result (stand c.ready.self.stage c.args.service)
-    (subst (λ (v : Run). IsTrue c.is_ready.result ↔ (IsSome (stand v.stage c.args.service).open_dialog × IsReady (stand v.stage c.args.service))) c.self.view_is c.is_ready.ensures) c.ready-test.false)
+pub returns : goal.returns
+returns g c = gone_off _ c.args.service c.args.self.now c.ready.self _ _ c.ready.invariant (not_ready c.is_ready.result (stand c.ready.self.stage c.args.service).open_dialog (IsReady (stand c.ready.self.stage c.args.service)) c.is_ready.ensures c.ready-test.false)
+
+pub returns-in_err-step : goal.returns-in_err-step
+returns-in_err-step g c =
+    by_err c.from_residual.result (λ r. RunsAs c.args.service c.args.self.now (printer g.O.Sink.given g.O.Sink.faults c.args.out.now c.args.stopped.now) (printer g.O.Sink.given g.O.Sink.faults c.step.new.out c.step.new.stopped) r c.step.new.self) c.from_residual.ensures.0
+    (λ e. gone_stopped e c.args.service c.args.self.now c.ready.self c.step.new.self c.step.new.self _ _ _ c.ready.invariant c.in_err-step.ensures.steps)

@@ -1,17 +1,23 @@
-use Rattle.std.proofs.Common.{◌∙◌, ap, sym}
-use Rattle.monitor_model.specs.Columns.{faults}
-use Rattle.monitor_model.specs.Played.{IsFaultless, record_of}
-use Rattle.monitor_model.specs.Seen.{proxy_past}
+use Rattle.std.proofs.Common.{◌≡◌, ◌∙◌, ◌<◌, ◌∷◌, [], ap, arith, length, sym}
+use Rattle.std.proofs.lemmas.List.{length-map}
+use Rattle.okws_play.specs.Run.{Run}
+use Rattle.okws_play.proofs.Cells.{stands_long}
+use Rattle.okws_play.proofs.Closing.{past_of, has_more, has_all, closed_sent, closed_told, nothing_left}
 use Rattle.okws_play.proofs.play.run.Play.into_record.Goals as goal
 
-pub returns-clause-record : goal.returns-clause-record
-returns-clause-record c = rw (c.of.ensures, c.in_ok-close.ensures, c.in_ok-record.ensures.record) (ap (λ v. record_of v.stage) c.self.view_is)
+pub loop-cell-preserved : goal.loop-cell-preserved
+loop-cell-preserved c =
+    let left : c.loop-cell.cell-iterator.rest.items ≡ c.in-Some.cell ∷ c.next.new.self.rest.items = c.in-Some.ensures.steps.0 in
+    rw (c.in_ok-push.ensures.items, c.in_ok-push-2.ensures.items)
+    (has_more _ _ _ c.loop-cell.yielded c.loop-cell.cell-iterator.rest.items c.next.new.self.rest.items c.in-Some.cell c.loop-cell.pasts.items c.loop-cell.sents.items c.close-past.result.0 c.close-past.result.1 c.loop-cell.invariant left c.close-past.ensures.past c.close-past.ensures.links c.close-past.ensures.sent)
 
-pub returns-clause-faultless : goal.returns-clause-faultless
-returns-clause-faultless c = λ p. ap (λ v. faults (proxy_past v.stage.seen.proxies p)) (sym c.self.view_is) ∙ c.into_record.ensures.faultless p
+pub returns-clause-sent : goal.returns-clause-sent
+returns-clause-sent c = λ s below.
+    let none : c.loop-cell.cell-iterator.rest.items ≡ [] = nothing_left c.loop-cell.cell-iterator.rest.items (sym c.loop-cell.cell-iterator.rest.ok.0 ∙ c.in-None.ensures.steps.0) in
+    let all = has_all _ _ _ c.loop-cell.yielded c.loop-cell.cell-iterator.rest.items c.loop-cell.pasts.items c.loop-cell.sents.items c.loop-cell.invariant none in
+    let within : s < length c.loop-cell.pasts.items =
+    omega (arith, below, ap length all ∙ length-map c.args.self.stage.stands past_of, ap (λ (v : Run). length v.stage.stands) c.self.view_is, stands_long c.self.inside.cells.items, c.self.invariant.cells_are, ap (λ (v : Run). length v.config.services) c.self.view_is) in
+    rw (c.of.ensures, c.of-2.ensures) (closed_sent _ _ 0 s s c.loop-cell.pasts.items c.loop-cell.sents.items c.loop-cell.invariant.closed within (omega arith))
 
-pub returns-in_err-record-clause-faultless : goal.returns-in_err-record-clause-faultless
-returns-in_err-record-clause-faultless c = λ p. ap (λ v. faults (proxy_past v.stage.seen.proxies p)) (sym c.self.view_is) ∙ c.into_record.ensures.faultless p
-
-pub returns-in_err-close-clause-faultless : goal.returns-in_err-close-clause-faultless
-returns-in_err-close-clause-faultless c = λ p. ap (λ v. faults (proxy_past v.stage.seen.proxies p)) (sym c.self.view_is) ∙ c.into_record.ensures.faultless p
+pub returns-clause-told : goal.returns-clause-told
+returns-clause-told c = λ s. rw c.of-2.ensures (closed_told _ _ 0 s c.loop-cell.pasts.items c.loop-cell.sents.items c.loop-cell.invariant.closed)

@@ -1,6 +1,0 @@
-use Rattle.std.specs.Arc.{arc_value}
-use Rattle.okws_play.proofs.Cells.{AreFresh}
-use Rattle.okws_play.proofs.play.cells.Cells.new.Given as goal
-
-abbrev pub invariant-loop-i : goal.invariant-loop-i
-invariant-loop-i l = AreFresh (arc_value l.kept) l.seed l.i l.cells.items

@@ -6,4 +6,4 @@ mod Unbroken
 mod Sound
 mod SoundPlans
 mod Ruled
-mod SoundMeaning
+pub mod SoundMeaning

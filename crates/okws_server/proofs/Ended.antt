@@ -1,11 +1,8 @@
 -- How a run ends, from what it printed.
-use Rattle.std.proofs.Common.{◌≡◌, ◌∙◌, ℕ, ◌+◌, List, [], ◌∷◌, ◌++◌, length, take, Bool, true, false, refl, sym, append-nil, arith, subst, inl, inr, Some, None}
-use Rattle.std.proofs.KnownBytes.{Appends-nil}
-use Rattle.std.specs.Io.KnownBytes.{Appends}
+use Rattle.std.proofs.Common.{◌≡◌, ◌∙◌, ℕ, ◌+◌, List, [], ◌∷◌, ◌++◌, take, Bool, true, false, refl, sym, append-nil, subst, inl, inr, Some, None}
 use Rattle.std.specs.declared.option.Option.{Option}
-use Rattle.std.specs.declared.result.Result.TheVariants.{Ok, Err}
 use Rattle.okws_base.specs.declared.limit.TheConstants.{LONGEST_SCRIPT}
-use Rattle.okws_outer.specs.Streams.{AppendsPrefix, Rose, IsFrontOf}
+use Rattle.okws_outer.specs.Streams.{Rose, IsFrontOf}
 use Rattle.okws_outer.specs.Shelf.{Shelf, Reads}
 use Rattle.okws_outer.specs.Printing.{Printed, Counted, Printer, PrintsOn, PrintsFront}
 use Rattle.okws_outer.proofs.Printed.{then_on, printed_first, counted_first}
@@ -15,10 +12,9 @@ use Rattle.play_script.specs.Refusal.{script_refused}
 use Rattle.play_script.specs.Rule.{script_rule_number}
 use Rattle.config_reader.specs.declared.error.Refusal.{Refusal}
 use Rattle.okws_server.specs.Ending.{Told, BreaksOff, no_memory_line}
-use Rattle.okws_server.specs.Headline.{IsWholeRun, IsRunTo, IsTooLong, IsRefused, IsEmptyRecord, IsDueOf, Leaves}
+use Rattle.okws_server.specs.Headline.{IsWholeRun, IsRefused, IsEmptyRecord, IsDueOf, Leaves}
 use Rattle.okws_server.specs.Ran.{zero_seed, out_status, GivesConfig, IsRefusedBy, TellsRefusal, Plays, PlaysFiles, Played, Ends, Lists, Checked}
 use Rattle.okws_server.specs.Listing.{listing}
-use Rattle.okws_server.specs.Script.{IsDue}
 use Rattle.okws_server.specs.declared.script.Broken.{Broken}
 use Rattle.okws_server.specs.declared.status.Status.{Status}
 use Rattle.okws_server.specs.declared.status.Status.TheVariants as status

@@ -1,5 +1,5 @@
 -- A file that was read to one byte above its limit is judged as the whole file.
-use Rattle.std.proofs.Common.{◌≡◌, ◌∙◌, ℕ, ◌+◌, ◌≤◌, ◌<◌, List, length, take, refl, sym, arith, Bool, true, false, nat_lt, Some, ap, min, ◌^◌}
+use Rattle.std.proofs.Common.{◌≡◌, ◌∙◌, ℕ, ◌+◌, ◌≤◌, ◌<◌, List, length, take, refl, sym, arith, Bool, true, false, nat_lt, Some, ap}
 use Rattle.std.proofs.lemmas.Bool.{ltb-true, ltb-false}
 use Rattle.std.proofs.lemmas.List.{take_all, length-take-le}
 use Rattle.std.specs.declared.option.Option.{Option}
@@ -7,11 +7,10 @@ use Rattle.std.specs.declared.result.Result.TheVariants.{Ok, Err}
 use Rattle.okws_base.specs.declared.limit.TheConstants.{LONGEST_CONFIGURATION}
 use Rattle.okws_plan.specs.declared.configuration.Config.{Config}
 use Rattle.config_reader.specs.Meaning.{meaning}
-use Rattle.config_reader.specs.declared.error.Refusal.{Refusal}
 use Rattle.config_reader.specs.declared.error.ConfigError.{ConfigError}
 use Rattle.config_reader.specs.declared.error.ConfigError.TheVariants as config_error
 use Rattle.config_reader.specs.Answers.{Fails}
-use Rattle.okws_outer.specs.Streams.{IsFrontOf, Rose, counted}
+use Rattle.okws_outer.specs.Streams.{IsFrontOf, counted}
 use Rattle.okws_outer.specs.Shelf.{Shelf, Reads}
 use Rattle.okws_server.specs.Ran.{stop_of, ReadsConfig}
 use Rattle.okws_server.specs.declared.preparing.ConfigStop.{ConfigStop}

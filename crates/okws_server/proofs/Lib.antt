@@ -7,3 +7,4 @@ mod Ordering
 pub mod Said
 pub mod ScriptLines
 pub mod Sents
+pub mod Isolation

@@ -1,22 +1,19 @@
-use Rattle.std.proofs.Common.{◌≡◌, ℕ, ◌+◌, ◌*◌, ◌≤◌, Bool, true, false, ◌&&◌, ◌==◌, nat_le, map, subst, List, [], ◌∷◌, Option, Some, None, option_map, length, drop, refl, ap, arith, length-drop}
+use Rattle.std.proofs.Common.{◌≡◌, ℕ, ◌+◌, ◌*◌, ◌≤◌, Bool, true, false, ◌&&◌, ◌==◌, nat_le, map, subst, List, [], ◌∷◌, Option, Some, None, option_map, length, drop, refl, arith, length-drop}
 use Rattle.std.specs.Prelude.{if◌then◌else◌}
-use Rattle.std.specs.List.{list_all}
 use Rattle.std.specs.Str.{is_utf8}
 use Rattle.std.proofs.lemmas.Bool.{leb-true}
-use Rattle.okws_base.specs.Names.{is_path, is_path_byte}
+use Rattle.okws_base.specs.Names.{is_path}
 use Rattle.okws_base.specs.declared.limit.TheConstants.{LONGEST_PATH, LONGEST_CONTENT}
 use Rattle.okws_plan.specs.Configuration.{template_named}
 use Rattle.okws_plan.specs.Lines.{service_named, place_named}
 use Rattle.okws_plan.specs.declared.configuration.Config.{Config}
-use Rattle.okws_plan.specs.declared.script.Line.{Line}
 use Rattle.okws_plan.specs.declared.script.Line.TheVariants as line
 use Rattle.okws_plan.specs.declared.script.Method.{Method}
 use Rattle.okws_plan.specs.declared.script.Place.{Place}
 use Rattle.plain_text.specs.Decimals.{number}
 use Rattle.plain_text.specs.Hexadecimal.{hex_bytes}
 use Rattle.plain_text.specs.Words.{words, one_word, two_words}
-use Rattle.http_text.specs.Target.{is_target_byte}
-use Rattle.play_script.specs.Directive.{directive_named, step_line, change_line, method_named}
+use Rattle.play_script.specs.Directive.{directive_named, step_line, method_named}
 use Rattle.play_script.specs.Lines.{script_lines, two_or_three_words}
 use Rattle.play_script.specs.Reading.{line_of, words_read, directive_read, step_read, change_read, changed, accept_read, request_of, dialog_read, dialog_of, bytes_read, bytes_of, publish_read, edition_of, declared, bad_line, begins_comment, is_target, is_query, target_path, script_reads}
 use Rattle.play_script.specs.declared.directive.Change.{Change}
@@ -27,7 +24,6 @@ use Rattle.play_script.specs.declared.directive.Step.{Step}
 use Rattle.play_script.specs.declared.directive.Step.TheVariants as step
 use Rattle.play_script.specs.declared.reading.LineRead.{LineRead}
 use Rattle.play_script.specs.declared.reading.LineRead.TheVariants as read
-use Rattle.okws_play.specs.Run.{IsShortLine}
 use Rattle.okws_server.specs.Script.{IsShortRead}
 use Rattle.site_columns.proofs.Short.{and_first, and_second, either}
 

@@ -1,5 +1,5 @@
 -- How the lines of a script follow one another.
-use Rattle.std.proofs.Common.{◌≡◌, ◌∙◌, ℕ, ◌+◌, Bool, List, [], ◌∷◌, ◌++◌, length, reverse, Option, Some, None, option_map, refl, sym, ap, subst, arith, append_assoc, append-nil, inl, inr}
+use Rattle.std.proofs.Common.{◌≡◌, ◌∙◌, ℕ, ◌+◌, List, [], ◌∷◌, ◌++◌, length, Option, Some, None, option_map, refl, sym, ap, subst, arith, append_assoc, append-nil, inl, inr}
 use Rattle.std.proofs.lemmas.List.{reverse-append}
 use Rattle.std.proofs.lemmas.Grind.{common_steps}
 use Rattle.std.specs.declared.result.Result.{Result}
@@ -20,7 +20,7 @@ use Rattle.okws_outer.specs.Printing.{Printer, PrintsOn, PrintsFront}
 use Rattle.okws_outer.proofs.Printed.{then_on, whole_front, front_then}
 use Rattle.okws_play.specs.Run.{Run, at_stage}
 use Rattle.okws_play.specs.Played.{PlayedLine}
-use Rattle.okws_server.specs.Script.{before_lines, said_by, PlaysRead, Breaks, HasPlayed, IsBrokenAt, IsDue, PlayedRead, PlayedLines}
+use Rattle.okws_server.specs.Script.{said_by, PlaysRead, Breaks, HasPlayed, IsBrokenAt, IsDue, PlayedRead, PlayedLines}
 use Rattle.okws_server.specs.declared.script.Broken.{Broken}
 
 -- what holds of all and of one more

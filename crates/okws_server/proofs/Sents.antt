@@ -1,11 +1,10 @@
 -- A record with what the links were given keeps the laws of the record without it, and each link was given just what its incarnation heard.
-use Rattle.std.proofs.Common.{◌≡◌, ◌∙◌, ℕ, ◌<◌, Bool, true, false, ◌&&◌, ◌||◌, ◌==◌, List, [], ◌∷◌, ◌++◌, Option, Some, None, length, refl, ap, sym, inl, inr, append-nil}
+use Rattle.std.proofs.Common.{◌≡◌, ◌∙◌, ℕ, Bool, true, false, ◌&&◌, ◌||◌, ◌==◌, List, [], ◌∷◌, ◌++◌, Option, Some, None, refl, ap, inl, inr, append-nil}
 use Rattle.std.specs.Prelude.{IsFalse, IsSome}
 use Rattle.okws_base.specs.Runs.{Each}
 use Rattle.okws_plan.specs.declared.configuration.Config.{Config}
 use Rattle.okws_plan.specs.declared.script.Place.{Place}
 use Rattle.okws_plan.specs.declared.script.Place.TheVariants.{Proxy, Pubd, Oklogd}
-use Rattle.okws_plan.specs.Lines.{PlaceFits}
 use Rattle.frame_codec.specs.declared.frame.ServiceFrame.{ServiceFrame}
 use Rattle.frame_codec.specs.declared.frame.ServiceFrame.TheVariants.{Open, Call, Get, Log, Reply}
 use Rattle.frame_codec.specs.declared.frame.ServerFrame.{ServerFrame}
@@ -18,12 +17,12 @@ use Rattle.monitor_model.specs.declared.record.Item.TheVariants.{Heard, Said}
 use Rattle.monitor_model.specs.declared.record.Own.{Own}
 use Rattle.monitor_model.specs.declared.record.Record.{Record}
 use Rattle.monitor_model.specs.declared.sent.Sent.{Sent}
-use Rattle.monitor_model.specs.Answered.{AnswersIn, AreAnsweredIn, EndsIn, OpensIn, IsDialogIn, IsOpenIn, IsEventIn, AreEventsIn, speaker_of}
+use Rattle.monitor_model.specs.Answered.{AnswersIn, AreAnsweredIn, EndsIn, IsDialogIn, IsEventIn, AreEventsIn, speaker_of}
 use Rattle.monitor_model.specs.Cell.{incarnation, heard}
 use Rattle.monitor_model.specs.Course.{Speaker}
 use Rattle.monitor_model.specs.Entered.{exchanges_at, entered_by}
 use Rattle.monitor_model.specs.Legal.{IsLawful}
-use Rattle.monitor_model.specs.Merged.{IsMerged, IsOwn, lists, list_of, cell_past}
+use Rattle.monitor_model.specs.Merged.{IsOwn, list_of, cell_past}
 use Rattle.monitor_model.specs.Sent.{is_link_fault, is_broken, IsGiven, IsSent, AreSent, IsToldOf, IsGivenAll, AreGivenAll, sents_of}
 use Rattle.monitor_model.specs.Told.{TellsAll}
 use Rattle.monitor_model.specs.Unharmed.{is_harm, IsHarmless, IsUnharmed}

@@ -5,3 +5,4 @@ pub mod Listing
 pub mod Ran
 pub mod Script
 pub mod Status
+pub mod Isolation

@@ -4,6 +4,7 @@
 mod checking;
 mod command;
 mod ending;
+pub mod laws;
 mod listing;
 mod preparing;
 mod script;

@@ -111,7 +111,6 @@ impl Play {
         )
     }
 
-
     /// `boot`: an open dialog of the service ends as superseded; the cell is retired; a fresh link gets
     /// Boot of the greatest incarnation begun.
     pub fn boot<O: Sink>(

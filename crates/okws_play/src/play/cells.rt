@@ -37,11 +37,7 @@ pub fn cells_of(
 
 /// A fresh link of an empty cell gets Boot of the incarnation, with one token for each proxy where the
 /// service has a grant. Where memory is refused, nothing happened at the cell.
-pub fn boot_cell(
-    alloc: Global,
-    cell: &mut Cell<PassingLink>,
-    number: u32,
-) -> Result<(), AllocError>
+pub fn boot_cell(alloc: Global, cell: &mut Cell<PassingLink>, number: u32) -> Result<(), AllocError>
     requires seat { IsSeat cell.old.config cell.old.seed cell.old.service cell.old }
     requires closed { cell.old.open_dialog ≡ None }
     requires empty { incarnation cell.old.past ≡ 0 }

@@ -1,4 +1,4 @@
-use Rattle.okws_server.proofs.Files.{reads_stop, judged_stop}
+use Rattle.okws_server.proofs.Files.{reads_stop}
 use Rattle.okws_server.proofs.preparing.config_of.Goals as goal
 
 pub returns-in-Err-clause-is : goal.returns-in-Err-clause-is

@@ -1,4 +1,4 @@
-use Rattle.std.proofs.Common.{◌≤◌, ℕ, ◌+◌, length}
+use Rattle.std.proofs.Common.{◌≤◌, ◌+◌, length}
 use Rattle.okws_outer.specs.Printing.{printer}
 use Rattle.play_script.specs.Reading.{script_reads}
 use Rattle.okws_server.proofs.ScriptLines.{ComesTo}

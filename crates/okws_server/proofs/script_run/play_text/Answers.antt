@@ -1,6 +1,6 @@
 use Rattle.std.proofs.Common.{[], refl, arith, inl}
 use Rattle.std.proofs.lemmas.Grind.{common_steps}
-use Rattle.okws_outer.proofs.Printed.{nothing_on, no_front}
+use Rattle.okws_outer.proofs.Printed.{nothing_on}
 use Rattle.okws_server.proofs.script_run.play_text.Goals as goal
 
 pub returns-then-text-gt-LONGEST_SCRIPT : goal.returns-then-text-gt-LONGEST_SCRIPT

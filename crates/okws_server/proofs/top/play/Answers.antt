@@ -1,4 +1,4 @@
-use Rattle.okws_server.proofs.Ended.{played_by, refusal_played}
+use Rattle.okws_server.proofs.Ended.{played_by}
 use Rattle.okws_server.proofs.top.play.Goals as goal
 
 pub returns-in-Ok : goal.returns-in-Ok

@@ -1,0 +1,13 @@
+//! Laws over what the contract of a run says.
+
+ghost use Rattle.okws_server.specs.Isolation.{AgreeingRunsGiveTheSame};
+
+use two_worlds::laws::hears_the_same;
+
+/// Where the records of two runs of `play` agree for a service, whatever else differs between the runs,
+/// the links of its incarnations were given the same bytes in both.
+pub fn agreeing_runs_give_the_same()
+    ensures { AgreeingRunsGiveTheSame }
+{
+    hears_the_same();
+}

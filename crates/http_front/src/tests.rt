@@ -268,3 +268,67 @@ fn responses_are_written(rt: HostRuntime) -> Result<(), Fail> {
     }
     Ok(())
 }
+
+/// The head of a response with so much content.
+fn head_before(alloc: Global, size: usize) -> Result<Vec<u8>, AllocError> {
+    let mut head = Vec::from_slice(
+        alloc,
+        b"HTTP/1.1 200 OK\r\nContent-Type: text/plain\r\nContent-Length: ",
+    )?;
+    head.extend_from_slice(format!(in alloc; "{size}")?.as_bytes())?;
+    head.extend_from_slice(b"\r\nConnection: close\r\n\r\n")?;
+    Ok(head)
+}
+
+/// A response with this content, over a connection with so much room whose call of this number fails;
+/// and what was given.
+fn respond_over(
+    alloc: Global,
+    content: &[u8],
+    room: usize,
+    failing: u64,
+) -> Result<(Responded, Vec<u8>), AllocError> {
+    let failing = [failing];
+    let mut conn = MemoryConn::new(alloc, b"", &[], room, &failing)?;
+    let mut kept = Kept::new(alloc)?;
+    let got = respond(
+        &mut conn,
+        &mut kept,
+        StatusCode::OK,
+        b"text/plain",
+        b"",
+        content,
+        b"GET",
+    );
+    Ok((got, Vec::from_slice(alloc, conn.given())?))
+}
+
+#[test]
+fn long_responses_go_out_in_two_puts(rt: HostRuntime) -> Result<(), Fail> {
+    let alloc = rt.alloc();
+    // The sizes of content up to which a response goes out in one put, and behind them.
+    for (size, is_one) in [
+        (65_448, true),
+        (65_449, true),
+        (65_450, false),
+        (300_000, false),
+    ] {
+        let content = vec![in alloc; b'a'; size]?;
+        let head = head_before(alloc, size)?;
+        let mut whole = Vec::from_slice(alloc, &head)?;
+        whole.extend_from_slice(&content)?;
+        let (got, given) = respond_over(alloc, &content, 400_000, 2)?;
+        assert_eq!(rt; got, Responded::Sent, "at {size}");
+        assert!(rt; given == whole, "at {size}");
+        let (got, given) = respond_over(alloc, &content, 400_000, 1)?;
+        assert_eq!(rt; got == Responded::Sent, is_one, "at {size}");
+        assert!(rt; given == if is_one { whole } else { head }, "at {size}");
+        let (got, given) = respond_over(alloc, &content, 400_000, 0)?;
+        assert_eq!(rt; got, Responded::ConnFault, "at {size}");
+        assert!(rt; given.is_empty(), "at {size}");
+        let (got, given) = respond_over(alloc, &content, 65_000, 2)?;
+        assert_eq!(rt; got, Responded::ConnFault, "at {size}");
+        assert_eq!(rt; given.len(), 65_000, "at {size}");
+    }
+    Ok(())
+}

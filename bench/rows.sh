@@ -1,0 +1,28 @@
+#!/bin/sh
+# Times statements over the keeper with indexes at 1,000, 10,000 and 100,000 rows, beside the library's ordered
+# map in the same run, in a copy of the repository: the program is proved, built by LLVM and run. Run it at the
+# top of the repository.
+set -eu
+below='okws_base okws_plan okws_outer plain_text query_syntax statement_core config_reader index_keeper'
+copy=$(mktemp -d)
+trap 'rm -rf "$copy"' EXIT
+cp HANDLES "$copy"
+bench="$copy/crates/rows_bench"
+mkdir -p "$bench/src" "$bench/specs" "$bench/proofs/call_many"
+for crate in $below; do
+    cp -R "crates/$crate" "$copy/crates"
+    grep "^$crate:" crates.txt >> "$copy/crates.txt"
+done
+echo "rows_bench: $below hex" >> "$copy/crates.txt"
+cp bench/rows.rt.txt "$bench/src/main.rt"
+: > "$bench/specs/Lib.antt"
+: > "$bench/proofs/Lib.antt"
+cat > "$bench/proofs/call_many/Invariants.antt" <<'END'
+use Rattle.std.proofs.Common.{◌≡◌}
+use Rattle.rows_bench.proofs.call_many.Given as goal
+
+abbrev pub invariant-loop-i : goal.invariant-loop-i
+invariant-loop-i l = l.keeper.tables.items ≡ l.initial.keeper.tables.items
+END
+cd "$bench"
+rt run

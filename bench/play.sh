@@ -10,12 +10,12 @@ folder=$(mktemp -d)
 trap 'rm -rf "$folder"' EXIT
 
 measure() {
-    local name=$1 script=$2
-    python3 - "$okws" "$name" "$script" <<'PY'
+    local name=$1 script=$2 site=${3:-examples/site.okws}
+    python3 - "$okws" "$name" "$script" "$site" <<'PY'
 import os, sys
-okws, name, script = sys.argv[1:]
+okws, name, script, site = sys.argv[1:]
 nowhere = (os.POSIX_SPAWN_OPEN, 1, "/dev/null", os.O_WRONLY, 0)
-pid = os.posix_spawn(okws, [okws, "play", "examples/site.okws", script], {}, file_actions=[nowhere])
+pid = os.posix_spawn(okws, [okws, "play", site, script], {}, file_actions=[nowhere])
 _, status, used = os.wait4(pid, 0)
 size = os.path.getsize(script)
 seconds = used.ru_utime + used.ru_stime
@@ -66,4 +66,22 @@ for size in 1 4 16; do
         for (n = 13; n + length(line) + 1 <= most; n += length(line) + 1) print line
     }' >"$folder/bytes"
     measure "$size MiB of bytes" "$folder/bytes"
+done
+
+# A script of 2.1 MB whose 100 calls hear a megabyte each, all in one dialog and each in one of its own.
+for dialogs in 1 100; do
+    awk -v dialogs="$dialogs" -v reply="$reply" 'BEGIN {
+        print "launch guest\naccept GET /guest\ndialog 0"
+        print "bytes guest 000000174100000000000000000001ade0b876903df1a0e56a5d40"
+        blob = "61"
+        while (length(blob) < 2 * 524280) blob = blob blob
+        blob = substr(blob, 1, 2 * 524280)
+        for (i = 0; i < 2; i++) printf "bytes guest %08x4200000000000000010103%08x%s\n", 524280 + 15, 524280, blob
+        for (i = 0; i < 100; i++) {
+            if (dialogs > 1 && i > 0) print "bytes guest " reply "\naccept GET /guest\ndialog " i
+            print "bytes guest 0000000a42000000000000000200"
+        }
+        print "bytes guest " reply
+    }' >"$folder/loud"
+    measure "$dialogs dialogs that hear 100 MB" "$folder/loud" checks/blobs.okws
 done

@@ -5,5 +5,6 @@
 pub mod configuration;
 pub mod event;
 pub mod meaning;
+pub mod naming;
 pub mod script;
 pub mod statement;

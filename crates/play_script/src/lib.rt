@@ -4,7 +4,6 @@
 
 pub mod directive;
 pub mod laws;
-pub mod names;
 pub mod reading;
 pub mod refusal;
 pub mod rule;

@@ -8,7 +8,6 @@ ghost use Rattle.play_script.specs.Lines.{two_or_three_words};
 ghost use Rattle.play_script.specs.Reading.{is_query, is_target, ReadFits, ReadKeeps, step_read, change_read, accept_read, dialog_read, bytes_read, publish_read, directive_read, line_of, script_reads};
 
 use crate::directive::{Change, Directive, Step, directive_of, method_of};
-use crate::names::{place_of, service_of, template_of};
 use crate::rule::ScriptRule;
 use crate::text::two_or_three_words;
 use http_text::target::{are_target_bytes, before_query};
@@ -16,6 +15,7 @@ use okws_base::items::Items;
 use okws_base::limit::{LONGEST_CONTENT, LONGEST_PATH};
 use okws_base::name::is_a_path;
 use okws_plan::configuration::Config;
+use okws_plan::naming::{place_of, service_of, template_of};
 use okws_plan::script::Line;
 use plain_text::decimals::number_of;
 use plain_text::hexadecimal::hex_bytes_of;

@@ -2,7 +2,7 @@
 
 ghost use Rattle.std.specs.Prelude.{◌≡◌, ◌<◌, ◌&&◌, ◌==◌, ◌∷◌, ◌++◌, [], ℕ, IfOk, IfSome, OnOk, OnErr, None, if◌then◌else◌, length, replicate, nat_le};
 ghost use Rattle.std.specs.Arc.{arc_value};
-ghost use Rattle.okws_plan.specs.Configuration.{reads, named_from, template_name};
+ghost use Rattle.okws_plan.specs.Configuration.{reads, template_name};
 ghost use Rattle.okws_plan.specs.declared.event.PubdEvent.TheVariants as event;
 ghost use Rattle.grant_column.specs.Headed.{noted};
 ghost use Rattle.pubd_core.specs.Kept.{number_of};
@@ -91,19 +91,6 @@ pub fn number_of(edition: &Option<Edition>) -> u32
         None => 0,
         Some(edition) => edition.number,
     }
-}
-
-// The number of the template with this name.
-pub fn number_of_template(templates: &[Name], name: &[u8]) -> Option<usize>
-    ensures is { result ≡ named_from 0 templates.now name.now }
-    ensures within { IfSome result (λ i. i < length templates.now) }
-{
-    for i in 0..templates.len() {
-        if templates[i].as_slice() == name {
-            return Some(i);
-        }
-    }
-    None
 }
 
 // Whether the service may read the template.

@@ -13,8 +13,8 @@ ghost use Rattle.pubd_core.specs.Seen.{entered, after_publication};
 ghost use Rattle.pubd_core.specs.Readers.{may_stand};
 
 use crate::kept::{
-    Edition, Publication, may_read, news_since, number_of, number_of_template, pushed,
-    tell_publication, unpublished_ones,
+    Edition, Publication, may_read, news_since, number_of, pushed, tell_publication,
+    unpublished_ones,
 };
 use crate::readers::{Reader, heard_of, keep_heard, keep_readers, keep_wanted};
 use grant_column::{Granting, Head};
@@ -25,6 +25,7 @@ use okws_base::journal::{Entry, Past};
 use okws_base::limit::{LONGEST_TEMPLATE, MOST_EDITIONS};
 use okws_plan::configuration::Config;
 use okws_plan::event::PubdEvent;
+use okws_plan::naming::place_among;
 use std::alloc::{AllocError, Global};
 use std::marker::Model;
 use std::sync::Arc;
@@ -163,7 +164,7 @@ impl Pubd {
         ensures ok { IfOk result (λ v. self.new ≡ after_publication self.old name.now content v) }
         ensures err { OnErr result (self.new ≡ self.old) }
     {
-        let Some(template) = number_of_template(self.config.templates.as_slice(), name) else {
+        let Some(template) = place_among(self.config.templates.as_slice(), name) else {
             return Ok(Published::NoSuchTemplate);
         };
         if content.as_slice().len() > LONGEST_TEMPLATE {
@@ -339,7 +340,7 @@ impl Pubd {
         if self.head.standing(service) != Some(incarnation) {
             return Ok(Got::Denied(Rule::StaleAtPubd));
         }
-        let Some(template) = number_of_template(self.config.templates.as_slice(), name) else {
+        let Some(template) = place_among(self.config.templates.as_slice(), name) else {
             return Ok(Got::Denied(Rule::TemplateNotGranted));
         };
         if may_read(&self.config, service, template as u16) {

@@ -1,8 +1,9 @@
 -- The verdicts of oklogd, looking back along its past J, and the text of the log.
-use Rattle.std.specs.Prelude.{ℕ, ◌+◌, ◌/◌, ◌%◌, List, [], ◌∷◌, ◌++◌, ◌==◌, ◌||◌, nat_lt, nat_le, not, if◌then◌else◌, length, flat_map, decimal}
+use Rattle.std.specs.Prelude.{ℕ, List, [], ◌∷◌, ◌++◌, nat_le, not, if◌then◌else◌, length, decimal}
 use Rattle.okws_base.specs.declared.limit.TheConstants.{LONGEST_LOG}
 use Rattle.okws_base.specs.declared.journal.Entry.{Entry}
 use Rattle.okws_base.specs.declared.denial.Rule.TheVariants as rule
+use Rattle.plain_text.specs.Hexadecimal.{escaped}
 use Rattle.okws_plan.specs.Configuration.{in_force, logs, service_name}
 use Rattle.okws_plan.specs.declared.configuration.Config.{Config}
 use Rattle.okws_plan.specs.declared.event.LogEvent.{LogEvent}
@@ -18,26 +19,6 @@ log_verdict C J s k text =
     else if not (logs (in_force C J) s) then Denied rule.LogNotGranted
     else if not (nat_le (length text) LONGEST_LOG) then Denied rule.LogTooLong
     else Logged
-
--- A digit of base 16, in lower case.
-abbrev pub hex_digit : ℕ → ℕ
-hex_digit n = if nat_lt n 10 then 48 + n else 87 + n
-
--- A byte in two digits of base 16.
-abbrev pub hex_byte : ℕ → List ℕ
-hex_byte b = hex_digit (b / 16) ∷ hex_digit (b % 16) ∷ []
-
--- Bytes in lower-case hexadecimal.
-abbrev pub hex : List ℕ → List ℕ
-hex bytes = flat_map hex_byte bytes
-
--- A byte below 32, above 126, or equal to a backslash stands as a backslash, `x` and two digits of base 16 in lower case.
-abbrev pub escaped_byte : ℕ → List ℕ
-escaped_byte b = if nat_lt b 32 || (nat_lt 126 b || (b == 92)) then 92 ∷ 120 ∷ hex_byte b else b ∷ []
-
--- Bytes in which the unprintable ones and the backslash are escaped.
-abbrev pub escaped : List ℕ → List ℕ
-escaped bytes = flat_map escaped_byte bytes
 
 -- A line of the log: `SERVICE K TEXT` and LF, the service by name.
 unfoldable pub log_line : List ℕ → ℕ → List ℕ → List ℕ

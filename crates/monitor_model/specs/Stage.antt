@@ -9,7 +9,7 @@ use Rattle.frame_codec.specs.declared.frame.ServerFrame.{ServerFrame}
 use Rattle.monitor_model.specs.declared.record.CellEvent.{CellEvent}
 use Rattle.monitor_model.specs.declared.record.Item.{Item}
 use Rattle.monitor_model.specs.declared.record.Own.{Own}
-use Rattle.monitor_model.specs.Logd.{hex, escaped}
+use Rattle.plain_text.specs.Hexadecimal.{hex, escaped}
 use Rattle.monitor_model.specs.Seen.{Seen, noted}
 
 -- A dialog that is open: the request's number, and the items so far, the newest first.

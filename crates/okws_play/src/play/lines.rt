@@ -1,8 +1,7 @@
 //! The lines that a run prints.
 
-ghost use Rattle.std.specs.Prelude.{◌≡◌, ◌++◌, ◌<◌, ◌∷◌, [], IfOk, OnOk};
+ghost use Rattle.std.specs.Prelude.{◌≡◌, IfOk};
 ghost use Rattle.frame_codec.specs.Spelling.{HasSpelling};
-ghost use Rattle.monitor_model.specs.Logd.{hex_digit, hex_byte, hex, escaped_byte, escaped};
 ghost use Rattle.monitor_model.specs.Stage.{heard_line, answer_line};
 ghost use Rattle.monitor_model.specs.Script.{way_text};
 ghost use Rattle.okws_outer.specs.Printing.{PrintsAs, printer};
@@ -14,49 +13,8 @@ use monitor_model::verdict::Way;
 use okws_outer::printing::print;
 use okws_outer::stream::Sink;
 use okws_plan::configuration::{Config, name_of};
+use plain_text::hexadecimal::{push_escaped, push_hex};
 use std::alloc::{AllocError, Global};
-
-fn digit(n: u8) -> u8
-    requires { n < 16 }
-    ensures { result ≡ hex_digit n }
-{
-    if n < 10 { b'0' + n } else { b'a' - 10 + n }
-}
-
-fn push_hex_byte(line: &mut Vec<u8>, byte: u8) -> Result<(), AllocError>
-    ensures { OnOk result (line.new.items ≡ line.old.items ++ hex_byte byte) }
-{
-    line.extend_from_slice(&[digit(byte / 16), digit(byte % 16)])
-}
-
-fn push_hex(line: &mut Vec<u8>, bytes: &[u8]) -> Result<(), AllocError>
-    ensures { OnOk result (line.new.items ≡ line.old.items ++ hex bytes.now) }
-{
-    for byte in bytes {
-        push_hex_byte(line, *byte)?;
-    }
-    Ok(())
-}
-
-fn push_escaped_byte(line: &mut Vec<u8>, byte: u8) -> Result<(), AllocError>
-    ensures { OnOk result (line.new.items ≡ line.old.items ++ escaped_byte byte) }
-{
-    if byte < 32 || byte > 126 || byte == b'\\' {
-        line.extend_from_slice(&[b'\\', b'x', digit(byte / 16), digit(byte % 16)])
-    } else {
-        line.push(byte)?;
-        Ok(())
-    }
-}
-
-fn push_escaped(line: &mut Vec<u8>, bytes: &[u8]) -> Result<(), AllocError>
-    ensures { OnOk result (line.new.items ≡ line.old.items ++ escaped bytes.now) }
-{
-    for byte in bytes {
-        push_escaped_byte(line, *byte)?;
-    }
-    Ok(())
-}
 
 fn line_of_heard(
     alloc: Global,

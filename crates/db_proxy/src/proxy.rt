@@ -240,6 +240,8 @@ impl<K: Keeper> Journaled for Proxy<K> {
 
     ghost label = { λ a. a.number };
 
+    ghost held = { λ a n. record a { holder = n } };
+
     fn hold(&mut self, number: u16)
         ensures same { self.new.past ≡ self.old.past }
         ensures label { self.new.number ≡ self.old.number }

@@ -257,6 +257,8 @@ impl<S: Sink> Journaled for LogDaemon<S> {
 
     ghost label = { λ _. 0 };
 
+    ghost held = { λ a n. record a { holder = n } };
+
     fn hold(&mut self, number: u16)
         ensures same { self.new.past ≡ self.old.past }
         ensures holder { self.new.holder ≡ number }

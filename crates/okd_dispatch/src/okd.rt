@@ -175,6 +175,8 @@ impl Journaled for Okd {
 
     ghost label = { λ _. 0 };
 
+    ghost held = { λ a n. record a { holder = n } };
+
     fn hold(&mut self, number: u16)
         ensures same { self.new.past ≡ self.old.past }
         ensures holder { self.new.holder ≡ number }

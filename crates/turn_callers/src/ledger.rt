@@ -67,6 +67,8 @@ impl Journaled for Ledger {
 
     ghost label = { λ l. l.label };
 
+    ghost held = { λ l n. record l { holder = n } };
+
     fn hold(&mut self, number: u16)
         ensures { self.new ≡ record self.old { holder = number } }
     {

@@ -20,8 +20,12 @@ pub trait Journaled {
     /// Which of several values of its type it is. No call changes it.
     ghost label: { Self → ℕ };
 
-    /// Has new entries name this number.
+    /// The same value, whose new entries will name this number.
+    ghost held: { Self → ℕ → Self };
+
+    /// Has new entries name this number, and changes nothing else.
     fn hold(&mut self, number: u16)
+        ensures all { self.new ≡ held self.old number }
         ensures same { journal self.new ≡ journal self.old }
         ensures label { label self.new ≡ label self.old }
         ensures holder { holder self.new ≡ number };

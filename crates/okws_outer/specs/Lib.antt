@@ -6,3 +6,10 @@ pub mod Keeping
 pub mod Optional
 pub mod Shelf
 pub mod Conns
+pub mod Doors
+pub mod Networks
+pub mod Making
+pub mod Lives
+pub mod Families
+pub mod Depots
+pub mod Racks

@@ -1,7 +1,7 @@
 //! Which calls of an object fail, and how many have.
 
 ghost use Rattle.std.specs.Prelude.{◌≡◌, ◌≤◌, ◌+◌, ◌==◌, true, false, length};
-ghost use Rattle.okws_outer.specs.Streams.{Counts, Rose};
+ghost use Rattle.okws_outer.specs.Streams.{Counts, Rose, counted};
 
 /// The numbers of the calls that fail, the number of the next call, and the count of faults.
 #[derive(Clone, Copy)]
@@ -27,6 +27,7 @@ impl<'a> Failing<'a> {
     pub(crate) fn fails(&mut self) -> bool
         ensures calls { self.new.calls ≡ self.old.calls }
         ensures faults { Counts self.old.faults self.new.faults (result ≡ true) }
+        ensures still { result ≡ false → self.new.faults ≡ self.old.faults }
         ensures never { (length self.old.calls.now == 0) ≡ true → result ≡ false }
     {
         let call = self.next;
@@ -38,6 +39,18 @@ impl<'a> Failing<'a> {
         fails
     }
 
+    /// The same, of an object of which each call fails where `refuses` says so.
+    pub(crate) fn fails_or(&mut self, refuses: bool) -> bool
+        ensures faults { Counts self.old.faults self.new.faults (result ≡ true) }
+        ensures still { result ≡ false → self.new.faults ≡ self.old.faults }
+    {
+        if refuses {
+            self.count();
+            return true;
+        }
+        self.fails()
+    }
+
     /// Counts a fault; the count stays at 2^64 - 1.
     pub(crate) fn count(&mut self)
         ensures calls { self.new.calls ≡ self.old.calls }
@@ -46,5 +59,13 @@ impl<'a> Failing<'a> {
         ensures by { self.new.faults ≤ self.old.faults + 1 }
     {
         self.faults = self.faults.saturating_add(1);
+    }
+
+    /// Counts so many faults; the count stays at 2^64 - 1.
+    pub(crate) fn add(&mut self, faults: u64)
+        ensures calls { self.new.calls ≡ self.old.calls }
+        ensures faults { self.new.faults ≡ counted self.old.faults faults }
+    {
+        self.faults = self.faults.saturating_add(faults);
     }
 }

@@ -1,0 +1,300 @@
+//! Children in memory.
+
+ghost use Rattle.std.specs.Prelude.{◌≡◌, ◌==◌, [], IfOk, IfSome, length, reverse};
+ghost use Rattle.okws_outer.specs.Lives.{new_life};
+ghost use Rattle.okws_outer.specs.Wire.{unused, fed, shut};
+
+use crate::child::{Child, Ended};
+use crate::children::{ChildEnd, ChildStart, Children, Started};
+use crate::error::MakeError;
+use crate::memory::failing::Failing;
+use crate::memory::link::{FedLink, MemoryLink};
+use crate::memory::noted::Noted;
+use crate::stream::Link;
+use okws_base::items::{Items, copies};
+use okws_base::told::{Parts, Says};
+use std::alloc::{AllocError, Global};
+
+/// What the child of a service's incarnation does.
+#[derive(Clone, Copy)]
+pub struct ChildPlan<'a> {
+    /// The service, by its number.
+    pub service: u16,
+    /// The incarnation, from 1.
+    pub incarnation: u32,
+    /// All bytes that it says.
+    pub says: &'a [u8],
+    /// They come in pieces of at most so many, and of 1 where this is 0.
+    pub piece: usize,
+    /// The numbers of the link's calls that fail.
+    pub failing: &'a [u64],
+    /// What `ended` answers, in order; the last answer goes for all further calls, and none is No.
+    pub answers: &'a [Ended],
+}
+
+/// What a child does of which there is no plan: it says nothing.
+const SILENT: ChildPlan<'static> = ChildPlan {
+    service: 0,
+    incarnation: 0,
+    says: b"",
+    piece: 1,
+    failing: &[],
+    answers: &[],
+};
+
+/// A child in memory.
+#[derive(Clone, Copy)]
+pub struct MemoryChild<'a> {
+    service: u16,
+    incarnation: u32,
+    answers: &'a [Ended],
+    asked: u64,
+    last: Option<Ended>,
+    ended: bool,
+    faults: u64,
+}
+
+impl<'a> MemoryChild<'a> {
+    fn new(service: u16, incarnation: u32, answers: &'a [Ended]) -> Self
+        ensures { ⟦<MemoryChild<'a> as Child>⟧.life result ≡ new_life service incarnation }
+    {
+        MemoryChild {
+            service,
+            incarnation,
+            answers,
+            asked: 0,
+            last: None,
+            ended: false,
+            faults: 0,
+        }
+    }
+}
+
+/// The next answer; the one of a list's end stays.
+fn next_answer(answers: &mut &[Ended]) -> Ended {
+    match *answers {
+        [] => Ended::No,
+        [last] => *last,
+        [first, rest @ ..] => {
+            *answers = rest;
+            *first
+        }
+    }
+}
+
+impl<'a> Child for MemoryChild<'a> {
+    ghost life = { λ c. record {
+      service = c.service;
+      incarnation = c.incarnation;
+      asked = c.asked;
+      last = c.last;
+      ended = c.ended;
+      faults = c.faults;
+    } };
+
+    fn ended(&mut self) -> Ended {
+        let answer = next_answer(&mut self.answers);
+        self.asked = self.asked.saturating_add(1);
+        self.last = Some(answer);
+        match answer {
+            Ended::Yes => self.ended = true,
+            Ended::No => {}
+            Ended::Failed => self.faults = self.faults.saturating_add(1),
+        }
+        answer
+    }
+
+    fn stop(&mut self) {}
+}
+
+/// Children in memory, which do what is planned.
+#[derive(Drop)]
+pub struct MemoryChildren<'a> {
+    alloc: Global,
+    plans: &'a [ChildPlan<'a>],
+    started: Noted<ChildStart>,
+    finished: Noted<ChildEnd>,
+    refuses: bool,
+    failing: Failing<'a>,
+}
+
+impl<'a> MemoryChildren<'a> {
+    /// Children of these plans, of which the first of a service's incarnation stands; the starts of
+    /// the numbers in `failing` fail.
+    pub fn new(alloc: Global, plans: &'a [ChildPlan<'a>], failing: &'a [u64]) -> Self
+        ensures { ⟦<MemoryChildren<'a> as Children>⟧.family result ≡ record { started = []; finished = []; faults = 0 } }
+    {
+        MemoryChildren {
+            alloc,
+            plans,
+            started: Noted::new(alloc),
+            finished: Noted::new(alloc),
+            refuses: false,
+            failing: Failing::at(failing),
+        }
+    }
+
+    /// Children that are not there: each start fails.
+    pub fn absent(alloc: Global) -> Self
+        ensures { ⟦<MemoryChildren<'a> as Children>⟧.family result ≡ record { started = []; finished = []; faults = 0 } }
+    {
+        MemoryChildren {
+            alloc,
+            plans: &[],
+            started: Noted::new(alloc),
+            finished: Noted::new(alloc),
+            refuses: true,
+            failing: Failing::at(&[]),
+        }
+    }
+
+    /// The starts, the oldest first, unless memory was refused for one.
+    pub fn started(&self) -> Option<&[ChildStart]>
+        ensures { IfSome result (λ s. reverse s.now ≡ (⟦<MemoryChildren<'a> as Children>⟧.family self.now).started) }
+    {
+        self.started.as_slice()
+    }
+
+    /// The children that were finished, the oldest first, unless memory was refused for one.
+    pub fn finished(&self) -> Option<&[ChildEnd]>
+        ensures { IfSome result (λ s. reverse s.now ≡ (⟦<MemoryChildren<'a> as Children>⟧.family self.now).finished) }
+    {
+        self.finished.as_slice()
+    }
+
+    /// How many starts have failed.
+    pub fn faults(&self) -> u64
+        ensures { result ≡ (⟦<MemoryChildren<'a> as Children>⟧.family self.now).faults }
+    {
+        self.failing.faults
+    }
+}
+
+/// The plan of a service's incarnation.
+fn plan_of<'a>(plans: &'a [ChildPlan<'a>], service: u16, incarnation: u32) -> ChildPlan<'a> {
+    for plan in plans {
+        if plan.service == service && plan.incarnation == incarnation {
+            return *plan;
+        }
+    }
+    SILENT
+}
+
+/// A link over which these bytes come, and nothing behind them.
+fn link_of<'a>(alloc: Global, plan: &ChildPlan<'a>) -> Result<MemoryLink<'a>, AllocError>
+    ensures { IfOk result (λ l. ⟦<MemoryLink<'a> as Link>⟧.wire l ≡ shut (fed plan.now.says.now (unused (length plan.now.failing.now == 0)))) }
+{
+    let mut link = MemoryLink::new(alloc, plan.piece, plan.failing);
+    link.feed(plan.says)?;
+    link.feed_end();
+    Ok(link)
+}
+
+/// A child that was started.
+#[derive(Clone, Copy)]
+struct Starting<'c> {
+    service: u16,
+    incarnation: u32,
+    words: &'c [Items<u8>],
+    says: &'c [u8],
+}
+
+impl<'c> Says for Starting<'c> {
+    type Item = ChildStart;
+
+    ghost use Rattle.std.specs.Prelude.{Some};
+
+    ghost item = { λ s. record { service = s.service; incarnation = s.incarnation; words = s.words.now; says = Some s.says.now } };
+}
+
+impl<'c> Parts for Starting<'c> {
+    fn make(&self, alloc: Global) -> Result<ChildStart, AllocError> {
+        Ok(ChildStart {
+            service: self.service,
+            incarnation: self.incarnation,
+            words: Items::of(copies(alloc, self.words)?),
+            says: Some(Items::of(copies(alloc, self.says)?)),
+        })
+    }
+}
+
+/// A child that is finished, and its link.
+#[derive(Clone, Copy)]
+struct Finished<'c, 'a> {
+    child: &'c MemoryChild<'a>,
+    link: &'c MemoryLink<'a>,
+}
+
+impl<'c, 'a> Says for Finished<'c, 'a> {
+    type Item = ChildEnd;
+
+    ghost item = { λ f. record {
+      service = f.child.now.service;
+      incarnation = f.child.now.incarnation;
+      ended = f.child.now.ended;
+      left = (⟦<MemoryLink<'a> as Link>⟧.wire f.link.now).left;
+      given = (⟦<MemoryLink<'a> as Link>⟧.wire f.link.now).given;
+      faults = (⟦<MemoryLink<'a> as Link>⟧.wire f.link.now).faults;
+    } };
+}
+
+impl<'c, 'a> Parts for Finished<'c, 'a> {
+    fn make(&self, alloc: Global) -> Result<ChildEnd, AllocError> {
+        Ok(ChildEnd {
+            service: self.child.service,
+            incarnation: self.child.incarnation,
+            ended: self.child.ended,
+            left: Some(Items::of(copies(alloc, self.link.left())?)),
+            given: Some(Items::of(copies(alloc, self.link.given())?)),
+            faults: self.link.faults(),
+        })
+    }
+}
+
+impl<'a> Children for MemoryChildren<'a> {
+    type Child = MemoryChild<'a>;
+
+    type Link = MemoryLink<'a>;
+
+    ghost family = { λ c. record { started = c.started.told.past; finished = c.finished.told.past; faults = c.failing.faults } };
+
+    fn start(
+        &mut self,
+        alloc: Global,
+        service: u16,
+        incarnation: u32,
+        words: &[Items<u8>],
+    ) -> Result<Started<MemoryChild<'a>, MemoryLink<'a>>, MakeError> {
+        if self.failing.fails_or(self.refuses) {
+            return Err(MakeError::Failed);
+        }
+        let plan = plan_of(self.plans, service, incarnation);
+        let link = link_of(alloc, &plan)?;
+        let says = plan.says;
+        let starting = Starting {
+            service,
+            incarnation,
+            words,
+            says,
+        };
+        self.started.note(self.alloc, &starting);
+        Ok(Started {
+            child: MemoryChild::new(service, incarnation, plan.answers),
+            link,
+        })
+    }
+
+    fn finish(
+        &mut self,
+        _service: u16,
+        _incarnation: u32,
+        child: MemoryChild<'a>,
+        link: MemoryLink<'a>,
+    ) {
+        let finished = Finished {
+            child: &child,
+            link: &link,
+        };
+        self.finished.note(self.alloc, &finished);
+    }
+}

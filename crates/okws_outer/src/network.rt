@@ -1,0 +1,35 @@
+//! The network, which opens doors and takes them back.
+
+ghost use Rattle.std.specs.Prelude.{◌≡◌, All, IfOk, length, map};
+ghost use Rattle.okws_outer.specs.Doors.{new_entrance};
+ghost use Rattle.okws_outer.specs.Networks.{Net, Listens};
+
+use crate::door::Door;
+use crate::error::MakeError;
+use std::alloc::Global;
+
+/// The network of one run.
+pub trait Network {
+    /// A door, which a thread of its own may have.
+    type Door: Door + Send + Drop;
+
+    /// What is told of the network. Its count of faults, which doors have no part in, never falls, and
+    /// stays at 2^64 - 1 once it is there.
+    ghost net: { Self → Net };
+
+    /// Opens so many doors on one port of the loopback address, which take from one line of
+    /// connections.
+    fn listen(
+        &mut self,
+        alloc: Global,
+        port: u16,
+        count: usize,
+    ) -> Result<Vec<Self::Door>, MakeError>
+        ensures count { IfOk result (λ doors. length doors.items ≡ count) }
+        ensures doors { IfOk result (λ doors. All (λ d. Self.Door.entrance d ≡ new_entrance) doors.items) }
+        ensures net { Listens (net self.old) (net self.new) result };
+
+    /// Takes doors back at the end of a run, in their order, and closes them.
+    fn close(&mut self, doors: Vec<Self::Door>)
+        ensures { net self.new ≡ record (net self.old) { doors = map Self.Door.entrance doors.items } };
+}

@@ -1,10 +1,11 @@
 pub mod Sizes
 pub mod Widths
 pub mod Texts
-pub mod Loop
+pub mod Lists
 pub mod Formats
 pub mod Values
 pub mod Payloads
+pub mod ServerPayloads
 pub mod Whole
 pub mod Apart
 pub mod Bounded

@@ -1,18 +1,17 @@
 -- What is read as a payload is one, and a payload is read.
-use Rattle.std.proofs.Common.{◌≡◌, ℕ, ◌^◌, ◌<◌, Bool, true, false, cond, eqb, List, [], ◌∷◌, ◌++◌, length, Option, Some, None, refl, sym, ap, subst, ◌∙◌, arith}
+use Rattle.std.proofs.Common.{◌≡◌, ℕ, ◌^◌, ◌<◌, Bool, true, false, cond, eqb, List, [], ◌∷◌, ◌++◌, length, Some, None, refl, ap, arith}
 use Rattle.std.specs.Prelude.{option_map, IsTrue, ◌&&◌, nat_le}
 use Rattle.std.specs.Int.{w16, w32}
-use Rattle.std.proofs.lemmas.Bool.{eqb-true}
 use Rattle.std.proofs.lemmas.Bool.Decides.{nat_tests}
-use Rattle.std.proofs.lemmas.List.{append-nil, nil_from_length}
 use Rattle.std.proofs.lemmas.List.Sums.{sum_by-cons}
 use Rattle.okws_base.specs.Runs.{Each}
 use Rattle.okws_base.specs.declared.value.Value.{Value}
 use Rattle.frame_codec.specs.declared.frame.ServiceFrame.{ServiceFrame}
 use Rattle.frame_codec.specs.declared.frame.ServiceFrame.TheVariants.{Open, Call, Get, Log, Reply}
 use Rattle.frame_codec.specs.Spelling.{two, four, name, string, values, size, service_parts, Fits, Spellable, Bytewise, is_reply_status, is_content_type, is_location}
-use Rattle.frame_codec.specs.Reading.{Reader, checked, fixed_at, number_at, name_at, string_at, values_at, open_at, call_at, reply_at, open_frame, call_frame, reply_frame, all_of, fields_at, payload_at}
-use Rattle.frame_codec.proofs.Formats.{bytes_of, IsBytes, IsBytes-rest, IsFormat, map_some, test_some, fixed_format, both_format, checked_format, two_format, four_format, name_format, string_format}
+use Rattle.frame_codec.specs.Reading.{checked, fixed_at, number_at, name_at, string_at, all_of, payload_at}
+use Rattle.frame_codec.specs.ServiceFields.{values_at, open_at, call_at, reply_at, open_frame, call_frame, reply_frame, service_fields_at}
+use Rattle.frame_codec.proofs.Formats.{bytes_of, IsBytes, IsBytes-rest, IsFormat, fixed_format, both_format, checked_format, two_format, four_format, name_format, string_format, all_again, kind_takes, ReadsAsSpelled}
 use Rattle.frame_codec.proofs.Values.{values_format}
 
 -- ---- what a Reply's tests tell
@@ -63,26 +62,10 @@ reply_format =
     (both_format _ _ _ _ _ _ _ _ content_type_format
     (both_format _ _ _ _ _ _ _ _ location_format string_format))
 
--- ---- all of the bytes are one value
-
-all_takes : {A : Type 0} (parts : A → List (List ℕ)) (R G : A → Type 0) (read : Reader A) → IsFormat parts R G read → (bytes : List ℕ) (a : A) → IsBytes bytes → all_of (read bytes) ≡ Some a → (bytes ≡ bytes_of (parts a)) × G a
-all_takes {A} parts R G read f bytes a fits e = read_all (read bytes) refl e
-  where
-    read_all : (o : Option (A × List ℕ)) → read bytes ≡ o → all_of o ≡ Some a → (bytes ≡ bytes_of (parts a)) × G a
-    read_all None was e = absurd cc
-    read_all (Some x) was e =
-        let g = test_some (eqb (length x.1) 0) x.0 a e in
-        let t = f.takes bytes x.0 x.1 fits was in
-        let nothing : x.1 ≡ [] = nil_from_length x.1 (eqb-true _ _ g.0) in
-        subst (λ (y : A). (bytes ≡ bytes_of (parts y)) × G y) g.1 (t.0 ∙ ap (λ (r : List ℕ). bytes_of (parts x.0) ++ r) nothing ∙ append-nil (bytes_of (parts x.0)), t.1)
-
-all_again : {A : Type 0} (parts : A → List (List ℕ)) (R G : A → Type 0) (read : Reader A) → IsFormat parts R G read → (a : A) → R a → size (parts a) < 2 ^ 32 → all_of (read (bytes_of (parts a))) ≡ Some a
-all_again parts R G read f a right small = ap (λ bytes. all_of (read bytes)) (sym (append-nil (bytes_of (parts a)))) ∙ rw (f.again a [] right small) refl
-
 -- ---- payloads
 
-pub payload_again : (frame : ServiceFrame) → Fits frame → size (service_parts frame) < 2 ^ 32 → payload_at (bytes_of (service_parts frame)) ≡ Some frame
-unfolding fields_at
+payload_again : (frame : ServiceFrame) → Fits frame → size (service_parts frame) < 2 ^ 32 → payload_at service_fields_at (bytes_of (service_parts frame)) ≡ Some frame
+unfolding service_fields_at
 payload_again (Open p shown) fits small = ap (option_map open_frame) (all_again _ _ _ open_at open_format (p, shown.bytes) (fits.0, fits.1.0) (omega (arith, sum_by-cons length (0x41 ∷ []) (two p ∷ shown.bytes ∷ []))))
 payload_again (Call p n q args) fits small = ap (option_map call_frame) (all_again _ _ _ call_at call_format (p, (n, (q, args))) (fits.0, (fits.1, (fits.2, fits.4))) (omega (arith, sum_by-cons length (0x42 ∷ []) (two p ∷ four n ∷ two q ∷ (length args ∷ []) ∷ values args))))
 payload_again (Get n) fits small = ap (option_map Get) (all_again _ _ _ name_at name_format n fits.0 (omega (arith, sum_by-cons length (0x43 ∷ []) (name n))))
@@ -90,27 +73,21 @@ payload_again (Log text) fits small = ap (option_map Log) (all_again _ _ _ strin
 payload_again (Reply status content_type location content) fits small =
     ap (option_map reply_frame) (all_again _ _ _ reply_at reply_format (status, (content_type, (location, content))) (fits.0, (fits.1, (fits.2, tt))) (omega (arith, sum_by-cons length (0x45 ∷ []) (two status ∷ (name content_type ++ name location ++ string content)))))
 
--- the kind and the fields of one kind
-kind_takes : {A : Type 0} (parts : A → List (List ℕ)) (R G : A → Type 0) (read : Reader A) (make : A → ServiceFrame) (code kind : ℕ) → IsFormat parts R G read
-    → ((a : A) → G a → Fits (make a)) → ((a : A) → service_parts (make a) ≡ (code ∷ []) ∷ parts a)
-    → (bytes : List ℕ) (frame : ServiceFrame) → IsBytes bytes → eqb kind code ≡ true → option_map make (all_of (read bytes)) ≡ Some frame → (kind ∷ bytes ≡ bytes_of (service_parts frame)) × Fits frame
-kind_takes {A} parts R G read make code kind f good spelled bytes frame fits is e =
-    let m = map_some (all_of (read bytes)) make frame e in
-    let t = all_takes parts R G read f bytes m.0 fits m.1 in
-    let whole : kind ∷ bytes ≡ bytes_of (service_parts (make m.0)) = ap (λ (k : ℕ). k ∷ bytes) (eqb-true kind code is) ∙ ap (λ (b : List ℕ). code ∷ b) t.0 ∙ ap bytes_of (sym (spelled m.0)) in
-    subst (λ (x : ServiceFrame). (kind ∷ bytes ≡ bytes_of (service_parts x)) × Fits x) m.2 (whole, good m.0 t.1)
-
-pub payload_takes : (bytes : List ℕ) (frame : ServiceFrame) → IsBytes bytes → payload_at bytes ≡ Some frame → (bytes ≡ bytes_of (service_parts frame)) × Fits frame
-unfolding fields_at
+payload_takes : (bytes : List ℕ) (frame : ServiceFrame) → IsBytes bytes → payload_at service_fields_at bytes ≡ Some frame → (bytes ≡ bytes_of (service_parts frame)) × Fits frame
+unfolding service_fields_at
 payload_takes [] frame fits e = absurd cc
 payload_takes (kind ∷ bytes) frame fits e = by_kind (eqb kind 0x41) refl (eqb kind 0x42) refl (eqb kind 0x43) refl (eqb kind 0x44) refl (eqb kind 0x45) refl e
   where
     by_kind : (a : Bool) → eqb kind 0x41 ≡ a → (b : Bool) → eqb kind 0x42 ≡ b → (c : Bool) → eqb kind 0x43 ≡ c → (d : Bool) → eqb kind 0x44 ≡ d → (r : Bool) → eqb kind 0x45 ≡ r
         → cond a (option_map open_frame (all_of (open_at bytes))) (cond b (option_map call_frame (all_of (call_at bytes))) (cond c (option_map Get (all_of (name_at bytes))) (cond d (option_map Log (all_of (string_at bytes))) (cond r (option_map reply_frame (all_of (reply_at bytes))) None)))) ≡ Some frame
         → (kind ∷ bytes ≡ bytes_of (service_parts frame)) × Fits frame
-    by_kind true is b _ c _ d _ r _ e = kind_takes _ _ _ open_at open_frame 0x41 kind open_format (λ p g. (g.0, g.1)) (λ p. refl) bytes frame (IsBytes-rest kind bytes fits) is e
-    by_kind false _ true is c _ d _ r _ e = kind_takes _ _ _ call_at call_frame 0x42 kind call_format (λ p g. (g.0, g.1.0, g.1.1.0, g.1.1.1.0, g.1.1.1.1)) (λ p. refl) bytes frame (IsBytes-rest kind bytes fits) is e
-    by_kind false _ false _ true is d _ r _ e = kind_takes _ _ _ name_at Get 0x43 kind name_format (λ p g. g) (λ p. refl) bytes frame (IsBytes-rest kind bytes fits) is e
-    by_kind false _ false _ false _ true is r _ e = kind_takes _ _ _ string_at Log 0x44 kind string_format (λ p g. g) (λ p. refl) bytes frame (IsBytes-rest kind bytes fits) is e
-    by_kind false _ false _ false _ false _ true is e = kind_takes _ _ _ reply_at reply_frame 0x45 kind reply_format (λ p g. (g.0.1, g.1.0.1, g.1.1.0.1, g.1.1.1)) (λ p. refl) bytes frame (IsBytes-rest kind bytes fits) is e
+    by_kind true is b _ c _ d _ r _ e = kind_takes service_parts Fits _ _ _ open_at open_frame 0x41 kind open_format (λ p g. (g.0, g.1)) (λ p. refl) bytes frame (IsBytes-rest kind bytes fits) is e
+    by_kind false _ true is c _ d _ r _ e = kind_takes service_parts Fits _ _ _ call_at call_frame 0x42 kind call_format (λ p g. (g.0, g.1.0, g.1.1.0, g.1.1.1.0, g.1.1.1.1)) (λ p. refl) bytes frame (IsBytes-rest kind bytes fits) is e
+    by_kind false _ false _ true is d _ r _ e = kind_takes service_parts Fits _ _ _ name_at Get 0x43 kind name_format (λ p g. g) (λ p. refl) bytes frame (IsBytes-rest kind bytes fits) is e
+    by_kind false _ false _ false _ true is r _ e = kind_takes service_parts Fits _ _ _ string_at Log 0x44 kind string_format (λ p g. g) (λ p. refl) bytes frame (IsBytes-rest kind bytes fits) is e
+    by_kind false _ false _ false _ false _ true is e = kind_takes service_parts Fits _ _ _ reply_at reply_frame 0x45 kind reply_format (λ p g. (g.0.1, g.1.0.1, g.1.1.0.1, g.1.1.1)) (λ p. refl) bytes frame (IsBytes-rest kind bytes fits) is e
     by_kind false _ false _ false _ false _ false _ e = absurd cc
+
+-- What a service says is read as it is spelled.
+pub service_as_spelled : ReadsAsSpelled service_parts Fits service_fields_at
+service_as_spelled = record { takes = payload_takes; again = payload_again }

@@ -1,21 +1,22 @@
 -- Where a stream stops: bytes that are bad stay bad whatever follows, and part of a frame is short.
-use Rattle.std.proofs.Common.{◌≡◌, ◌≢◌, ℕ, ◌+◌, ◌-◌, ◌^◌, ◌<◌, ◌≤◌, Bool, true, false, List, [], ◌∷◌, ◌++◌, length, take, drop, Option, Some, None, refl, sym, ap, subst, ◌∙◌, append_assoc, arith, inl, inr, ◌⊎◌, take-append-drop}
+use Rattle.std.proofs.Common.{◌≡◌, ◌≢◌, ℕ, ◌+◌, ◌-◌, ◌^◌, ◌<◌, ◌≤◌, Bool, true, false, cond, eqb, ltb, List, [], ◌∷◌, ◌++◌, length, take, drop, Option, Some, None, refl, sym, ap, subst, ◌∙◌, append_assoc, arith, inl, inr, ◌⊎◌, take-append-drop}
 use Rattle.std.specs.Prelude.{IsTrue, nat_lt}
+use Rattle.std.specs.Int.{w32}
 use Rattle.std.proofs.lemmas.Bool.{ltb-true, lt-ltb}
 use Rattle.std.proofs.lemmas.List.{length-append, append-nil, length-drop}
 use Rattle.frame_codec.specs.declared.frame.ServiceFrame.{ServiceFrame}
 use Rattle.frame_codec.specs.declared.reading.Read.{Read}
 use Rattle.frame_codec.specs.declared.reading.Read.TheVariants.{Frame, Short, BadFrame, NoMemory}
-use Rattle.frame_codec.specs.Spelling.{four, size, service_parts, Spells, is_lawful_length}
-use Rattle.frame_codec.specs.Stream.{Begins, BeginsNone, IsShort, IsBad, IsBadStop}
-use Rattle.std.specs.Int.{w32}
-use Rattle.std.proofs.Common.{cond, eqb, ltb}
+use Rattle.frame_codec.specs.Spelling.{four, size, service_parts, Fits, SpellsBy, is_lawful_length}
+use Rattle.frame_codec.specs.Stream.{BeginsBy, BeginsNoneBy, IsBadBy, IsBadStopBy, Begins, IsShort, IsBad}
 use Rattle.frame_codec.specs.Reading.{number_at, payload_at}
-use Rattle.frame_codec.specs.Answer.{frame_at, headed, given, Tells}
+use Rattle.frame_codec.specs.ServiceFields.{service_fields_at}
+use Rattle.frame_codec.specs.Answer.{frame_at, headed, given, TellsBy}
 use Rattle.frame_codec.proofs.Sizes.{length-four}
-use Rattle.frame_codec.proofs.Formats.{bytes_of, length-bytes_of, joined-is, IsBytes}
-use Rattle.frame_codec.proofs.Whole.{lawful_bounds, four_takes, tells}
-use Rattle.frame_codec.proofs.Apart.{heads_are, short_begins_none}
+use Rattle.frame_codec.proofs.Formats.{bytes_of, length-bytes_of, joined-is, IsBytes, ReadsAsSpelled, four_takes}
+use Rattle.frame_codec.proofs.Payloads.{service_as_spelled}
+use Rattle.frame_codec.proofs.Whole.{lawful_bounds, tells}
+use Rattle.frame_codec.proofs.Apart.{heads_are, short_begins_none_by}
 
 -- ---- lists
 
@@ -40,38 +41,42 @@ front_is front whole m e none = sym (append-nil front) ∙ ap (λ (t : List ℕ)
 -- ---- parts of frames
 
 -- what a frame's spelling is made of
-spelled : (front : List ℕ) (frame : ServiceFrame) → Spells front frame → front ≡ four (size (service_parts frame)) ++ bytes_of (service_parts frame)
-spelled front frame s = s.spelled ∙ joined-is (four (size (service_parts frame))) (service_parts frame)
+spelled : {F : Type 0} (parts : F → List (List ℕ)) (fit : F → Type 0) (front : List ℕ) (frame : F) → SpellsBy parts fit front frame → front ≡ four (size (parts frame)) ++ bytes_of (parts frame)
+spelled parts fit front frame s = s.spelled ∙ joined-is (four (size (parts frame))) (parts frame)
 
-pub part_is_short : (since more : List ℕ) (frame : ServiceFrame) → Spells (since ++ more) frame → 0 < length more → IsShort since
-part_is_short since more frame s some =
-    let n : ℕ = size (service_parts frame) in
-    let body : List ℕ = bytes_of (service_parts frame) in
-    by_cut (cut_twice since more (four n) body (spelled (since ++ more) frame s))
+pub part_is_short : {F : Type 0} (parts : F → List (List ℕ)) (fit : F → Type 0) (since more : List ℕ) (frame : F) → SpellsBy parts fit (since ++ more) frame → 0 < length more → IsShort since
+part_is_short parts fit since more frame s some =
+    let n : ℕ = size (parts frame) in
+    let body : List ℕ = bytes_of (parts frame) in
+    by_cut (cut_twice since more (four n) body (spelled parts fit (since ++ more) frame s))
   where
-    by_cut : ((m : List ℕ) × (since ≡ four (size (service_parts frame)) ++ m) × (bytes_of (service_parts frame) ≡ m ++ more)) ⊎ ((m : List ℕ) × (four (size (service_parts frame)) ≡ since ++ m) × (more ≡ m ++ bytes_of (service_parts frame))) → IsShort since
+    by_cut : ((m : List ℕ) × (since ≡ four (size (parts frame)) ++ m) × (bytes_of (parts frame) ≡ m ++ more)) ⊎ ((m : List ℕ) × (four (size (parts frame)) ≡ since ++ m) × (more ≡ m ++ bytes_of (parts frame))) → IsShort since
     by_cut (inl p) =
-        inr (size (service_parts frame), p.0, s.lawful, p.1, omega (arith, ap length p.2, length-append p.0 more, length-bytes_of (service_parts frame)))
+        inr (size (parts frame), p.0, s.lawful, p.1, omega (arith, ap length p.2, length-append p.0 more, length-bytes_of (parts frame)))
     by_cut (inr p) = by_rest p.0 p.1 (nil_or p.0)
       where
-        by_rest : (m : List ℕ) → four (size (service_parts frame)) ≡ since ++ m → (m ≡ []) ⊎ (0 < length m) → IsShort since
+        by_rest : (m : List ℕ) → four (size (parts frame)) ≡ since ++ m → (m ≡ []) ⊎ (0 < length m) → IsShort since
         by_rest m e (inl none) =
-            inr (size (service_parts frame), [], s.lawful, front_is since (four (size (service_parts frame))) m e none, (lawful_bounds (size (service_parts frame)) s.lawful).0)
-        by_rest m e (inr some) = inl (omega (arith, ap length e, length-append since m, length-four (size (service_parts frame))))
+            inr (size (parts frame), [], s.lawful, front_is since (four (size (parts frame))) m e none, (lawful_bounds (size (parts frame)) s.lawful).0)
+        by_rest m e (inr some) = inl (omega (arith, ap length e, length-append since m, length-four (size (parts frame))))
 
 -- ---- the head of a frame
 
 pub head_is : (head : List ℕ) (n : ℕ) → IsBytes head → number_at w32 head ≡ Some (n, []) → head ≡ four n
 head_is head n fits e = (four_takes head n [] fits e).0 ∙ append-nil (four n)
 
-pub bad_head : (n : ℕ) → n < 2 ^ 32 → (IsTrue (is_lawful_length n) → ⊥) → IsBad (four n)
-bad_head n low unlawful = (begins_none, not_short)
+-- a head that may not go on is bad
+pub head_is_bad : {F : Type 0} (parts : F → List (List ℕ)) (fit : F → Type 0) (head : List ℕ) → length head ≡ 4 → (IsShort head → ⊥) → IsBadBy parts fit head
+head_is_bad parts fit head len long = (begins_none, long)
   where
-    begins_none : BeginsNone (four n)
+    begins_none : BeginsNoneBy parts fit head
     begins_none frame rest begins =
-        let m : ℕ = size (service_parts frame) in
-        omega (arith, length-four n, ap length begins.2, length-append begins.0 rest, ap length (spelled begins.0 frame begins.1), length-append (four m) (bytes_of (service_parts frame)), length-four m, length-bytes_of (service_parts frame), (lawful_bounds m begins.1.lawful).0)
+        let m : ℕ = size (parts frame) in
+        omega (arith, len, ap length begins.2, length-append begins.0 rest, ap length (spelled parts fit begins.0 frame begins.1), length-append (four m) (bytes_of (parts frame)), length-four m, length-bytes_of (parts frame), (lawful_bounds m begins.1.lawful).0)
 
+pub unlawful_is_bad : (n : ℕ) → n < 2 ^ 32 → (IsTrue (is_lawful_length n) → ⊥) → IsBad (four n)
+unlawful_is_bad n low unlawful = head_is_bad service_parts Fits (four n) (length-four n) not_short
+  where
     not_short : IsShort (four n) → ⊥
     not_short (inl few) = omega (arith, few, length-four n)
     not_short (inr part) =
@@ -80,26 +85,23 @@ bad_head n low unlawful = (begins_none, not_short)
 
 -- ---- stops
 
-whole_begins : (bytes : List ℕ) (frame : ServiceFrame) → Spells bytes frame → Begins bytes frame []
-whole_begins bytes frame s = (bytes, s, sym (append-nil bytes))
-
-pub bad_stop : (since left : List ℕ) → IsBad since → IsBadStop since left
-bad_stop since left bad frame more s = by_more (nil_or more)
+pub bad_stop : {F : Type 0} (parts : F → List (List ℕ)) (fit : F → Type 0) (since left : List ℕ) → IsBadBy parts fit since → IsBadStopBy parts fit since left
+bad_stop parts fit since left bad frame more s = by_more (nil_or more)
   where
     by_more : (more ≡ []) ⊎ (0 < length more) → (since ≢ []) × (more ≢ []) × (left ≡ [])
-    by_more (inl none) = absurd (bad.0 frame [] (since, subst (λ (t : List ℕ). Spells t frame) (ap (λ (t : List ℕ). since ++ t) none ∙ append-nil since) s, sym (append-nil since)))
-    by_more (inr some) = absurd (bad.1 (part_is_short since more frame s some))
+    by_more (inl none) = absurd (bad.0 frame [] (since, subst (λ (t : List ℕ). SpellsBy parts fit t frame) (ap (λ (t : List ℕ). since ++ t) none ∙ append-nil since) s, sym (append-nil since)))
+    by_more (inr some) = absurd (bad.1 (part_is_short parts fit since more frame s some))
 
-pub short_stop : (since : List ℕ) → IsShort since → since ≢ [] → IsBadStop since []
-short_stop since short some frame more s =
-    (some, λ none. short_begins_none since short frame [] (since, subst (λ (t : List ℕ). Spells t frame) (ap (λ (t : List ℕ). since ++ t) none ∙ append-nil since) s, sym (append-nil since)), refl)
+pub short_stop : {F : Type 0} (parts : F → List (List ℕ)) (fit : F → Type 0) (since : List ℕ) → IsShort since → since ≢ [] → IsBadStopBy parts fit since []
+short_stop parts fit since short some frame more s =
+    (some, λ none. short_begins_none_by parts fit since short frame [] (since, subst (λ (t : List ℕ). SpellsBy parts fit t frame) (ap (λ (t : List ℕ). since ++ t) none ∙ append-nil since) s, sym (append-nil since)), refl)
 
 -- ---- what is bad stays bad
 
-pub bad_more : (since rest : List ℕ) → IsBad since → IsBad (since ++ rest)
-bad_more since rest bad = (begins_none, not_short)
+pub bad_more : {F : Type 0} (parts : F → List (List ℕ)) (fit : F → Type 0) (since rest : List ℕ) → IsBadBy parts fit since → IsBadBy parts fit (since ++ rest)
+bad_more {F} parts fit since rest bad = (begins_none, not_short)
   where
-    begins_none : BeginsNone (since ++ rest)
+    begins_none : BeginsNoneBy parts fit (since ++ rest)
     begins_none frame behind begins = by_cut (cut_twice since rest begins.0 behind begins.2)
       where
         by_cut : ((m : List ℕ) × (since ≡ begins.0 ++ m) × (behind ≡ m ++ rest)) ⊎ ((m : List ℕ) × (begins.0 ≡ since ++ m) × (rest ≡ m ++ behind)) → ⊥
@@ -107,8 +109,8 @@ bad_more since rest bad = (begins_none, not_short)
         by_cut (inr p) = by_rest p.0 p.1 (nil_or p.0)
           where
             by_rest : (m : List ℕ) → begins.0 ≡ since ++ m → (m ≡ []) ⊎ (0 < length m) → ⊥
-            by_rest m e (inl none) = bad.0 frame [] (since, subst (λ (t : List ℕ). Spells t frame) (e ∙ ap (λ (t : List ℕ). since ++ t) none ∙ append-nil since) begins.1, sym (append-nil since))
-            by_rest m e (inr some) = bad.1 (part_is_short since m frame (subst (λ (t : List ℕ). Spells t frame) e begins.1) some)
+            by_rest m e (inl none) = bad.0 frame [] (since, subst (λ (t : List ℕ). SpellsBy parts fit t frame) (e ∙ ap (λ (t : List ℕ). since ++ t) none ∙ append-nil since) begins.1, sym (append-nil since))
+            by_rest m e (inr some) = bad.1 (part_is_short parts fit since m frame (subst (λ (t : List ℕ). SpellsBy parts fit t frame) e begins.1) some)
 
     not_short : IsShort (since ++ rest) → ⊥
     not_short (inl few) = bad.1 (inl (omega (arith, length-append since rest)))
@@ -130,49 +132,60 @@ whole_not_short n body lawful len (inr part) =
     let h = heads_are n part.0 body part.1 (omega (arith, (lawful_bounds n lawful).1)) (omega (arith, (lawful_bounds part.0 part.2).1)) part.3 in
     omega (arith, part.4, h.0, ap length h.1, len)
 
-pub whole_is_taken : (n taken : ℕ) (body : List ℕ) (frame : ServiceFrame) → IsTrue (is_lawful_length n) → length body ≡ n → Spells (take taken (four n ++ body)) frame → Spells (four n ++ body) frame
-whole_is_taken n taken body frame lawful len s =
-    let m : ℕ = size (service_parts frame) in
-    let own : List ℕ = bytes_of (service_parts frame) in
+pub whole_is_taken : {F : Type 0} (parts : F → List (List ℕ)) (fit : F → Type 0) (n taken : ℕ) (body : List ℕ) (frame : F) → IsTrue (is_lawful_length n) → length body ≡ n → SpellsBy parts fit (take taken (four n ++ body)) frame → SpellsBy parts fit (four n ++ body) frame
+whole_is_taken parts fit n taken body frame lawful len s =
+    let m : ℕ = size (parts frame) in
+    let own : List ℕ = bytes_of (parts frame) in
     let rest : List ℕ = drop taken (four n ++ body) in
     let front : List ℕ = take taken (four n ++ body) in
     let whole : four n ++ body ≡ four m ++ (own ++ rest) =
-    sym (take-append-drop taken (four n ++ body)) ∙ ap (λ (t : List ℕ). t ++ rest) (spelled front frame s) ∙ append_assoc (four m) own rest in
+    sym (take-append-drop taken (four n ++ body)) ∙ ap (λ (t : List ℕ). t ++ rest) (spelled parts fit front frame s) ∙ append_assoc (four m) own rest in
     let h = heads_are n m body (own ++ rest) (omega (arith, (lawful_bounds n lawful).1)) (omega (arith, (lawful_bounds m s.lawful).1)) whole in
-    let none : rest ≡ [] = by_rest rest (omega (arith, len, h.0, ap length h.1, length-append own rest, length-bytes_of (service_parts frame))) in
-    subst (λ (t : List ℕ). Spells t frame) (sym (append-nil front) ∙ ap (λ (t : List ℕ). front ++ t) (sym none) ∙ take-append-drop taken (four n ++ body)) s
+    let none : rest ≡ [] = by_rest rest (omega (arith, len, h.0, ap length h.1, length-append own rest, length-bytes_of (parts frame))) in
+    subst (λ (t : List ℕ). SpellsBy parts fit t frame) (sym (append-nil front) ∙ ap (λ (t : List ℕ). front ++ t) (sym none) ∙ take-append-drop taken (four n ++ body)) s
   where
     by_rest : (xs : List ℕ) → length xs ≡ 0 → xs ≡ []
     by_rest [] e = refl
     by_rest (x ∷ xs) e = absurd (omega arith)
 
--- ---- bytes that aren't short are settled
+-- ---- a frame stands at the front, or bytes are bad or short
 
-tests_never : (b d l : Bool) (o : Option ServiceFrame) (n : ℕ) → cond b BadFrame (cond d BadFrame (cond l Short (given o n))) ≡ NoMemory → ⊥
+tests_never : {F : Type 0} (b d l : Bool) (o : Option F) (n : ℕ) → cond b BadFrame (cond d BadFrame (cond l Short (given o n))) ≡ NoMemory → ⊥
 tests_never true d l o n e = cc
 tests_never false true l o n e = cc
 tests_never false false true o n e = cc
 tests_never false false false None n e = cc
 tests_never false false false (Some f) n e = cc
 
-never_no_memory : (bytes : List ℕ) → frame_at bytes ≡ NoMemory → ⊥
+never_no_memory : {F : Type 0} (fields : ℕ → List ℕ → Option F) (bytes : List ℕ) → frame_at fields bytes ≡ NoMemory → ⊥
 unfolding frame_at
-never_no_memory bytes e = by_head (number_at w32 bytes) e
+never_no_memory fields bytes e = by_head (number_at w32 bytes) e
   where
-    by_head : (o : Option (ℕ × List ℕ)) → headed o ≡ NoMemory → ⊥
+    by_head : (o : Option (ℕ × List ℕ)) → headed fields o ≡ NoMemory → ⊥
     by_head None e = cc
-    by_head (Some a) e = tests_never (eqb a.0 0) (ltb 1048576 a.0) (ltb (length a.1) a.0) (payload_at (take a.0 a.1)) (4 + a.0) e
+    by_head (Some a) e = tests_never (eqb a.0 0) (ltb 1048576 a.0) (ltb (length a.1) a.0) (payload_at fields (take a.0 a.1)) (4 + a.0) e
+
+front_of_by : {F : Type 0} (parts : F → List (List ℕ)) (fit : F → Type 0) (fields : ℕ → List ℕ → Option F) → ReadsAsSpelled parts fit fields → (bytes : List ℕ) → IsBytes bytes → ((frame : F) × (rest : List ℕ) × BeginsBy parts fit bytes frame rest) ⊎ (IsBadBy parts fit bytes ⊎ IsShort bytes)
+front_of_by {F} parts fit fields law bytes fits = by_answer (frame_at fields bytes) refl
+  where
+    by_answer : (answer : Read F) → frame_at fields bytes ≡ answer → ((frame : F) × (rest : List ℕ) × BeginsBy parts fit bytes frame rest) ⊎ (IsBadBy parts fit bytes ⊎ IsShort bytes)
+    by_answer (Frame frame taken) e =
+        let found : TellsBy parts fit bytes (Frame frame taken) = tells parts fit fields law bytes (Frame frame taken) fits e in
+        inl (frame, drop taken bytes, (take taken bytes, found.1, sym (take-append-drop taken bytes)))
+    by_answer Short e = inr (inr (tells parts fit fields law bytes Short fits e))
+    by_answer BadFrame e = inr (inl (tells parts fit fields law bytes BadFrame fits e))
+    by_answer NoMemory e = absurd (never_no_memory fields bytes e)
+
+pub front_of : (bytes : List ℕ) → IsBytes bytes → ((frame : ServiceFrame) × (rest : List ℕ) × Begins bytes frame rest) ⊎ (IsBad bytes ⊎ IsShort bytes)
+front_of = front_of_by service_parts Fits service_fields_at service_as_spelled
 
 pub settled : (bytes : List ℕ) → IsBytes bytes → (IsShort bytes → ⊥) → ((frame : ServiceFrame) × (rest : List ℕ) × Begins bytes frame rest) ⊎ IsBad bytes
-settled bytes fits long = by_answer (frame_at bytes) refl
+settled bytes fits long = by_front (front_of bytes fits)
   where
-    by_answer : (answer : Read) → frame_at bytes ≡ answer → ((frame : ServiceFrame) × (rest : List ℕ) × Begins bytes frame rest) ⊎ IsBad bytes
-    by_answer (Frame frame taken) e =
-        let found : Tells bytes (Frame frame taken) = tells bytes (Frame frame taken) fits e in
-        inl (frame, drop taken bytes, (take taken bytes, found.1, sym (take-append-drop taken bytes)))
-    by_answer Short e = absurd (long (tells bytes Short fits e))
-    by_answer BadFrame e = inr (tells bytes BadFrame fits e)
-    by_answer NoMemory e = absurd (never_no_memory bytes e)
+    by_front : ((frame : ServiceFrame) × (rest : List ℕ) × Begins bytes frame rest) ⊎ (IsBad bytes ⊎ IsShort bytes) → ((frame : ServiceFrame) × (rest : List ℕ) × Begins bytes frame rest) ⊎ IsBad bytes
+    by_front (inl begins) = inl begins
+    by_front (inr (inl bad)) = inr bad
+    by_front (inr (inr short)) = absurd (long short)
 
 -- ---- whether bytes are short, by their length and what they tell
 
@@ -192,4 +205,4 @@ short_by_head bytes n long lawful e = (to, from)
         lt-ltb (length bytes - 4) n (omega (arith, length-drop 4 bytes, h.0, ap length h.1, part.4))
 
 pub bad_by_head : (bytes : List ℕ) → IsBad (take 4 bytes) → IsBad bytes
-bad_by_head bytes bad = subst IsBad (take-append-drop 4 bytes) (bad_more (take 4 bytes) (drop 4 bytes) bad)
+bad_by_head bytes bad = subst IsBad (take-append-drop 4 bytes) (bad_more service_parts Fits (take 4 bytes) (drop 4 bytes) bad)

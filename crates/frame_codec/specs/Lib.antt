@@ -4,5 +4,7 @@ pub mod Bounds
 pub mod Size
 pub mod Stream
 pub mod Reading
+pub mod ServiceFields
+pub mod ServerFields
 pub mod Answer
 pub mod Laws

@@ -168,8 +168,16 @@ HasSpelling frame = FitsServer frame × IsTrue (is_lawful_length (size (server_p
 abbrev pub ServiceHasSpelling : ServiceFrame → Type 0
 ServiceHasSpelling frame = Fits frame × IsTrue (is_lawful_length (size (service_parts frame)))
 
+-- The bytes are the one spelling of a frame, whose parts and whose places are these.
+pub record SpellsBy {F : Type 0} (parts : F → List (List ℕ)) (fit : F → Type 0) (bytes : List ℕ) (frame : F) : Type 0 where
+  pub fits : fit frame
+  pub lawful : IsTrue (is_lawful_length (size (parts frame)))
+  pub spelled : bytes ≡ framed (parts frame)
+
 -- The bytes are the one spelling of what a service says.
-pub record Spells (bytes : List ℕ) (frame : ServiceFrame) : Type 0 where
-  pub fits : Fits frame
-  pub lawful : IsTrue (is_lawful_length (size (service_parts frame)))
-  pub spelled : bytes ≡ service_spelling frame
+abbrev pub Spells : List ℕ → ServiceFrame → Type 0
+Spells bytes frame = SpellsBy service_parts Fits bytes frame
+
+-- The bytes are the one spelling of what a service hears.
+abbrev pub ServerSpells : List ℕ → ServerFrame → Type 0
+ServerSpells bytes frame = SpellsBy server_parts FitsServer bytes frame

@@ -1,11 +1,11 @@
 //! The fields of frames, read from the front of bytes.
 
-ghost use Rattle.std.specs.Prelude.{◌≡◌, ℕ, List, option_map, IfOk, IfErr, IsSome, true, false};
+ghost use Rattle.std.specs.Prelude.{◌≡◌, ◌==◌, ℕ, List, length, option_map, if◌then◌else◌, IfOk, IfErr, Some, None, true, false};
 ghost use Rattle.std.specs.Int.{w16, w32, w64, cast_signed};
 ghost use Rattle.std.specs.Str.{is_utf8};
 ghost use Rattle.okws_base.specs.declared.value.Value.{Value};
 ghost use Rattle.frame_codec.specs.declared.field.ReadError.TheVariants.{Bad, Memory};
-ghost use Rattle.frame_codec.specs.Reading.{Finds, Gives, checked, fixed_at, byte_at, number_at, string_at, name_at, mapped, tagged_at, value_at, many_at, values_at};
+ghost use Rattle.frame_codec.specs.Reading.{Finds, Gives, checked, fixed_at, byte_at, number_at, string_at, name_at, mapped, tagged_at, value_at};
 ghost use Rattle.frame_codec.specs.Spelling.{is_reply_status, is_content_type, is_location};
 
 use crate::kind::{BYTES, INT, TEXT};
@@ -20,7 +20,7 @@ pub(crate) struct Misread;
 
 /// Why nothing could be read and kept.
 #[derive(Clone, Copy, Debug, PartialEq, Eq)]
-pub(crate) enum ReadError {
+pub enum ReadError {
     /// No such value stands there.
     Bad,
     /// It stands there, but memory was refused.
@@ -48,6 +48,17 @@ impl<T: Drop> From<AllocFailed<T>> for ReadError {
 
     fn from(_e: AllocFailed<T>) -> ReadError {
         ReadError::Memory
+    }
+}
+
+/// Nothing stands behind the fields.
+pub(crate) fn ended(rest: &[u8]) -> Result<(), Misread>
+    ensures { Finds (λ x. x) result (if length rest.now == 0 then Some tt else None) }
+{
+    if rest.is_empty() {
+        Ok(())
+    } else {
+        Err(Misread)
     }
 }
 
@@ -91,6 +102,20 @@ pub(crate) fn u32_at(bytes: &[u8]) -> Result<(u32, &[u8]), Misread>
     }
     let (front, rest) = bytes.split_at(4);
     let number = u32::from_be_bytes([front[0], front[1], front[2], front[3]]);
+    Ok((number, rest))
+}
+
+#[tactic(auto, unfolding(crate::specs::Reading::number_at, crate::specs::Reading::fixed_at))]
+pub(crate) fn u64_at(bytes: &[u8]) -> Result<(u64, &[u8]), Misread>
+    ensures { Finds (λ x. (x.0, x.1.now)) result (number_at w64 bytes.now) }
+{
+    if bytes.len() < 8 {
+        return Err(Misread);
+    }
+    let (front, rest) = bytes.split_at(8);
+    let number = u64::from_be_bytes([
+        front[0], front[1], front[2], front[3], front[4], front[5], front[6], front[7],
+    ]);
     Ok((number, rest))
 }
 
@@ -212,31 +237,11 @@ fn after_tagged(tag: u8, bytes: &[u8]) -> Result<&[u8], Misread>
 
 /// What stands behind a value.
 #[tactic(auto, unfolding(crate::specs::Reading::value_at))]
-fn after_value(bytes: &[u8]) -> Result<&[u8], Misread>
+pub(crate) fn after_value(bytes: &[u8]) -> Result<&[u8], Misread>
     ensures { Finds (λ rest. rest.now) result (option_map (λ (a : Value × List ℕ). a.1) (value_at bytes.now)) }
 {
     let (tag, rest) = u8_at(bytes)?;
     after_tagged(tag, rest)
-}
-
-/// What stands behind so many values.
-fn after_many(count: u8, bytes: &[u8]) -> Result<&[u8], Misread>
-    ensures { Finds (λ rest. rest.now) result (option_map (λ (a : List Value × List ℕ). a.1) (many_at count bytes.now)) }
-{
-    let mut rest = bytes;
-    for _ in 0..count {
-        rest = after_value(rest)?;
-    }
-    Ok(rest)
-}
-
-/// What stands behind values and their count.
-#[tactic(auto, unfolding(crate::specs::Reading::values_at))]
-pub(crate) fn after_values(bytes: &[u8]) -> Result<&[u8], Misread>
-    ensures { Finds (λ rest. rest.now) result (option_map (λ (a : List Value × List ℕ). a.1) (values_at bytes.now)) }
-{
-    let (count, rest) = u8_at(bytes)?;
-    after_many(count, rest)
 }
 
 /// The value behind its tag.
@@ -267,34 +272,9 @@ pub(crate) fn copy_of(alloc: Global, bytes: &[u8]) -> Result<Items<u8>, AllocErr
 
 /// A value.
 #[tactic(auto, unfolding(crate::specs::Reading::value_at))]
-fn value_of(alloc: Global, bytes: &[u8]) -> Result<(Value, &[u8]), ReadError>
+pub(crate) fn value_of(alloc: Global, bytes: &[u8]) -> Result<(Value, &[u8]), ReadError>
     ensures { Gives (λ x. (x.0, x.1.now)) result (value_at bytes.now) }
 {
     let (tag, rest) = u8_at(bytes)?;
     tagged_of(alloc, tag, rest)
-}
-
-/// So many values, which stand there.
-fn many_of(alloc: Global, count: u8, bytes: &[u8]) -> Result<(Items<Value>, &[u8]), ReadError>
-    requires { IsSome (many_at count bytes.now) }
-    ensures { Gives (λ x. (x.0, x.1.now)) result (many_at count bytes.now) }
-{
-    let mut values = Vec::new(alloc);
-    let mut rest = bytes;
-    for _ in 0..count {
-        let (value, behind) = value_of(alloc, rest)?;
-        values.push(value)?;
-        rest = behind;
-    }
-    Ok((Items::of(values), rest))
-}
-
-/// Values behind their count, which stand there.
-#[tactic(auto, unfolding(crate::specs::Reading::values_at))]
-pub(crate) fn values_of(alloc: Global, bytes: &[u8]) -> Result<(Items<Value>, &[u8]), ReadError>
-    requires { IsSome (values_at bytes.now) }
-    ensures { Gives (λ x. (x.0, x.1.now)) result (values_at bytes.now) }
-{
-    let (count, rest) = u8_at(bytes)?;
-    many_of(alloc, count, rest)
 }

@@ -1,27 +1,24 @@
-//! Reading what a service says.
+//! Reading frames: what a service says, and what it hears.
 
-ghost use Rattle.std.specs.Prelude.{◌≡◌, ◌==◌, ◌↔◌, List, length, option_map, if◌then◌else◌, IfSome, IsNone, IsTrue, IsFalse, Some, [], ◌⊎◌, ℕ};
+ghost use Rattle.std.specs.Prelude.{◌≡◌, ◌↔◌, List, Option, length, IfSome, IsNone, IsTrue, IsFalse, Some, [], ◌⊎◌, ℕ};
 ghost use Rattle.std.specs.Int.{w32};
-ghost use Rattle.frame_codec.specs.Reading.{Finds, Gives, number_at, open_at, call_at, name_at, string_at, reply_at, open_frame, call_frame, reply_frame, all_of, fields_at, payload_at};
+ghost use Rattle.frame_codec.specs.Reading.{Gives, number_at, payload_at};
 ghost use Rattle.frame_codec.specs.Spelling.{four, is_lawful_length};
 ghost use Rattle.frame_codec.specs.Stream.{Begins, IsShort, IsBad};
-ghost use Rattle.frame_codec.specs.Answer.{Tells, IsAnswer, sized, frame_at};
+ghost use Rattle.frame_codec.specs.Answer.{TellsBy, Tells, ServerTells, IsAnswer, sized, frame_at};
 
-use crate::field::{
-    Misread, ReadError, after_values, content_type_slice, copy_of, location_slice, name_slice,
-    status_at, string_slice, token_at, u16_at, u32_at, values_of,
-};
-use crate::frame::ServiceFrame;
-use crate::kind::{CALL, GET, LOG, OPEN, REPLY};
+use crate::field::{Misread, ReadError, u32_at};
+use crate::frame::{ServerFrame, ServiceFrame};
+use crate::framing::Frame;
 use crate::part::lawful_length;
 use okws_base::limit::LONGEST_FRAME;
 use std::alloc::Global;
 
-/// What stands at the front of bytes that came from a service.
+/// What stands at the front of bytes of a stream of such frames.
 #[derive(Drop)]
-pub enum Read {
+pub enum Read<F = ServiceFrame> {
     /// A frame, and how many bytes it takes.
-    Frame(ServiceFrame, usize),
+    Frame(F, usize),
     /// Fewer than four bytes, or a lawful length and fewer bytes than it tells.
     Short,
     /// No frame, whatever follows.
@@ -30,106 +27,36 @@ pub enum Read {
     NoMemory,
 }
 
-/// Nothing stands behind the fields.
-fn ended(rest: &[u8]) -> Result<(), Misread>
-    ensures { Finds (λ x. x) result (if length rest.now == 0 then Some tt else None) }
-{
-    if rest.is_empty() {
-        Ok(())
-    } else {
-        Err(Misread)
-    }
+/// What is read of a frame behind its length and its kind.
+pub(crate) trait Fields {
+    /// The frame of a kind whose fields are all of the bytes.
+    ghost fields: { ℕ → List ℕ → Option Self };
+
+    /// Reads the fields of a frame of this kind, which are to be all of the bytes. Where they are
+    /// not, takes no memory.
+    fn fields_of(alloc: Global, kind: u8, bytes: &[u8]) -> Result<Self, ReadError>
+        ensures { Gives (λ frame. frame) result (fields kind bytes.now) };
 }
 
-fn open_of(bytes: &[u8]) -> Result<ServiceFrame, Misread>
-    ensures { Finds (λ frame. frame) result (option_map open_frame (all_of (open_at bytes.now))) }
-{
-    let (proxy, rest) = u16_at(bytes)?;
-    let (shown, rest) = token_at(rest)?;
-    ended(rest)?;
-    Ok(ServiceFrame::Open { proxy, shown })
-}
-
-fn call_of(alloc: Global, bytes: &[u8]) -> Result<ServiceFrame, ReadError>
-    ensures { Gives (λ frame. frame) result (option_map call_frame (all_of (call_at bytes.now))) }
-{
-    let (proxy, rest) = u16_at(bytes)?;
-    let (session, rest) = u32_at(rest)?;
-    let (query, rest) = u16_at(rest)?;
-    ended(after_values(rest)?)?;
-    let (args, _) = values_of(alloc, rest)?;
-    Ok(ServiceFrame::Call {
-        proxy,
-        session,
-        query,
-        args,
-    })
-}
-
-fn get_of(alloc: Global, bytes: &[u8]) -> Result<ServiceFrame, ReadError>
-    ensures { Gives (λ frame. frame) result (option_map ServiceFrame.Get (all_of (name_at bytes.now))) }
-{
-    let (template, rest) = name_slice(bytes)?;
-    ended(rest)?;
-    Ok(ServiceFrame::Get(copy_of(alloc, template)?))
-}
-
-fn log_of(alloc: Global, bytes: &[u8]) -> Result<ServiceFrame, ReadError>
-    ensures { Gives (λ frame. frame) result (option_map ServiceFrame.Log (all_of (string_at bytes.now))) }
-{
-    let (text, rest) = string_slice(bytes)?;
-    ended(rest)?;
-    Ok(ServiceFrame::Log(copy_of(alloc, text)?))
-}
-
-fn reply_of(alloc: Global, bytes: &[u8]) -> Result<ServiceFrame, ReadError>
-    ensures { Gives (λ frame. frame) result (option_map reply_frame (all_of (reply_at bytes.now))) }
-{
-    let (status, rest) = status_at(bytes)?;
-    let (content_type, rest) = content_type_slice(rest)?;
-    let (location, rest) = location_slice(rest)?;
-    let (content, rest) = string_slice(rest)?;
-    ended(rest)?;
-    Ok(ServiceFrame::Reply {
-        status,
-        content_type: copy_of(alloc, content_type)?,
-        location: copy_of(alloc, location)?,
-        content: copy_of(alloc, content)?,
-    })
-}
-
-/// The frame of this kind whose fields are all of the bytes.
-#[tactic(auto, unfolding(crate::specs::Reading::fields_at))]
-fn fields_of(alloc: Global, kind: u8, bytes: &[u8]) -> Result<ServiceFrame, ReadError>
-    ensures { Gives (λ frame. frame) result (fields_at kind bytes.now) }
-{
-    if kind == OPEN {
-        Ok(open_of(bytes)?)
-    } else if kind == CALL {
-        call_of(alloc, bytes)
-    } else if kind == GET {
-        get_of(alloc, bytes)
-    } else if kind == LOG {
-        log_of(alloc, bytes)
-    } else if kind == REPLY {
-        reply_of(alloc, bytes)
-    } else {
-        Err(ReadError::Bad)
-    }
+/// A frame of one of the two directions, which is read as it is spelled.
+pub trait FrameRead: Frame {
+    /// Reads one frame from the front, as `read_frame` says.
+    fn read(alloc: Global, bytes: &[u8]) -> Read<Self>
+        ensures { TellsBy Self.parts Self.fits bytes.now result };
 }
 
 /// The frame whose kind and fields are all of the bytes.
-fn payload_of(alloc: Global, bytes: &[u8]) -> Result<ServiceFrame, ReadError>
-    ensures { Gives (λ frame. frame) result (payload_at bytes.now) }
+fn payload_of<F: Fields>(alloc: Global, bytes: &[u8]) -> Result<F, ReadError>
+    ensures { Gives (λ frame. frame) result (payload_at F.fields bytes.now) }
 {
     match bytes {
         [] => Err(ReadError::Bad),
-        [kind, fields @ ..] => fields_of(alloc, *kind, fields),
+        [kind, fields @ ..] => F::fields_of(alloc, *kind, fields),
     }
 }
 
-fn sized_frame(alloc: Global, size: u32, rest: &[u8]) -> Read
-    ensures { IsAnswer result (sized size rest.now) }
+fn sized_frame<F: Fields>(alloc: Global, size: u32, rest: &[u8]) -> Read<F>
+    ensures { IsAnswer result (sized F.fields size rest.now) }
 {
     let size = size as usize;
     if size == 0 || size > LONGEST_FRAME {
@@ -145,9 +72,10 @@ fn sized_frame(alloc: Global, size: u32, rest: &[u8]) -> Read
     }
 }
 
+/// What stands at the front, by the fields of such frames.
 #[tactic(auto, unfolding(crate::specs::Answer::frame_at))]
-fn first_frame(alloc: Global, bytes: &[u8]) -> Read
-    ensures { IsAnswer result (frame_at bytes.now) }
+pub(crate) fn first_frame<F: Fields>(alloc: Global, bytes: &[u8]) -> Read<F>
+    ensures { IsAnswer result (frame_at F.fields bytes.now) }
 {
     match u32_at(bytes) {
         Ok((size, rest)) => sized_frame(alloc, size, rest),
@@ -155,14 +83,28 @@ fn first_frame(alloc: Global, bytes: &[u8]) -> Read
     }
 }
 
-/// Reads one frame from the front. It is Frame exactly where the spelling of a frame stands there,
+/// Reads one frame of the direction from the front. It is Frame exactly where the spelling of a frame stands there,
 /// Short exactly where there are fewer than four bytes or a lawful length and fewer bytes than it
 /// tells, and else BadFrame; but where a frame stands there and memory for it is refused it is
 /// NoMemory. Short and BadFrame take no memory.
-pub fn read_service_frame(alloc: Global, bytes: &[u8]) -> Read
+pub fn read_frame<F: FrameRead>(alloc: Global, bytes: &[u8]) -> Read<F>
+    ensures { TellsBy F.parts F.fits bytes.now result }
+{
+    F::read(alloc, bytes)
+}
+
+/// Reads one frame of what a service says from the front, as `read_frame`.
+pub fn read_service_frame(alloc: Global, bytes: &[u8]) -> Read<ServiceFrame>
     ensures { Tells bytes.now result }
 {
-    first_frame(alloc, bytes)
+    read_frame(alloc, bytes)
+}
+
+/// Reads one frame of what a service hears from the front, as `read_frame`.
+pub fn read_server_frame(alloc: Global, bytes: &[u8]) -> Read<ServerFrame>
+    ensures { ServerTells bytes.now result }
+{
+    read_frame(alloc, bytes)
 }
 
 /// The number that four bytes spell.

@@ -3,6 +3,7 @@
 
 mod reading;
 mod server;
+mod server_reading;
 mod service;
 
 use crate::frame::ServiceFrame;

@@ -7,11 +7,11 @@ use Rattle.std.specs.Io.KnownBytes.{Consumes, IsAtEnd}
 use Rattle.std.proofs.KnownBytes.{Consumes-trans}
 use Rattle.std.proofs.lemmas.List.{append-nil, length-append}
 use Rattle.frame_codec.specs.Spelling.{four, is_lawful_length}
-use Rattle.frame_codec.specs.Stream.{IsBad, IsShort}
+use Rattle.frame_codec.specs.Stream.{IsBadBy, IsShort}
 use Rattle.frame_codec.proofs.Sizes.{length-four}
-use Rattle.frame_codec.proofs.Apart.{short_begins_none}
+use Rattle.frame_codec.proofs.Apart.{short_begins_none_by}
 use Rattle.frame_codec.proofs.Stops.{bad_stop, short_stop, bad_more}
-use Rattle.frame_link.specs.Next.{AreLeft, IsNext, IsBadFront}
+use Rattle.frame_link.specs.Next.{AreLeft, IsNextBy, IsBadFrontBy}
 use Rattle.frame_link.specs.Filling.{IsWhole, Reads}
 use Rattle.frame_link.specs.declared.receiving.NextFrame.{NextFrame}
 use Rattle.frame_link.specs.declared.receiving.NextFrame.TheVariants.{Frame, Ended, BadFrame, LinkFault, NoMemory}
@@ -25,27 +25,27 @@ none_left None end = tt
 none_left (Some left) end = end
 
 -- the bytes that were taken are bad
-pub bad_next : (old new : Option (List ℕ)) (since : List ℕ) → Consumes old new since → IsBad since → IsNext old new BadFrame
-bad_next old new since took bad = (since, (told_left new).0, took, (told_left new).1, bad_stop since (told_left new).0 bad)
+pub bad_next : {F : Type 0} (parts : F → List (List ℕ)) (fit : F → Type 0) (old new : Option (List ℕ)) (since : List ℕ) → Consumes old new since → IsBadBy parts fit since → IsNextBy parts fit old new BadFrame
+bad_next parts fit old new since took bad = (since, (told_left new).0, took, (told_left new).1, bad_stop parts fit since (told_left new).0 bad)
 
-pub bad_front : (old new : Option (List ℕ)) (since : List ℕ) → Consumes old new since → IsBad since → IsBadFront old new
-bad_front None new since took bad = tt
-bad_front (Some left) None since took bad = absurd took
-bad_front (Some left) (Some rest) since took bad =
-    let all : IsBad left = subst IsBad (sym took) (bad_more since rest bad) in
+pub bad_front : {F : Type 0} (parts : F → List (List ℕ)) (fit : F → Type 0) (old new : Option (List ℕ)) (since : List ℕ) → Consumes old new since → IsBadBy parts fit since → IsBadFrontBy parts fit old new
+bad_front parts fit None new since took bad = tt
+bad_front parts fit (Some left) None since took bad = absurd took
+bad_front parts fit (Some left) (Some rest) since took bad =
+    let all : IsBadBy parts fit left = subst (IsBadBy parts fit) (sym took) (bad_more parts fit since rest bad) in
     (all.0, inl all)
 
 -- the bytes ended inside a frame
-pub ended_next : (old new : Option (List ℕ)) (since : List ℕ) → Consumes old new since → IsShort since → since ≢ [] → IsAtEnd new → IsNext old new BadFrame
-ended_next old new since took short some end = (since, [], took, none_left new end, short_stop since short some)
+pub ended_next : {F : Type 0} (parts : F → List (List ℕ)) (fit : F → Type 0) (old new : Option (List ℕ)) (since : List ℕ) → Consumes old new since → IsShort since → since ≢ [] → IsAtEnd new → IsNextBy parts fit old new BadFrame
+ended_next parts fit old new since took short some end = (since, [], took, none_left new end, short_stop parts fit since short some)
 
-pub ended_front : (old new : Option (List ℕ)) (since : List ℕ) → Consumes old new since → IsShort since → since ≢ [] → IsAtEnd new → IsBadFront old new
-ended_front None new since took short some end = tt
-ended_front (Some left) None since took short some end = absurd took
-ended_front (Some left) (Some rest) since took short some end =
+pub ended_front : {F : Type 0} (parts : F → List (List ℕ)) (fit : F → Type 0) (old new : Option (List ℕ)) (since : List ℕ) → Consumes old new since → IsShort since → since ≢ [] → IsAtEnd new → IsBadFrontBy parts fit old new
+ended_front parts fit None new since took short some end = tt
+ended_front parts fit (Some left) None since took short some end = absurd took
+ended_front parts fit (Some left) (Some rest) since took short some end =
     let is : left ≡ since = took ∙ ap (λ (t : List ℕ). since ++ t) end ∙ append-nil since in
     let all : IsShort left = subst IsShort (sym is) short in
-    (short_begins_none left all, inr (all, (λ none. some (sym is ∙ none)), end))
+    (short_begins_none_by parts fit left all, inr (all, (λ none. some (sym is ∙ none)), end))
 
 -- ---- one filling and another
 
@@ -73,18 +73,18 @@ is_whole n head now more lawful is all len =
 
 -- ---- what a whole frame is
 
-pub reads_next : (old new : Option (List ℕ)) (since : List ℕ) (answer : NextFrame) → Consumes old new since → Reads since answer → IsNext old new answer
-reads_next old new since (Frame frame) took reads = (since, reads, took)
-reads_next old new since BadFrame took reads = bad_next old new since took reads
-reads_next old new since NoMemory took reads = (since, took)
-reads_next old new since Ended took reads = absurd reads
-reads_next old new since LinkFault took reads = absurd reads
+pub reads_next : {F : Type 0} (parts : F → List (List ℕ)) (fit : F → Type 0) (old new : Option (List ℕ)) (since : List ℕ) (answer : NextFrame F) → Consumes old new since → Reads parts fit since answer → IsNextBy parts fit old new answer
+reads_next parts fit old new since (Frame frame) took reads = (since, reads, took)
+reads_next parts fit old new since BadFrame took reads = bad_next parts fit old new since took reads
+reads_next parts fit old new since NoMemory took reads = (since, took)
+reads_next parts fit old new since Ended took reads = absurd reads
+reads_next parts fit old new since LinkFault took reads = absurd reads
 
-pub reads_front : (old new : Option (List ℕ)) (since : List ℕ) (answer : NextFrame) → Consumes old new since → Reads since answer → answer ≡ BadFrame → IsBadFront old new
-reads_front old new since answer took reads is = bad_front old new since took (subst (Reads since) is reads)
+pub reads_front : {F : Type 0} (parts : F → List (List ℕ)) (fit : F → Type 0) (old new : Option (List ℕ)) (since : List ℕ) (answer : NextFrame F) → Consumes old new since → Reads parts fit since answer → answer ≡ BadFrame → IsBadFrontBy parts fit old new
+reads_front parts fit old new since answer took reads is = bad_front parts fit old new since took (subst (Reads parts fit since) is reads)
 
-pub not_fault : (since : List ℕ) (answer : NextFrame) → Reads since answer → answer ≡ LinkFault → ⊥
-not_fault since answer reads is = subst (Reads since) is reads
+pub not_fault : {F : Type 0} (parts : F → List (List ℕ)) (fit : F → Type 0) (since : List ℕ) (answer : NextFrame F) → Reads parts fit since answer → answer ≡ LinkFault → ⊥
+not_fault parts fit since answer reads is = subst (Reads parts fit since) is reads
 
 pub not_empty : (bytes : List ℕ) → 0 < length bytes → bytes ≢ []
 not_empty bytes some none = omega (arith, ap length none)

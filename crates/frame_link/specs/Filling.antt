@@ -2,8 +2,8 @@
 use Rattle.std.specs.Prelude.{◌≡◌, ◌<◌, ℕ, List, ◌++◌, length, IsTrue}
 use Rattle.std.specs.declared.option.Option.{Option}
 use Rattle.std.specs.Io.KnownBytes.{Consumes, IsAtEnd}
-use Rattle.frame_codec.specs.Spelling.{Spells, four, is_lawful_length}
-use Rattle.frame_codec.specs.Stream.{IsBad}
+use Rattle.frame_codec.specs.Spelling.{SpellsBy, four, is_lawful_length}
+use Rattle.frame_codec.specs.Stream.{IsBadBy}
 use Rattle.frame_link.specs.declared.receiving.Filled.{Filled}
 use Rattle.frame_link.specs.declared.receiving.Filled.TheVariants.{Whole, Ended, Failed, NoMemory}
 use Rattle.frame_link.specs.declared.receiving.NextFrame.{NextFrame}
@@ -21,9 +21,9 @@ abbrev pub IsWhole : List ℕ → Type 0
 IsWhole bytes = (n : ℕ) × (body : List ℕ) × IsTrue (is_lawful_length n) × (bytes ≡ four n ++ body) × (length body ≡ n)
 
 -- The bytes spell this frame, or they are bad.
-abbrev pub Reads : List ℕ → NextFrame → Type 0
-Reads bytes (next.Frame frame) = Spells bytes frame
-Reads bytes next.BadFrame = IsBad bytes
-Reads bytes next.NoMemory = Unit {0}
-Reads bytes next.Ended = ⊥
-Reads bytes next.LinkFault = ⊥
+abbrev pub Reads : {F : Type 0} → (F → List (List ℕ)) → (F → Type 0) → List ℕ → NextFrame F → Type 0
+Reads parts fit bytes (next.Frame frame) = SpellsBy parts fit bytes frame
+Reads parts fit bytes next.BadFrame = IsBadBy parts fit bytes
+Reads parts fit bytes next.NoMemory = Unit {0}
+Reads parts fit bytes next.Ended = ⊥
+Reads parts fit bytes next.LinkFault = ⊥

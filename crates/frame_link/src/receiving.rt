@@ -2,19 +2,19 @@
 
 ghost use Rattle.std.specs.Prelude.{◌≡◌, ◌≤◌, length};
 ghost use Rattle.okws_outer.specs.Wire.{Receives};
-ghost use Rattle.frame_link.specs.Next.{IsNext, IsBadFront};
+ghost use Rattle.frame_link.specs.Next.{IsNextBy, IsBadFrontBy, IsNext, IsBadFront, IsServerNext, IsServerBadFront};
 ghost use Rattle.frame_link.specs.Filling.{Fills, IsWhole, Reads};
 
-use frame_codec::frame::ServiceFrame;
-use frame_codec::reading::{Read, read_service_frame, told_length};
+use frame_codec::frame::{ServerFrame, ServiceFrame};
+use frame_codec::reading::{FrameRead, Read, read_frame, told_length};
 use okws_outer::stream::{Link, Pull};
 use std::alloc::Global;
 
 /// What comes next over a link.
 #[derive(Drop)]
-pub enum NextFrame {
+pub enum NextFrame<F = ServiceFrame> {
     /// A frame, of which all bytes were taken and none beyond it.
-    Frame(ServiceFrame),
+    Frame(F),
     /// The bytes ended between frames.
     Ended,
     /// The bytes are no frame, or ended inside one.
@@ -64,11 +64,11 @@ fn fill<L: Link>(link: &mut L, bytes: &mut Vec<u8>, total: usize) -> Filled
 }
 
 /// The frame that these bytes are, whose length the first four tell.
-fn whole_frame(alloc: Global, bytes: &[u8]) -> NextFrame
+fn whole_frame<F: FrameRead>(alloc: Global, bytes: &[u8]) -> NextFrame<F>
     requires { IsWhole bytes.now }
-    ensures { Reads bytes.now result }
+    ensures { Reads F.parts F.fits bytes.now result }
 {
-    match read_service_frame(alloc, bytes) {
+    match read_frame(alloc, bytes) {
         Read::Frame(frame, _) => NextFrame::Frame(frame),
         Read::Short => unreachable!(),
         Read::BadFrame => NextFrame::BadFrame,
@@ -77,9 +77,9 @@ fn whole_frame(alloc: Global, bytes: &[u8]) -> NextFrame
 }
 
 /// Takes the next frame from the link, or as many bytes as tell that there is none.
-pub fn next<L: Link>(alloc: Global, link: &mut L) -> NextFrame
-    ensures next { IsNext (L.wire link.old).left (L.wire link.new).left result }
-    ensures bad { result ≡ NextFrame.BadFrame → IsBadFront (L.wire link.old).left (L.wire link.new).left }
+pub fn next_frame<F: FrameRead, L: Link>(alloc: Global, link: &mut L) -> NextFrame<F>
+    ensures next { IsNextBy F.parts F.fits (L.wire link.old).left (L.wire link.new).left result }
+    ensures bad { result ≡ NextFrame.BadFrame → IsBadFrontBy F.parts F.fits (L.wire link.old).left (L.wire link.new).left }
     ensures link { Receives (L.wire link.old) (L.wire link.new) (result ≡ NextFrame.LinkFault) }
 {
     let mut bytes = Vec::new(alloc);
@@ -99,4 +99,22 @@ pub fn next<L: Link>(alloc: Global, link: &mut L) -> NextFrame
         Filled::Failed => NextFrame::LinkFault,
         Filled::NoMemory => NextFrame::NoMemory,
     }
+}
+
+/// Takes the next frame that a service says from the link, as `next_frame`.
+pub fn next<L: Link>(alloc: Global, link: &mut L) -> NextFrame<ServiceFrame>
+    ensures next { IsNext (L.wire link.old).left (L.wire link.new).left result }
+    ensures bad { result ≡ NextFrame.BadFrame → IsBadFront (L.wire link.old).left (L.wire link.new).left }
+    ensures link { Receives (L.wire link.old) (L.wire link.new) (result ≡ NextFrame.LinkFault) }
+{
+    next_frame(alloc, link)
+}
+
+/// Takes the next frame that a service hears from the link, as `next_frame`.
+pub fn next_server_frame<L: Link>(alloc: Global, link: &mut L) -> NextFrame<ServerFrame>
+    ensures next { IsServerNext (L.wire link.old).left (L.wire link.new).left result }
+    ensures bad { result ≡ NextFrame.BadFrame → IsServerBadFront (L.wire link.old).left (L.wire link.new).left }
+    ensures link { Receives (L.wire link.old) (L.wire link.new) (result ≡ NextFrame.LinkFault) }
+{
+    next_frame(alloc, link)
 }

@@ -1,9 +1,8 @@
 -- An allowed line of a script does something from each state.
-use Rattle.std.proofs.Common.{◌≡◌, ◌≢◌, ◌≤◌, ◌<◌, ℕ, zero, suc, ◌+◌, Bool, true, false, List, [], ◌∷◌, ◌++◌, Option, Some, None, length, refl, sym, ap, subst, ◌∙◌, arith, inl, inr, ◌⊎◌, take, drop, take-append-drop}
+use Rattle.std.proofs.Common.{◌≡◌, ◌≢◌, ◌≤◌, ◌<◌, ℕ, zero, suc, ◌+◌, Bool, true, false, List, [], ◌∷◌, ◌++◌, Option, Some, None, length, refl, sym, ap, subst, ◌∙◌, arith, inl, inr, ◌⊎◌}
 use Rattle.std.specs.Prelude.{◌==◌, nat_lt, slice_get, slice_set, IsTrue, IsFalse, is_some, if◌then◌else◌}
 use Rattle.std.proofs.lemmas.Bool.{ltb-true, ltb-false, eqb-true, eqb-false}
 use Rattle.std.proofs.lemmas.List.{length-append, length-set}
-use Rattle.std.specs.Int.{w32}
 use Rattle.okws_base.specs.Denial.{rule_number}
 use Rattle.okws_base.specs.declared.denial.Rule.TheVariants as rule
 use Rattle.okws_base.specs.declared.limit.TheConstants.{MOST_FRAMES}
@@ -13,16 +12,12 @@ use Rattle.okws_plan.specs.declared.script.Line.{Line}
 use Rattle.okws_plan.specs.declared.script.Line.TheVariants as line
 use Rattle.frame_codec.specs.Spelling.{Spells}
 use Rattle.frame_codec.specs.Stream.{Begins, BeginsNone, IsBad, IsShort}
-use Rattle.frame_codec.specs.Answer.{frame_at, headed, given as given_by, Tells}
-use Rattle.frame_codec.specs.Reading.{number_at, payload_at}
-use Rattle.frame_codec.specs.declared.reading.Read.{Read}
-use Rattle.frame_codec.specs.declared.reading.Read.TheVariants as read
 use Rattle.frame_codec.specs.declared.frame.ServiceFrame.{ServiceFrame}
 use Rattle.frame_codec.specs.declared.frame.ServiceFrame.TheVariants as said
 use Rattle.frame_codec.specs.declared.frame.ServerFrame.{ServerFrame}
 use Rattle.frame_codec.specs.declared.frame.ServerFrame.TheVariants as frame
 use Rattle.frame_codec.proofs.Apart.{short_begins_none}
-use Rattle.frame_codec.proofs.Whole.{tells}
+use Rattle.frame_codec.proofs.Stops.{front_of}
 use Rattle.monitor_model.specs.declared.record.CellEvent.TheVariants as cell
 use Rattle.monitor_model.specs.declared.record.End.{End}
 use Rattle.monitor_model.specs.declared.record.End.TheVariants as end
@@ -36,34 +31,6 @@ use Rattle.monitor_model.specs.Seen.{Seen}
 use Rattle.monitor_model.specs.Stage.{Stage, Stand, Opened, Asked, stand, with_seen, with_item, heard_line, answer_line, method_text}
 use Rattle.okws_play.specs.Cells.{AreBytes, closed_stand, left_to_do}
 use Rattle.okws_play.proofs.Cells.{bytes_behind, stand_set}
-
--- ---- what stands at the front of bytes
-
-tests_never : (b d l : Bool) (o : Option ServiceFrame) (n : ℕ) → (if b then read.BadFrame else if d then read.BadFrame else if l then read.Short else given_by o n) ≡ read.NoMemory → ⊥
-tests_never true d l o n e = cc
-tests_never false true l o n e = cc
-tests_never false false true o n e = cc
-tests_never false false false None n e = cc
-tests_never false false false (Some f) n e = cc
-
-head_never : (o : Option (ℕ × List ℕ)) → headed o ≡ read.NoMemory → ⊥
-head_never None e = cc
-head_never (Some a) e = tests_never (a.0 == 0) (nat_lt 1048576 a.0) (nat_lt (length a.1) a.0) (payload_at (take a.0 a.1)) (4 + a.0) e
-
-never_no_memory : (bytes : List ℕ) → frame_at bytes ≡ read.NoMemory → ⊥
-unfolding frame_at
-never_no_memory bytes e = head_never (number_at w32 bytes) e
-
-front_of : (bytes : List ℕ) → AreBytes bytes → ((frame : ServiceFrame) × (rest : List ℕ) × Begins bytes frame rest) ⊎ (IsBad bytes ⊎ IsShort bytes)
-front_of bytes fits = by_answer (frame_at bytes) refl
-  where
-    by_answer : (answer : Read) → frame_at bytes ≡ answer → ((frame : ServiceFrame) × (rest : List ℕ) × Begins bytes frame rest) ⊎ (IsBad bytes ⊎ IsShort bytes)
-    by_answer (read.Frame frame taken) e =
-        let found : Tells bytes (read.Frame frame taken) = tells bytes (read.Frame frame taken) fits e in
-        inl (frame, drop taken bytes, (take taken bytes, found.1, sym (take-append-drop taken bytes)))
-    by_answer read.Short e = inr (inr (tells bytes read.Short fits e))
-    by_answer read.BadFrame e = inr (inl (tells bytes read.BadFrame fits e))
-    by_answer read.NoMemory e = absurd (never_no_memory bytes e)
 
 -- ---- what is left of a cell
 

@@ -10,9 +10,9 @@ use Rattle.okws_outer.specs.Streams.{Counts, AppendsPrefix}
 use Rattle.okws_outer.specs.Wire.{Wire}
 use Rattle.frame_codec.specs.declared.frame.ServiceFrame.{ServiceFrame}
 use Rattle.frame_codec.specs.declared.frame.ServerFrame.{ServerFrame}
-use Rattle.frame_codec.specs.Spelling.{HasSpelling, server_spelling, service_spelling}
+use Rattle.frame_codec.specs.Spelling.{HasSpelling, ServerSpells, server_spelling, service_spelling}
+use Rattle.frame_codec.specs.Stream.{IsServerBadStop}
 use Rattle.frame_link.specs.Next.{AreLeft}
-use Rattle.svc_kit.specs.Stream.{Spells, IsBadStop}
 use Rattle.svc_kit.specs.Asking.{IsHeard, Says}
 use Rattle.svc_kit.specs.declared.stop.Stop.{Stop}
 use Rattle.svc_kit.specs.declared.stop.Stop.TheVariants.{Ended, BadFrame, LinkFault, Unlooked, Unsayable, NoMemory}
@@ -83,8 +83,8 @@ pub record HasRun (old : Wire) (frames : List ServerFrame) (now : Told) (new : W
 -- BadFrame: whatever frame begins with them, they end inside it, and none are left. Unlooked: they are that frame, which isn't due.
 abbrev pub IsStop : Stop → List ℕ → Option (List ℕ) → Told → Type 0
 IsStop Ended since left now = (since ≡ []) × IsAtEnd left
-IsStop BadFrame since left now = (rest : List ℕ) × AreLeft left rest × IsBadStop since rest
-IsStop (Unlooked frame) since left now = Spells since frame × (hears frame now ≡ None)
+IsStop BadFrame since left now = (rest : List ℕ) × AreLeft left rest × IsServerBadStop since rest
+IsStop (Unlooked frame) since left now = ServerSpells since frame × (hears frame now ≡ None)
 IsStop LinkFault since left now = Unit {0}
 IsStop NoMemory since left now = Unit {0}
 IsStop Unsayable since left now = ⊥

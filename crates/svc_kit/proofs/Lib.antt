@@ -1,11 +1,3 @@
-pub mod Lists
-pub mod Fields
-pub mod Payloads
-pub mod Whole
-pub mod Apart
-pub mod Again
-pub mod Stops
-pub mod Nexts
 pub mod Kept
 pub mod Escaping
 pub mod PutParts

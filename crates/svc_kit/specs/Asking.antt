@@ -8,9 +8,9 @@ use Rattle.okws_outer.specs.Streams.{Counts, AppendsPrefix}
 use Rattle.okws_outer.specs.Wire.{Wire}
 use Rattle.frame_codec.specs.declared.frame.ServerFrame.{ServerFrame}
 use Rattle.frame_codec.specs.declared.frame.ServiceFrame.{ServiceFrame}
-use Rattle.frame_codec.specs.Spelling.{ServiceHasSpelling, service_spelling}
+use Rattle.frame_codec.specs.Spelling.{ServerSpells, ServiceHasSpelling, service_spelling}
+use Rattle.frame_codec.specs.Stream.{IsServerBadStop}
 use Rattle.frame_link.specs.Next.{AreLeft}
-use Rattle.svc_kit.specs.Stream.{Spells, IsBadStop}
 use Rattle.svc_kit.specs.declared.stop.Stop.{Stop}
 use Rattle.svc_kit.specs.declared.stop.Stop.TheVariants.{Ended, BadFrame, LinkFault, Unlooked, Unsayable, NoMemory}
 
@@ -28,9 +28,9 @@ IsUnjudged (Err NoMemory) = Unit {0}
 -- A bad frame: whatever frame begins with the bytes that were taken, they end inside it, and none are left.
 -- After a fault, and where memory was refused, some bytes.
 abbrev pub Takes : Option (List ℕ) → Result ServerFrame Stop → Option (List ℕ) → Type 0
-Takes old (Ok frame) new = (taken : List ℕ) × Spells taken frame × Consumes old new taken
+Takes old (Ok frame) new = (taken : List ℕ) × ServerSpells taken frame × Consumes old new taken
 Takes old (Err Ended) new = Keeps old new × IsAtEnd new
-Takes old (Err BadFrame) new = (since left : List ℕ) × Consumes old new since × AreLeft new left × IsBadStop since left
+Takes old (Err BadFrame) new = (since left : List ℕ) × Consumes old new since × AreLeft new left × IsServerBadStop since left
 Takes old (Err LinkFault) new = (since : List ℕ) × Consumes old new since
 Takes old (Err NoMemory) new = (since : List ℕ) × Consumes old new since
 Takes old (Err (Unlooked frame)) new = ⊥

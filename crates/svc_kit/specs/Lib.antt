@@ -1,15 +1,8 @@
-pub mod Finding
-pub mod Fields
-pub mod Stream
-pub mod Answer
-pub mod Filling
-pub mod Next
 pub mod Ends
 pub mod Asking
 pub mod Telling
 pub mod Serving
 pub mod Form
-pub mod Laws
 pub mod Bounded
 pub mod Escape
 pub mod Templates

@@ -1,6 +1,5 @@
-//! Frames read and written at the service's end, its link and its calls over memory, and forms. That
-//! each end reads all that the other writes is a law; only the worked frames are tried here. Standard
-//! input and output are not.
+//! The service's link and its calls over memory, and forms. Not tested here: each kind of frame, which
+//! the codec's tests have, and standard input and output.
 
 mod calling;
 mod example;

@@ -1,109 +1,27 @@
-//! Each frame of either end, read by the other and written again.
+//! Both readers of the kit on one frame each; the codec's tests have all kinds.
 
-use super::{BOOT, OPENED, REQUEST, ROWS};
+use super::OPENED;
 use crate::reading::{Read, read_server_frame};
-use crate::saying::write_service_frame;
-use frame_codec::reading::{Read as ServiceRead, read_service_frame};
-use frame_codec::server::write_server_frame;
-use std::alloc::Global;
-use std::process::Abort;
+use crate::receiving::{NextFrame, next};
+use frame_codec::frame::ServerFrame;
 use std::test::Fail;
 
-/// The bytes begin with a frame, which these digits spell.
-fn again(rt: &impl Abort, alloc: Global, bytes: &[u8], digits: &str) -> Result<(), Fail> {
-    match read_server_frame(alloc, bytes) {
-        Read::Frame(frame, taken) => {
-            assert_eq!(rt; 2 * taken, digits.len(), "{digits}");
-            assert!(rt; frame.has_spelling());
-            let written = hex::encode(alloc, write_server_frame(alloc, &frame)?)?;
-            assert_eq!(rt; written.as_str(), digits);
-        }
-        _ => assert!(rt; false, "no frame: {digits}"),
-    }
-    Ok(())
-}
-
 #[test]
-fn frames_are_read_again(rt: HostRuntime) -> Result<(), Fail> {
-    for digits in [
-        BOOT,
-        REQUEST,
-        "0000000f030470616765000000010000000161",
-        "0000001003047061676500000002000000026262",
-        OPENED,
-        ROWS,
-        "00000027050200000002010000000000000001020000000263790100000000000000020200000003626f62",
-        "00000006050100000000",
-        "00000009060000000000000001",
-        "0000000b0700000002000000026262",
-        "0000000108",
-        "00000002090e",
-        "000000010a",
-        "000000010b",
-        "000000010c",
-    ] {
-        let mut bytes = hex::decode(rt.alloc(), digits)?;
-        again(&rt, rt.alloc(), &bytes, digits)?;
-        for end in 0..bytes.len() {
-            assert!(&rt; matches!(read_server_frame(rt.alloc(), &bytes[..end]), Read::Short));
-        }
-        bytes.push(0xff)?;
-        again(&rt, rt.alloc(), &bytes, digits)?;
-    }
-    Ok(())
-}
-
-#[test]
-fn what_a_service_says_is_read_again(rt: HostRuntime) -> Result<(), Fail> {
-    for digits in [
-        "000000174100000000000000000001ade0b876903df1a0e56a5d40",
-        "0000000a42000000000000000100",
-        "0000001f42000000000000000203010000000000000001020000000263790200000000",
-        "0000001342000000000000000301010000000000000001",
-        "0000001042000000000000000401020000000178",
-        "00000006430470616765",
-        "000000084306736563726574",
-        "0000000744000000026869",
-        "000000154500c80a746578742f706c61696e00000000026f6b",
-    ] {
-        let bytes = hex::decode(rt.alloc(), digits)?;
-        let ServiceRead::Frame(frame, taken) = read_service_frame(rt.alloc(), &bytes) else {
-            return Err(Fail::new("no frame"));
-        };
-        assert_eq!(&rt; taken, bytes.len(), "{digits}");
-        assert!(&rt; frame.has_spelling());
-        let written = hex::encode(rt.alloc(), write_service_frame(rt.alloc(), &frame)?)?;
-        assert_eq!(&rt; written.as_str(), digits);
-    }
-    Ok(())
-}
-
-#[test]
-fn other_bytes_are_no_frames(rt: HostRuntime) -> Result<(), Fail> {
-    for digits in [
-        // No length that a frame has.
-        "00000000",
-        "00100001",
-        // What a service says, and a kind that nobody does.
-        "00000006430470616765",
-        "000000010d",
-        // A byte behind the fields, and one too few.
-        "000000020800",
-        "0000000404000000",
-        // A token, a row and a value too few, and a row too many.
-        "0000001e010000000000010200000000000000000001ade0b876903df1a0e56a5d40",
-        "000000280502000000030100000000000000010200000003616e6e0100000000000000020200000003626f62",
-        "000000280503000000020100000000000000010200000003616e6e0100000000000000020200000003626f62",
-        "000000280502000000010100000000000000010200000003616e6e0100000000000000020200000003626f62",
-        // A value of no kind, and a text that isn't UTF-8.
-        "0000000f050100000001040000000000000001",
-        "0000000c0501000000010200000001ff",
-    ] {
-        let bytes = hex::decode(rt.alloc(), digits)?;
-        assert!(&rt;
-            matches!(read_server_frame(rt.alloc(), &bytes), Read::BadFrame),
-            "{digits}"
-        );
-    }
+fn what_the_server_says_is_read(rt: HostRuntime) -> Result<(), Fail> {
+    let bytes = hex::decode(rt.alloc(), OPENED)?;
+    assert!(&rt;
+        matches!(
+            read_server_frame(rt.alloc(), &bytes),
+            Read::Frame(ServerFrame::Opened(0), 9)
+        )
+    );
+    let mut link = super::fed(rt.alloc(), 1, &[OPENED])?;
+    assert!(&rt;
+        matches!(
+            next(rt.alloc(), &mut link),
+            NextFrame::Frame(ServerFrame::Opened(0))
+        )
+    );
+    assert!(&rt; matches!(next(rt.alloc(), &mut link), NextFrame::Ended));
     Ok(())
 }

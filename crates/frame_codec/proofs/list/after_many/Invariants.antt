@@ -1,0 +1,7 @@
+use Rattle.std.proofs.Common.{◌≡◌, ◌-◌}
+use Rattle.frame_codec.proofs.Lists.{rest_of}
+use Rattle.frame_codec.specs.Reading.{many_at}
+use Rattle.frame_codec.proofs.list.after_many.Given as goal
+
+abbrev pub invariant-loop : goal.invariant-loop
+invariant-loop l = rest_of (many_at (l.count - l.counter) l.rest) ≡ rest_of (many_at l.count l.bytes)

@@ -1,7 +1,0 @@
-use Rattle.std.proofs.Common.{◌≡◌, ◌-◌}
-use Rattle.frame_codec.proofs.Loop.{rest_of}
-use Rattle.svc_kit.specs.Fields.{rows_at}
-use Rattle.svc_kit.proofs.list.after_rows.Given as goal
-
-abbrev pub invariant-loop : goal.invariant-loop
-invariant-loop l = rest_of (rows_at l.columns (l.count - l.counter) l.rest) ≡ rest_of (rows_at l.columns l.count l.bytes)

@@ -1,13 +1,15 @@
-//! Frames are put on a link as they are spelled, which takes no memory.
+//! Frames are put on a link as they are spelled, which takes no memory: what is short is gathered, so
+//! that a frame that fits what is gathered at a time is one put.
 
-ghost use Rattle.std.specs.Prelude.{◌≡◌, [], length, Ok, MatchResult};
+ghost use Rattle.std.specs.Prelude.{◌≡◌, ℕ, List, [], ◌++◌, length, Ok, MatchResult};
 ghost use Rattle.std.specs.Io.KnownBytes.{Appends};
 ghost use Rattle.okws_outer.specs.Streams.{AppendsPrefix};
-ghost use Rattle.okws_outer.specs.Wire.{Gives};
+ghost use Rattle.okws_outer.specs.Wire.{Wire, Gives};
 ghost use Rattle.frame_codec.specs.Spelling.{framed, server_spelling, service_spelling, HasSpelling, ServiceHasSpelling};
 ghost use Rattle.frame_codec.specs.Taking.{IsFramed};
-ghost use Rattle.frame_link.specs.Sending.{Sends};
+ghost use Rattle.frame_link.specs.Sending.{Gathers, Sends};
 
+use arrayvec::ArrayVec;
 use frame_codec::frame::{ServerFrame, ServiceFrame};
 use frame_codec::framing::{Frame, spell};
 use frame_codec::taker::Taker;
@@ -26,29 +28,69 @@ fn put<L: Link>(link: &mut L, bytes: &[u8]) -> Result<(), LinkFault>
     }
 }
 
-/// Puts on a link what it takes, and nothing more once a call of the link has failed.
+/// Puts bytes that are due next, unless a call of the link has failed before.
+fn put_after<L: Link>(
+    sent: Result<(), LinkFault>,
+    link: &mut L,
+    bytes: &[u8],
+) -> Result<(), LinkFault>
+    ensures { (start : Wire) (text : List ℕ) → Gathers start text sent bytes.now (L.wire link.old) → Gathers start text result [] (L.wire link.new) }
+{
+    if sent.is_err() {
+        return sent;
+    }
+    put(link, bytes)
+}
+
+/// Bytes that are gathered before they are put.
+const GATHERED: usize = 1024;
+
+/// Puts on a link what it takes, and nothing more once a call of the link has failed. Gathers what is
+/// short, up to GATHERED bytes for one put.
 struct Sending<'a, L: Link> {
     link: &'a mut L,
+    gathered: ArrayVec<u8, GATHERED>,
     sent: Result<(), LinkFault>,
 }
 
 impl<'a, L: Link> Sending<'a, L> {
-    /// Nothing is sent yet.
+    /// Nothing is sent or gathered yet.
     fn on(link: &'a mut L) -> Self
         ensures link { result.link.ghost_name ≡ link.entry.ghost_name }
-        ensures nothing { Sends (L.wire link.old) [] result.sent (L.wire result.link.now) }
+        ensures nothing { Gathers (L.wire link.old) [] result.sent result.gathered.items (L.wire result.link.now) }
         ensures same { result.link.now ≡ link.old }
     {
-        Sending { link, sent: Ok(()) }
+        Sending {
+            link,
+            gathered: ArrayVec::new(),
+            sent: Ok(()),
+        }
+    }
+
+    /// Puts what is gathered.
+    fn flush(&mut self)
+        ensures link { self.new.link.ghost_name ≡ self.old.link.ghost_name }
+        ensures empty { self.new.gathered.items ≡ [] }
+        ensures puts { (start : Wire) (text : List ℕ) → Gathers start text self.old.sent self.old.gathered.items (L.wire self.old.link.now) → Gathers start text self.new.sent [] (L.wire self.new.link.now) }
+    {
+        if self.gathered.is_empty() {
+            return;
+        }
+        self.sent = put_after(self.sent, self.link, self.gathered.as_slice());
+        self.gathered.clear();
     }
 }
 
 impl<'a, L: Link> Taker for Sending<'a, L> {
-    ghost took = { λ start text now. (now.link.ghost_name ≡ start.link.ghost_name) × Sends (L.wire start.link.now) text now.sent (L.wire now.link.now) };
+    ghost took = { λ start text now. (now.link.ghost_name ≡ start.link.ghost_name) × Gathers (L.wire start.link.now) text now.sent now.gathered.items (L.wire now.link.now) };
 
     fn take(&mut self, bytes: &[u8]) {
-        if self.sent.is_ok() {
-            self.sent = put(self.link, bytes);
+        if self.gathered.try_extend_from_slice(bytes).is_ok() {
+            return;
+        }
+        self.flush();
+        if self.gathered.try_extend_from_slice(bytes).is_err() {
+            self.sent = put_after(self.sent, self.link, bytes);
         }
     }
 }
@@ -60,7 +102,12 @@ fn put_frame<F: Frame, L: Link>(link: &mut L, frame: &F) -> Result<(), LinkFault
 {
     let mut sending = Sending::on(link);
     spell(frame, &mut sending);
-    let Sending { link: _, sent } = sending;
+    sending.flush();
+    let Sending {
+        link: _,
+        gathered: _,
+        sent,
+    } = sending;
     sent
 }
 

@@ -1,10 +1,14 @@
 //! Frames in whatever pieces they come, and where a link fails. Not tested here: each kind of frame,
 //! which the codec's tests have.
 
+ghost use Rattle.frame_codec.specs.Spelling.{HasSpelling};
+
 use crate::receiving::{NextFrame, next};
 use crate::sending::send;
-use frame_codec::frame::{ServerFrame, ServiceFrame};
+use frame_codec::frame::{Issued, ServerFrame, ServiceFrame};
 use okws_base::items::Items;
+use okws_base::limit::LONGEST_FRAME;
+use okws_base::value::{Token, Value};
 use okws_outer::memory::link::{FedLink, MemoryLink};
 use okws_outer::stream::Link;
 use std::alloc::{AllocError, Global};
@@ -123,4 +127,88 @@ fn a_frame_is_put_as_far_as_there_is_room(rt: HostRuntime) -> Result<(), Fail> {
         );
     }
     Ok(())
+}
+
+/// Whether the frame went out, over a link whose first `puts` calls succeed and the next one fails.
+fn goes_in(alloc: Global, frame: &ServerFrame, puts: u64) -> Result<bool, AllocError>
+    requires { HasSpelling frame.now }
+{
+    let failing = [puts];
+    let mut link = MemoryLink::new(alloc, 1, &failing);
+    link.make_room(LONGEST_FRAME + 4)?;
+    Ok(send(&mut link, frame).is_ok())
+}
+
+/// Bytes of this length.
+fn bytes_of(alloc: Global, length: usize) -> Result<Items<u8>, AllocError> {
+    Ok(Items::of(vec![in alloc; 97u8; length]?))
+}
+
+/// Rows of a number and a text of 20 bytes.
+fn few_rows(alloc: Global, count: i64) -> Result<ServerFrame, AllocError> {
+    let mut rows = Items::of(Vec::new(alloc));
+    for number in 0..count {
+        let mut row = Items::of(Vec::new(alloc));
+        row.push(Value::Int(number))?;
+        row.push(Value::Bytes(bytes_of(alloc, 20)?))?;
+        rows.push(row)?;
+    }
+    Ok(ServerFrame::Rows { columns: 2, rows })
+}
+
+/// A Boot of two tokens.
+fn boot(alloc: Global) -> Result<ServerFrame, AllocError> {
+    let mut tokens = Items::of(Vec::new(alloc));
+    for proxy in 0..2 {
+        tokens.push(Issued {
+            proxy,
+            token: Token { bytes: [7; 20] },
+        })?;
+    }
+    Ok(ServerFrame::Boot {
+        service: 1,
+        incarnation: 1,
+        tokens,
+    })
+}
+
+/// A Request with a head and a content of these lengths, which has 13 bytes more.
+fn request(alloc: Global, head: usize, content: usize) -> Result<ServerFrame, AllocError> {
+    Ok(ServerFrame::Request {
+        head: bytes_of(alloc, head)?,
+        content: bytes_of(alloc, content)?,
+    })
+}
+
+/// The frame goes out in just so many puts.
+fn is_put_in(rt: &impl Abort, alloc: Global, frame: &ServerFrame, puts: u64) -> Result<(), Fail> {
+    assert!(rt; frame.has_spelling());
+    assert!(rt; goes_in(alloc, frame, puts)?);
+    assert!(rt; !goes_in(alloc, frame, puts.saturating_sub(1))?);
+    Ok(())
+}
+
+#[test]
+fn a_short_frame_is_one_put(rt: HostRuntime) -> Result<(), Fail> {
+    let alloc = rt.alloc();
+    is_put_in(&rt, alloc, &boot(alloc)?, 1)?;
+    is_put_in(&rt, alloc, &few_rows(alloc, 4)?, 1)?;
+    is_put_in(&rt, alloc, &ServerFrame::Logged, 1)?;
+    // 150 bytes, 1,024 bytes, and one more.
+    for (head, content, puts) in [(120, 17, 1), (1_000, 11, 1), (1_000, 12, 2)] {
+        is_put_in(&rt, alloc, &request(alloc, head, content)?, puts)?;
+    }
+    Ok(())
+}
+
+#[test]
+fn a_long_frame_is_few_puts(rt: HostRuntime) -> Result<(), Fail> {
+    let alloc = rt.alloc();
+    // A content of 5,000 bytes goes by itself, and rows of some 5,000 in five.
+    let template = ServerFrame::Template {
+        edition: 1,
+        content: bytes_of(alloc, 5_000)?,
+    };
+    is_put_in(&rt, alloc, &template, 2)?;
+    is_put_in(&rt, alloc, &few_rows(alloc, 147)?, 5)
 }

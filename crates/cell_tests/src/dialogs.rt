@@ -157,8 +157,8 @@ fn each_end_comes_once(rt: HostRuntime) -> Result<(), Fail> {
 
 #[test]
 fn a_link_fails(rt: HostRuntime) -> Result<(), Fail> {
-    // The call that takes a Log, and one within its answer: what was put before stays.
-    for (call, length) in [(11, 25), (17, 29)] {
+    // The call that takes a Log, and the one that puts its answer: what was put before stays.
+    for (call, length) in [(2, 25), (7, 25)] {
         let (letter, given) = spoken(rt.alloc(), LOG, true, 1, &[call])?;
         assert_eq!(rt; letter, 'f');
         assert_eq!(rt; given.len(), length);

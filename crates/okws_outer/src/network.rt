@@ -6,7 +6,29 @@ ghost use Rattle.okws_outer.specs.Networks.{Net, Listens};
 
 use crate::door::Door;
 use crate::error::MakeError;
-use std::alloc::Global;
+use okws_base::told::{Parts, Says};
+use std::alloc::{AllocError, Global};
+
+/// What is told of a listen.
+#[derive(Clone, Copy)]
+pub struct Listening {
+    /// The port of the loopback address.
+    pub port: u16,
+    /// How many doors were asked for.
+    pub count: usize,
+}
+
+impl Says for Listening {
+    type Item = Listening;
+
+    ghost item = { λ l. l };
+}
+
+impl Parts for Listening {
+    fn make(&self, _: Global) -> Result<Listening, AllocError> {
+        Ok(*self)
+    }
+}
 
 /// The network of one run.
 pub trait Network {
@@ -27,7 +49,7 @@ pub trait Network {
     ) -> Result<Vec<Self::Door>, MakeError>
         ensures count { IfOk result (λ doors. length doors.items ≡ count) }
         ensures doors { IfOk result (λ doors. All (λ d. Self.Door.entrance d ≡ new_entrance) doors.items) }
-        ensures net { Listens (net self.old) (net self.new) result };
+        ensures net { Listens port count (net self.old) (net self.new) result };
 
     /// Takes doors back at the end of a run, in their order, and closes them.
     fn close(&mut self, doors: Vec<Self::Door>)

@@ -5,14 +5,17 @@ ghost use Rattle.okws_outer.specs.Streams.{Counts, Rose, counted};
 
 /// The numbers of the calls that fail, the number of the next call, and the count of faults.
 #[derive(Clone, Copy)]
-pub(crate) struct Failing<'a> {
-    pub(crate) calls: &'a [u64],
+pub struct Failing<'a> {
+    /// The numbers of the calls that fail.
+    pub calls: &'a [u64],
     next: u64,
-    pub(crate) faults: u64,
+    /// How many calls have failed; it never falls, and stays at 2^64 - 1 once it is there.
+    pub faults: u64,
 }
 
 impl<'a> Failing<'a> {
-    pub(crate) fn at(calls: &'a [u64]) -> Self
+    /// The calls of these numbers fail, and none has yet.
+    pub fn at(calls: &'a [u64]) -> Self
         ensures calls { result.calls.now ≡ calls.now }
         ensures faults { result.faults ≡ 0 }
     {
@@ -24,7 +27,7 @@ impl<'a> Failing<'a> {
     }
 
     /// Numbers a call, and tells whether it fails, which is then counted.
-    pub(crate) fn fails(&mut self) -> bool
+    pub fn fails(&mut self) -> bool
         ensures calls { self.new.calls ≡ self.old.calls }
         ensures faults { Counts self.old.faults self.new.faults (result ≡ true) }
         ensures still { result ≡ false → self.new.faults ≡ self.old.faults }
@@ -40,7 +43,7 @@ impl<'a> Failing<'a> {
     }
 
     /// The same, of an object of which each call fails where `refuses` says so.
-    pub(crate) fn fails_or(&mut self, refuses: bool) -> bool
+    pub fn fails_or(&mut self, refuses: bool) -> bool
         ensures faults { Counts self.old.faults self.new.faults (result ≡ true) }
         ensures still { result ≡ false → self.new.faults ≡ self.old.faults }
     {
@@ -52,7 +55,7 @@ impl<'a> Failing<'a> {
     }
 
     /// Counts a fault; the count stays at 2^64 - 1.
-    pub(crate) fn count(&mut self)
+    pub fn count(&mut self)
         ensures calls { self.new.calls ≡ self.old.calls }
         ensures later { self.old.faults ≤ self.new.faults }
         ensures rose { Rose self.old.faults self.new.faults }
@@ -62,7 +65,7 @@ impl<'a> Failing<'a> {
     }
 
     /// Counts so many faults; the count stays at 2^64 - 1.
-    pub(crate) fn add(&mut self, faults: u64)
+    pub fn add(&mut self, faults: u64)
         ensures calls { self.new.calls ≡ self.old.calls }
         ensures faults { self.new.faults ≡ counted self.old.faults faults }
     {

@@ -1,6 +1,6 @@
 use Rattle.std.proofs.Common.{◌≡◌, Some, All, length, option_map}
 use Rattle.okws_outer.specs.Doors.{Entrance, new_entrance}
-use Rattle.okws_outer.proofs.memory.door.MemoryNetwork.open.Given as goal
+use Rattle.outer_memory.proofs.door.MemoryNetwork.open.Given as goal
 
 abbrev pub invariant-loop : goal.invariant-loop
 invariant-loop l = record {

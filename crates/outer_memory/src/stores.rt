@@ -3,13 +3,13 @@
 ghost use Rattle.std.specs.Prelude.{◌≡◌, [], IfOk};
 ghost use Rattle.okws_outer.specs.Depots.{IsNewKeeper};
 
-use crate::error::MakeError;
-use crate::keeper::{Keeper, RunError};
-use crate::memory::failing::Failing;
-use crate::stores::{KeeperEnd, KeeperStart, Stores};
 use okws_base::items::copies;
 use okws_base::told::{Says, Told};
 use okws_base::value::Value;
+use okws_outer::error::MakeError;
+use okws_outer::keeper::{Keeper, RunError};
+use okws_outer::memory::failing::Failing;
+use okws_outer::stores::{KeeperEnd, KeeperStart, Stores};
 use okws_plan::configuration::Table;
 use okws_plan::statement::{Answer, Statement};
 use std::alloc::{AllocError, Global};

@@ -4,14 +4,14 @@ ghost use Rattle.std.specs.Prelude.{◌≡◌, [], IfSome, IsNone, IsSome, rever
 ghost use Rattle.okws_outer.specs.Racks.{IsNewSink};
 ghost use Rattle.okws_outer.specs.Streams.{Counts};
 
-use crate::error::Fault;
-use crate::memory::failing::Failing;
-use crate::memory::noted::Noted;
-use crate::memory::sink::MemorySink;
-use crate::sinks::{SinkEnd, SinkStart, Sinks};
-use crate::stream::Sink;
+use crate::noted::Noted;
 use okws_base::items::{Items, copies};
 use okws_base::told::{Parts, Says};
+use okws_outer::error::Fault;
+use okws_outer::memory::failing::Failing;
+use okws_outer::memory::sink::MemorySink;
+use okws_outer::sinks::{SinkEnd, SinkStart, Sinks};
+use okws_outer::stream::Sink;
 use std::alloc::{AllocError, Global};
 
 /// Sinks in memory, one for each opening. An opening fails too where memory is refused for the sink.

@@ -4,21 +4,21 @@
 
 ghost use Rattle.std.specs.Prelude.{◌≡◌, [], IsNone, None};
 
-use crate::child::{Child, Ended};
-use crate::children::{Children, Started};
-use crate::conn::Conn;
-use crate::door::{Door, Served};
-use crate::error::{Fault, MakeError};
-use crate::gate::{Gate, NoGate, Point};
-use crate::memory::children::{ChildPlan, MemoryChildren};
-use crate::memory::door::{Client, MemoryNetwork};
-use crate::memory::sinks::MemorySinks;
-use crate::memory::stores::{Breaking, MemoryStores};
-use crate::network::Network;
-use crate::sinks::Sinks;
-use crate::stores::Stores;
-use crate::stream::{Link, Pull, Put, Sink};
+use crate::children::{ChildPlan, MemoryChildren};
+use crate::door::{Client, MemoryNetwork};
+use crate::sinks::MemorySinks;
+use crate::stores::{Breaking, MemoryStores};
 use okws_base::items::Items;
+use okws_outer::child::{Child, Ended};
+use okws_outer::children::{Children, Started};
+use okws_outer::conn::Conn;
+use okws_outer::door::{Door, Served};
+use okws_outer::error::{Fault, MakeError};
+use okws_outer::gate::{Gate, NoGate, Point};
+use okws_outer::network::Network;
+use okws_outer::sinks::Sinks;
+use okws_outer::stores::Stores;
+use okws_outer::stream::{Link, Pull, Put, Sink};
 use std::sync::{Mutex, Wait};
 use std::test::Fail;
 use std::thread;
@@ -114,6 +114,10 @@ fn doors_take_from_one_line(rt: HostRuntime) -> Result<(), Fail> {
     doors.push(second)?;
     network.close(doors);
     assert_eq!(rt; network.faults(), 1);
+    let Some([_, last]) = network.listened() else {
+        panic!(rt; "not as planned");
+    };
+    assert_eq!(rt; (last.port, last.count), (8080, 2));
     let [first, second] = network.doors() else {
         panic!(rt; "not as planned");
     };

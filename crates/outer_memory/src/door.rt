@@ -3,15 +3,15 @@
 ghost use Rattle.std.specs.Prelude.{◌≡◌, Some, [], All, IfOk, IfSome, length, map, option_map, reverse};
 ghost use Rattle.okws_outer.specs.Doors.{new_entrance};
 
-use crate::conn::Conn;
-use crate::door::{Door, Served};
-use crate::error::{Fault, MakeError};
-use crate::memory::conn::MemoryConn;
-use crate::memory::failing::Failing;
-use crate::memory::noted::Noted;
-use crate::network::Network;
+use crate::noted::Noted;
 use okws_base::items::{Items, copies};
 use okws_base::told::{Parts, Says};
+use okws_outer::conn::Conn;
+use okws_outer::door::{Door, Served};
+use okws_outer::error::{Fault, MakeError};
+use okws_outer::memory::conn::MemoryConn;
+use okws_outer::memory::failing::Failing;
+use okws_outer::network::{Listening, Network};
 use std::alloc::{AllocError, Global};
 use std::sync::Arc;
 use std::sync::atomic::{AtomicU64, Ordering};
@@ -129,9 +129,10 @@ impl<'a> Door for MemoryDoor<'a> {
 /// A network in memory, on whose port these clients come in this order.
 #[derive(Drop)]
 pub struct MemoryNetwork<'a> {
+    alloc: Global,
     clients: &'a [Client<'a>],
     refusals: &'a [u64],
-    listened: u64,
+    listened: Noted<Listening>,
     doors: Vec<MemoryDoor<'a>>,
     refuses: bool,
     failing: Failing<'a>,
@@ -146,12 +147,13 @@ impl<'a> MemoryNetwork<'a> {
         refusals: &'a [u64],
         failing: &'a [u64],
     ) -> Self
-        ensures { ⟦<MemoryNetwork<'a> as Network>⟧.net result ≡ record { listened = 0; doors = []; faults = 0 } }
+        ensures { ⟦<MemoryNetwork<'a> as Network>⟧.net result ≡ record { listened = []; doors = []; faults = 0 } }
     {
         MemoryNetwork {
+            alloc,
             clients,
             refusals,
-            listened: 0,
+            listened: Noted::new(alloc),
             doors: Vec::new(alloc),
             refuses: false,
             failing: Failing::at(failing),
@@ -160,12 +162,13 @@ impl<'a> MemoryNetwork<'a> {
 
     /// A network that is not there: each listen fails.
     pub fn absent(alloc: Global) -> Self
-        ensures { ⟦<MemoryNetwork<'a> as Network>⟧.net result ≡ record { listened = 0; doors = []; faults = 0 } }
+        ensures { ⟦<MemoryNetwork<'a> as Network>⟧.net result ≡ record { listened = []; doors = []; faults = 0 } }
     {
         MemoryNetwork {
+            alloc,
             clients: &[],
             refusals: &[],
-            listened: 0,
+            listened: Noted::new(alloc),
             doors: Vec::new(alloc),
             refuses: true,
             failing: Failing::at(&[]),
@@ -177,6 +180,13 @@ impl<'a> MemoryNetwork<'a> {
         ensures { map ⟦<MemoryDoor<'a> as Door>⟧.entrance result.now ≡ (⟦<MemoryNetwork<'a> as Network>⟧.net self.now).doors }
     {
         &self.doors
+    }
+
+    /// The listens, the oldest first, unless memory was refused for one.
+    pub fn listened(&self) -> Option<&[Listening]>
+        ensures { IfSome result (λ s. reverse s.now ≡ (⟦<MemoryNetwork<'a> as Network>⟧.net self.now).listened) }
+    {
+        self.listened.as_slice()
     }
 
     /// How many listens have failed.
@@ -222,7 +232,7 @@ impl<'a> Network for MemoryNetwork<'a> {
     type Door = MemoryDoor<'a>;
 
     ghost net = { λ n. record {
-      listened = n.listened;
+      listened = n.listened.told.past;
       doors = map ⟦<MemoryDoor<'a> as Door>⟧.entrance n.doors.items;
       faults = n.failing.faults;
     } };
@@ -230,10 +240,10 @@ impl<'a> Network for MemoryNetwork<'a> {
     fn listen(
         &mut self,
         alloc: Global,
-        _port: u16,
+        port: u16,
         count: usize,
     ) -> Result<Vec<MemoryDoor<'a>>, MakeError> {
-        self.listened = self.listened.saturating_add(1);
+        self.listened.note(self.alloc, &Listening { port, count });
         if self.failing.fails_or(self.refuses) {
             return Err(MakeError::Failed);
         }
@@ -242,7 +252,7 @@ impl<'a> Network for MemoryNetwork<'a> {
 
     fn close(&mut self, doors: Vec<MemoryDoor<'a>>)
         ensures doors { self.new.doors.items ≡ doors.entry.items }
-        ensures listened { self.new.listened ≡ self.old.listened }
+        ensures listened { self.new.listened.told.past ≡ self.old.listened.told.past }
         ensures faults { self.new.failing.faults ≡ self.old.failing.faults }
     {
         self.doors = doors;

@@ -4,15 +4,15 @@ ghost use Rattle.std.specs.Prelude.{◌≡◌, ◌==◌, [], IfOk, IfSome, lengt
 ghost use Rattle.okws_outer.specs.Lives.{new_life};
 ghost use Rattle.okws_outer.specs.Wire.{unused, fed, shut};
 
-use crate::child::{Child, Ended};
-use crate::children::{ChildEnd, ChildStart, Children, Started};
-use crate::error::MakeError;
-use crate::memory::failing::Failing;
-use crate::memory::link::{FedLink, MemoryLink};
-use crate::memory::noted::Noted;
-use crate::stream::Link;
+use crate::noted::Noted;
 use okws_base::items::{Items, copies};
 use okws_base::told::{Parts, Says};
+use okws_outer::child::{Child, Ended};
+use okws_outer::children::{ChildEnd, ChildStart, Children, Started};
+use okws_outer::error::MakeError;
+use okws_outer::memory::failing::Failing;
+use okws_outer::memory::link::{FedLink, MemoryLink};
+use okws_outer::stream::Link;
 use std::alloc::{AllocError, Global};
 
 /// What the child of a service's incarnation does.

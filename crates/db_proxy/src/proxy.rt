@@ -15,6 +15,7 @@ ghost use Rattle.monitor_model.specs.Columns.{ProxyLaw};
 ghost use Rattle.token_core.specs.Token.{token_of};
 ghost use Rattle.monitor_model.specs.Proxy.{open_verdict, call_answer, call_verdict, call_denial, rows};
 ghost use Rattle.monitor_model.specs.declared.verdict.Verdict.{Verdict};
+ghost use Rattle.db_proxy.specs.Permit.{MayBeAnswered};
 ghost use Rattle.db_proxy.specs.Seen.{entered};
 
 use crate::answering::within;
@@ -196,13 +197,16 @@ impl<K: Keeper> Proxy<K> {
 
     /// Decides a call, and has the keeper run its query where it is allowed. Its entry is marked as a
     /// fault where the keeper failed, which leaves the rows as they were. A call that breaks a rule
-    /// leaves the count of faults. Where memory is refused, all is as before.
+    /// leaves the count of faults. Over a keeper that tells no rows, what is answered is what the query
+    /// may answer: Duplicate comes of an INSERT into a table with a KEY alone. Where memory is refused,
+    /// all is as before.
     pub fn call(&mut self, call: Call) -> Result<Verdict, AllocError>
         requires { call.service < length self.old.config.services }
         ensures entry { IfOk result (λ v. (mark : Mark) × (self.new.past ≡ record { worker = self.old.holder; event = event.Call call mark } ∷ self.old.past)
             × (mark ≡ Mark.Fault → (call_denial self.old.config self.old.number self.old.past call ≡ None) × Rose self.old.faults self.new.faults)
             × (self.old.steady ≡ true → mark ≡ Mark.Done)
-            × ((answer : Answer) × (v ≡ call_answer (call_denial self.old.config self.old.number self.old.past call) mark answer))
+            × ((answer : Answer) × (v ≡ call_answer (call_denial self.old.config self.old.number self.old.past call) mark answer)
+            × (call_denial self.old.config self.old.number self.old.past call ≡ None → mark ≡ Mark.Done → self.old.told ≡ None → MayBeAnswered self.old.config self.old.number call answer))
             × IfSome self.old.told (λ _. v ≡ call_verdict self.old.config self.old.number self.old.past call mark)) }
         ensures rows { OnOk result (self.new.told ≡ option_map (λ _. rows self.new.config self.new.number self.new.past) self.old.told) }
         ensures same { self.new ≡ record self.old { past = self.new.past; told = self.new.told; faults = self.new.faults } }

@@ -37,6 +37,12 @@ closed_sent C seed i p s (x ∷ pasts) [] h below e = absurd h
 closed_sent C seed i zero s (x ∷ pasts) (y ∷ sents) h below e = let same : i ≡ s = omega (arith, e) in subst (λ n. AreSent C seed n x y) same h.0
 closed_sent C seed i (suc p) s (x ∷ pasts) (y ∷ sents) h below e = closed_sent C seed (i + 1) p s pasts sents h.2 (omega (arith, below)) (omega (arith, e))
 
+pub closed_long : (C : Config) (seed : List ℕ) (i : ℕ) (pasts : List (List CellEvent)) (sents : List (List Sent)) → AreClosed C seed i pasts sents → length sents ≡ length pasts
+closed_long C seed i [] [] h = refl
+closed_long C seed i [] (y ∷ sents) h = absurd h
+closed_long C seed i (x ∷ pasts) [] h = absurd h
+closed_long C seed i (x ∷ pasts) (y ∷ sents) h = let e = closed_long C seed (i + 1) pasts sents h.2 in omega (arith, e)
+
 pub closed_told : (C : Config) (seed : List ℕ) (i p : ℕ) (pasts : List (List CellEvent)) (sents : List (List Sent)) → AreClosed C seed i pasts sents → Each IsToldOf (get_or sents p [])
 closed_told C seed i p pasts [] h = tt
 closed_told C seed i p [] (y ∷ sents) h = absurd h

@@ -34,6 +34,7 @@ pub record Laws : Type 0 where
 
 -- what the links were given, by a record
 pub record Links (C : Config) (seed : List ℕ) (R : Record) : Type 0 where
+  pub many : length R.sents ≡ length C.services
   pub sent : (s : ℕ) → s < length C.services → AreSent C seed s (cell_past R s) (sents_of R s)
   pub told : (s : ℕ) → Each IsToldOf (sents_of R s)
 
@@ -57,6 +58,7 @@ of_stage laws C seed lines printed S x fit plays faultless links =
       taken = laws.taken C seed lines printed S fit plays;
       told = told_still x C seed (record_of S) printed (laws.told C seed lines printed S fit plays);
       replied = laws.replied C seed lines printed S fit plays;
+      linked = links.many;
       heard = λ s lt. links_given C seed s (left_of S x) whole (links.sent s lt) (links.told s);
     }
 

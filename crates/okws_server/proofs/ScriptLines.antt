@@ -10,7 +10,7 @@ use Rattle.okws_plan.specs.Lines.{LineFits}
 use Rattle.okws_plan.specs.declared.configuration.Config.{Config}
 use Rattle.okws_plan.specs.declared.script.Line.{Line}
 use Rattle.monitor_model.specs.Stage.{Stage, first_stage}
-use Rattle.monitor_model.specs.Script.{Does}
+use Rattle.monitor_model.specs.Script.{Plays}
 use Rattle.play_script.specs.Reading.{ReadFits, script_reads}
 use Rattle.play_script.specs.Rule.{script_rule_number}
 use Rattle.play_script.specs.declared.reading.LineRead.{LineRead}
@@ -152,7 +152,7 @@ pub breaks_within : (C : Config) (first run after : Run) (text : List ℕ) (more
 breaks_within C first run after text more one n a b c e config_is i step =
     let config_at : run.config ≡ C = ap (λ (r : Run). r.config) i.same ∙ config_is in
     let seed_at : run.seed ≡ first.seed = ap (λ (r : Run). r.seed) i.same in
-    let does : Does C first.seed step.0 run.stage step.1 step.2 = subst (λ (D : Config). Does D first.seed step.0 run.stage step.1 step.2) config_at (subst (λ (x : List ℕ). Does run.config x step.0 run.stage step.1 step.2) seed_at step.4) in
+    let does : Plays C first.seed step.0 run.stage step.1 step.2 = subst (λ (D : Config). Plays D first.seed step.0 run.stage step.1 step.2) config_at (subst (λ (x : List ℕ). Plays run.config x step.0 run.stage step.1 step.2) seed_at step.4) in
     let due : IsDue C first.seed text (i.printed ++ step.1) = record {
       front = i.reads;
       rest = one ∷ more;

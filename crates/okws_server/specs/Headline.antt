@@ -31,7 +31,7 @@ use Rattle.okws_server.specs.declared.script.Broken.{Broken}
 -- Each dialog opens with the pushes of its Drain's verdict and its Request, and each frame that it heard later is the verdict of its entry; and no entry stands without its frame.
 -- All that came from a service's last incarnation is what it said in whole frames and what is left on its link, or what its end left unread.
 -- What is printed is all that each incarnation heard, and one answer to each request, unless its dialog wasn't begun or is open.
--- Each incarnation that was booted had a link, and that was given just what it heard, to the end of the run.
+-- Each incarnation of a service that was booted had a link, and that was given just what it heard, to the end of the run; no other link was given anything.
 pub record IsMonitored (C : Config) (seed : List ℕ) (lines : List Line) (R : Record) (printed : List ℕ) : Type 0 where
   pub stage : Stage
   pub plays : PlaysAll C seed (reverse lines) printed stage
@@ -43,6 +43,7 @@ pub record IsMonitored (C : Config) (seed : List ℕ) (lines : List Line) (R : R
   pub taken : (s : ℕ) → TakesAll (cell_past R s) (stand stage s).left (given_since (reverse lines) s)
   pub told : TellsAll C seed R printed
   pub replied : AnswersOnce C stage printed
+  pub linked : length R.sents ≡ length C.services
   pub heard : (s : ℕ) → s < length C.services → AreGivenAll C seed s (cell_past R s) (sents_of R s)
 
 -- The script is no longer than the limit, and its lines are a run.

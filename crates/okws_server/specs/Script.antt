@@ -7,7 +7,7 @@ use Rattle.okws_plan.specs.declared.configuration.Config.{Config}
 use Rattle.okws_plan.specs.declared.script.Line.{Line}
 use Rattle.okws_outer.specs.Printing.{Printer, PrintsOn, PrintsFront}
 use Rattle.monitor_model.specs.Stage.{Stage}
-use Rattle.monitor_model.specs.Script.{Does, Plays, PlaysAll, refusal}
+use Rattle.monitor_model.specs.Script.{Plays, PlaysAll, refusal}
 use Rattle.play_script.specs.Reading.{script_reads}
 use Rattle.play_script.specs.Rule.{script_rule_number}
 use Rattle.play_script.specs.declared.rule.ScriptRule.{ScriptRule}
@@ -62,10 +62,10 @@ pub record IsBrokenAt (C : Config) (seed text printed : List ℕ) (S : Stage) (l
   pub played : HasPlayed C seed front printed S
   pub breaks : Breaks broken S rule
 
--- What the next of these lines prints at a state: what it does there, or nothing.
+-- What the next of these lines prints at a state: what it does there, where it breaks no rule, or nothing.
 abbrev pub PrintsNext : Config → List ℕ → List LineRead → Stage → List ℕ → Type 0
 PrintsNext C seed rest S text =
-    (text ≡ []) ⊎ ((line : Line) × (more : List LineRead) × (later : Stage) × (rest ≡ read.Says line ∷ more) × Does C seed line S text later)
+    (text ≡ []) ⊎ ((line : Line) × (more : List LineRead) × (later : Stage) × (rest ≡ read.Says line ∷ more) × Plays C seed line S text later)
 
 -- What a run of the script prints as far as it comes: some of its lines, from the first on, lead from nothing to a state and print a text; and the next one prints the last of it there.
 pub record IsDue (C : Config) (seed text due : List ℕ) : Type 0 where
@@ -81,13 +81,13 @@ pub record IsDue (C : Config) (seed text due : List ℕ) : Type 0 where
   pub next : PrintsNext C seed rest stage last
   pub due_is : due ≡ printed ++ last
 
--- What a line that was read makes of a run, and what is printed from one printer to another; where it breaks a rule, all is as before and nothing is printed. Where memory is refused, it says something, and a front of what that prints was printed.
+-- What a line that was read makes of a run, and what is printed from one printer to another; where it breaks a rule, all is as before and nothing is printed. Where memory is refused, it breaks no rule, and a front of what it prints was printed.
 abbrev pub PlayedRead : Run → LineRead → Printer → Printer → Result (Option ScriptRule) AllocError → Run → Type 0
 PlayedRead run line before after (Ok None) now =
     (text : List ℕ) × PlaysRead run.config run.seed line run.stage text now.stage × (now ≡ at_stage run now.stage) × PrintsOn before after text
 PlayedRead run line before after (Ok (Some rule)) now = Breaks line run.stage (script_rule_number rule) × (now ≡ run) × PrintsOn before after []
 PlayedRead run line before after (Err e) now =
-    (said : Line) × (text : List ℕ) × (later : Stage) × (line ≡ read.Says said) × Does run.config run.seed said run.stage text later × PrintsFront before after text
+    (said : Line) × (text : List ℕ) × (later : Stage) × (line ≡ read.Says said) × Plays run.config run.seed said run.stage text later × PrintsFront before after text
 
 -- What the lines of a script make of a run, up to the first that is broken, and what is printed from one printer to another. Where memory is refused, a front of what is due was printed.
 abbrev pub PlayedLines : Run → List ℕ → Printer → Printer → Result (Option Broken) AllocError → Run → Type 0

@@ -75,6 +75,7 @@ impl Play {
         ensures record { IfOk result (λ r. r ≡ record (record_of self.stage) { sents = r.sents }) }
         ensures sent { IfOk result (λ r. (s : ℕ) → s < length self.config.services → AreSent self.config self.seed s (cell_past r s) (sents_of r s)) }
         ensures told { IfOk result (λ r. (s : ℕ) → Each IsToldOf (sents_of r s)) }
+        ensures many { IfOk result (λ r. length r.sents ≡ length self.config.services) }
         ensures faultless { IsFaultless self.stage }
     {
         let mut record = self.columns.into_record()?;

@@ -19,7 +19,7 @@ returns g c =
       replied = c.script_runs_answer_once.ensures;
     }) _ zero_seed c.args.text.now c.in_ok-broken.broken _ _ c.in_ok-play.play c.play_lines.new.play c.in_ok-record.record
     (ap (λ (r : Run). r.config) c.in_ok-play.ensures) (ap (λ (r : Run). r.seed) c.in_ok-play.ensures) c.requires.fits c.in_ok-broken.ensures c.into_record.ensures.faultless c.in_ok-record.ensures.record
-    (record { sent = c.in_ok-record.ensures.sent; told = c.in_ok-record.ensures.told })
+    (record { many = c.in_ok-record.ensures.many; sent = c.in_ok-record.ensures.sent; told = c.in_ok-record.ensures.told })
 
 pub returns-in_err-shared : goal.returns-in_err-shared
 returns-in_err-shared g c = fails_text _ _ _ _ c.from_residual.result c.from_residual.ensures.0 ([], inl refl, no_front _ _)

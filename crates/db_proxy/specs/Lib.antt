@@ -2,3 +2,4 @@ pub mod Seen
 pub mod Permit
 pub mod Tied
 pub mod Example
+pub mod Starting

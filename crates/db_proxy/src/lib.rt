@@ -1,11 +1,15 @@
 //! The column of a database proxy: it decides what a service may open and call, keeps the journal of
-//! it, and has a keeper run what is allowed.
+//! it, and has a keeper run what is allowed. What lists rows may be started within a turn and finished after it.
 #![tactic(auto)]
 
 mod answering;
+mod finishing;
 mod granting;
 mod proxy;
+mod starting;
 #[cfg(test)]
 mod tests;
 
+pub use finishing::{Finished, finish};
 pub use proxy::Proxy;
+pub use starting::Started;

@@ -9,6 +9,7 @@ ghost use Rattle.okws_plan.specs.Rules.{QueriesKeepRules};
 ghost use Rattle.okws_plan.specs.declared.event.Mark.{Mark};
 ghost use Rattle.okws_plan.specs.declared.event.ProxyEvent.TheVariants as event;
 ghost use Rattle.okws_plan.specs.declared.statement.Answer.{Answer};
+ghost use Rattle.okws_plan.specs.declared.statement.Answer.TheVariants.{Rows};
 ghost use Rattle.okws_outer.specs.Streams.{Rose};
 ghost use Rattle.monitor_model.specs.Standing.{proxy_grant, live_at_proxy};
 ghost use Rattle.monitor_model.specs.Columns.{ProxyLaw};
@@ -17,15 +18,18 @@ ghost use Rattle.monitor_model.specs.Proxy.{open_verdict, call_answer, call_verd
 ghost use Rattle.monitor_model.specs.declared.verdict.Verdict.{Verdict};
 ghost use Rattle.db_proxy.specs.Permit.{MayBeAnswered};
 ghost use Rattle.db_proxy.specs.Seen.{entered};
+ghost use Rattle.db_proxy.specs.Starting.{verdict_of, LeavesLength};
 
 use crate::answering::within;
 use crate::granting::{allowed, denial};
+use crate::starting::{Started, begin};
 use grant_column::{Granting, Head};
 use monitor_model::verdict::Verdict;
 use okws_base::journal::{Entry, Past};
 use okws_base::told::{Told, Whole};
 use okws_base::value::Token;
 use okws_outer::keeper::{Keeper, RunError};
+use okws_outer::pinned::Pinned;
 use okws_plan::configuration::Config;
 use okws_plan::event::{Call, Mark, ProxyEvent};
 use std::alloc::{AllocError, Global};
@@ -230,6 +234,46 @@ impl<K: Keeper> Proxy<K> {
         };
         self.head.enter(ProxyEvent::Call(call, mark));
         Ok(verdict)
+    }
+
+    /// Decides a call and enters it, as `call` does, but leaves rows to be found by `finish` when the
+    /// turn is given back: the answer of a SELECT is pinned before the entry. Whether the rows' frame
+    /// is too long is left to `finish` too; what the two tell together is what `call` answers. Where
+    /// memory is refused, all is as before.
+    pub fn start(&mut self, call: Call) -> Result<Started<K::Pin>, AllocError>
+        requires { call.service < length self.old.config.services }
+        ensures entry { IfOk result (λ s. (mark : Mark) × (self.new.past ≡ record { worker = self.old.holder; event = event.Call call mark } ∷ self.old.past)
+            × (mark ≡ Mark.Fault → (call_denial self.old.config self.old.number self.old.past call ≡ None) × Rose self.old.faults self.new.faults)
+            × (self.old.steady ≡ true → mark ≡ Mark.Done)
+            × ((answer : Answer) × (verdict_of (λ p. Rows (K.Pin.width p) (K.Pin.rows p)) s ≡ call_answer (call_denial self.old.config self.old.number self.old.past call) mark answer)
+            × (call_denial self.old.config self.old.number self.old.past call ≡ None → mark ≡ Mark.Done → self.old.told ≡ None → MayBeAnswered self.old.config self.old.number call answer))
+            × IfSome self.old.told (λ _. verdict_of (λ p. Rows (K.Pin.width p) (K.Pin.rows p)) s ≡ call_verdict self.old.config self.old.number self.old.past call mark)) }
+        ensures length { IfOk result (λ s. LeavesLength s) }
+        ensures rows { OnOk result (self.new.told ≡ option_map (λ _. rows self.new.config self.new.number self.new.past) self.old.told) }
+        ensures same { self.new ≡ record self.old { past = self.new.past; told = self.new.told; faults = self.new.faults } }
+        ensures later { self.old.faults ≤ self.new.faults }
+        ensures denied { IsSome (call_denial self.old.config self.old.number self.old.past call) → self.new.faults ≡ self.old.faults }
+        ensures err { OnErr result (self.new ≡ self.old) }
+    {
+        self.head.make_room()?;
+        let standing = self.head.standing(call.service);
+        let sessions = self.head.opened(call.service, call.incarnation);
+        let is_live = standing == Some(call.incarnation);
+        let (mark, started) = match allowed(&self.config, self.number, &call, is_live, sessions) {
+            Err(rule) => (Mark::Done, Started::Denied(rule)),
+            Ok(query) => match begin(
+                &mut self.keeper,
+                self.alloc,
+                &query.statement,
+                call.args.as_slice(),
+            ) {
+                Ok(started) => (Mark::Done, started),
+                Err(RunError::Failed) => (Mark::Fault, Started::Failed),
+                Err(RunError::NoMemory) => return Err(AllocError),
+            },
+        };
+        self.head.enter(ProxyEvent::Call(call, mark));
+        Ok(started)
     }
 }
 

@@ -1,5 +1,5 @@
-//! The rules that a proxy denies by, but the one on long answers, and a keeper that fails. Not tested
-//! here: long answers, and what statements find, which the keeper's tests have.
+//! The rules that a proxy denies by, but the one on long answers, a keeper that fails, and an answer that is
+//! found after its turn. Not tested here: long answers, and what statements find, which the keeper's tests have.
 
 ghost use Rattle.std.specs.Prelude.{◌≡◌, ◌<◌, IfOk, OnOk, length};
 ghost use Rattle.okws_base.specs.Past.{last_by};
@@ -11,12 +11,13 @@ ghost use Rattle.db_proxy.specs.Seen.{entered};
 
 mod site;
 
-use crate::Proxy;
+use crate::{Finished, Proxy, Started, finish};
 use monitor_model::verdict::Verdict;
 use okws_base::denial::Rule;
 use okws_base::items::Items;
 use okws_base::limit::MOST_SESSIONS;
 use okws_base::value::{Token, Value};
+use okws_outer::pinned::{Listed, Pinned};
 use okws_plan::event::Call;
 use row_keeper::ListKeeper;
 use site::{GUEST, OTHER, SEED, bytes, column, none};
@@ -100,6 +101,40 @@ fn inserted(
     called(proxy, call(0, 1, row))
 }
 
+fn started(proxy: &mut Proxy<ListKeeper>, call: Call) -> Result<Started<Listed>, AllocError>
+    requires { call.service < length proxy.old.config.services }
+    ensures { OnOk result (proxy.new.config ≡ proxy.old.config) }
+{
+    proxy.start(call)
+}
+
+// A call of other's first incarnation that lists all rows.
+fn listing(alloc: Global) -> Call
+    ensures { result.service ≡ OTHER }
+{
+    Call {
+        service: OTHER,
+        incarnation: 1,
+        session: 0,
+        query: 2,
+        args: none(alloc),
+    }
+}
+
+// The first value of the answer, which is found here.
+fn first_value(pin: &mut Listed) -> Option<&Value> {
+    match finish(pin) {
+        Finished::Rows(count) => {
+            if count > 0 && pin.columns() > 0 {
+                Some(pin.value(0, 0))
+            } else {
+                None
+            }
+        }
+        Finished::Denied(_) => None,
+    }
+}
+
 #[test]
 fn opens_are_denied(rt: HostRuntime) -> Result<(), Fail> {
     let alloc = rt.alloc();
@@ -163,5 +198,27 @@ fn a_call_that_failed_may_be_made_again(rt: HostRuntime) -> Result<(), Fail> {
     let (past, keeper) = proxy.close();
     assert_eq!(rt; past.as_slice().map(|entries| entries.len()), Some(6));
     assert_eq!(rt; keeper.faults(), 1);
+    Ok(())
+}
+
+#[test]
+fn rows_that_are_ready_outlast_a_delete(rt: HostRuntime) -> Result<(), Fail> {
+    let alloc = rt.alloc();
+    let mut proxy = opened(alloc, &[])?;
+    proxy.open_session(OTHER, 1, first(OTHER))?;
+    assert!(rt; inserted(alloc, &mut proxy, b"a")? == Verdict::Changed(1));
+    assert!(rt; inserted(alloc, &mut proxy, b"b")? == Verdict::Changed(1));
+    let Started::Ready(mut pin) = started(&mut proxy, listing(alloc))? else {
+        return Err(Fail::from("no rows"));
+    };
+    let row = row(alloc, b"a")?;
+    assert!(rt; called(&mut proxy, call(0, 4, row))? == Verdict::Changed(1));
+    assert!(rt; finish(&mut pin) == Finished::Rows(2));
+    let value = Value::Bytes(bytes(alloc, b"a")?);
+    assert!(rt; first_value(&mut pin) == Some(&value));
+    let Started::Ready(mut pin) = started(&mut proxy, listing(alloc))? else {
+        return Err(Fail::from("no rows"));
+    };
+    assert!(rt; finish(&mut pin) == Finished::Rows(1));
     Ok(())
 }

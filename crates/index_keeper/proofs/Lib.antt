@@ -5,3 +5,5 @@ pub mod Moved
 pub mod Entries
 pub mod Counted
 pub mod Ran
+pub mod Pins
+pub mod Unstable

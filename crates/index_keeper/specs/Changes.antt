@@ -1,5 +1,5 @@
 -- Changes of rows at their places, and the slots that come and go with them.
-use Rattle.std.specs.Prelude.{ℕ, Bool, true, false, not, ◌&&◌, ◌==◌, List, fold, if◌then◌else◌, Option, Some, None}
+use Rattle.std.specs.Prelude.{ℕ, Bool, true, false, not, ◌&&◌, ◌==◌, List, [], fold, if◌then◌else◌, Option, Some, None}
 use Rattle.std.specs.List.{list_any, filter_map}
 use Rattle.std.specs.Ordering.{nat_cmp, is_eq}
 use Rattle.std.specs.Map.{lookup}
@@ -63,6 +63,15 @@ changed changes o p = fold (after_change p) o changes
 -- The row at a place, if there is one.
 abbrev pub row_at : List (ℕ × List Value) → ℕ → Option (List Value)
 row_at entries p = lookup (is_at (nat_cmp p)) entries
+
+-- A row, or one of no values.
+abbrev pub or_empty : Option (List Value) → List Value
+or_empty None = []
+or_empty (Some row) = row
+
+-- The row at a place, or one of no values where there is none.
+abbrev pub row_or : List (ℕ × List Value) → ℕ → List Value
+row_or entries p = or_empty (row_at entries p)
 
 -- The row that is to stand at a place, made of the one that stands there.
 abbrev pub change_of : (List Value → Option (List Value)) → ℕ → Option (List Value) → Option Change

@@ -3,3 +3,4 @@ pub mod Order
 pub mod Places
 pub mod Changes
 pub mod Indexed
+pub mod Pinning

@@ -116,7 +116,13 @@ pub fn met_among<L: Ledger>(
     Ok(met)
 }
 
-fn meets_at(args: &[Value], conditions: &[Condition], rows: &BTreeMap<u64, Row>, place: u64) -> bool
+/// Whether there is a row at the place, and it meets the conditions.
+pub fn meets_at(
+    args: &[Value],
+    conditions: &[Condition],
+    rows: &BTreeMap<u64, Row>,
+    place: u64,
+) -> bool
     ensures { result ≡ passes_at (meets_all args.now conditions.now) (get nat_cmp rows.now place) }
 {
     match rows.get(&place) {

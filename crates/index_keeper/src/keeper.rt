@@ -1,14 +1,19 @@
 //! The keeper.
 
-ghost use Rattle.std.specs.Prelude.{◌≡◌, ◌+◌, ◌≤◌, true, Some, map, length, slice_set, IfOk, OnOk, OnErr};
+ghost use Rattle.std.specs.Prelude.{◌≡◌, ◌+◌, ◌≤◌, true, List, Some, map, length, slice_set, IfOk, OnOk, OnErr};
 ghost use Rattle.okws_plan.specs.Fits.{fits};
 ghost use Rattle.okws_plan.specs.Rules.{keeps_rules};
 ghost use Rattle.okws_plan.specs.Meaning.{mean_on};
+ghost use Rattle.okws_plan.specs.declared.configuration.Column.{Column as TableColumn};
+ghost use Rattle.okws_plan.specs.declared.statement.Answer.TheVariants.{Rows};
+ghost use Rattle.okws_outer.specs.Keeping.{is_select};
 ghost use Rattle.index_keeper.specs.Places.{rows_of};
 ghost use Rattle.index_keeper.specs.Indexed.{hit_places, hit_tests, wanted_by};
 
 use crate::declared::{conditions, wanted_columns};
+use crate::pinning::IndexPin;
 use crate::rows::TableRows;
+use crate::shared::SharedRows;
 use crate::steps::Steps;
 use okws_base::items::{Exact, copies};
 use okws_base::value::{Row, Value};
@@ -23,11 +28,12 @@ use std::sync::ledger::{Blank, Ledger};
 /// The rows of some tables, which are found by the KEY and by each column that some query compares
 /// by `=`. It tells them, and no call fails. A call by such a column takes time in line with the
 /// rows that have the value there, and the logarithm of the table's rows; another one in line with
-/// the table's rows. An ordered SELECT sorts its hits besides.
+/// the table's rows. An ordered SELECT sorts its hits besides. A SELECT that is pinned copies no values; the first write to its table while it is
+/// pinned copies the table's rows.
 #[derive(Drop)]
 pub struct IndexKeeper {
     tables: Vec<Table>,
-    rows: Vec<TableRows>,
+    rows: Vec<SharedRows>,
     ghost whole: { length rows.items ≡ length tables.items },
 }
 
@@ -68,7 +74,7 @@ impl IndexKeeper {
         let Some(rows) = self.rows.get(statement.table as usize) else {
             return Ok(Vec::new(alloc));
         };
-        rows.hits(alloc, args, conditions(action), steps)
+        rows.read().hits(alloc, args, conditions(action), steps)
     }
 }
 
@@ -76,14 +82,15 @@ fn first_rows(
     alloc: Global,
     tables: &[Table],
     queries: &[Query],
-) -> Result<Vec<TableRows>, AllocError>
+) -> Result<Vec<SharedRows>, AllocError>
     ensures rows { IfOk result (λ v. map (λ r. rows_of r.entries) v.items ≡ map (λ t. t.first) tables.now) }
     ensures columns { IfOk result (λ v. map (λ r. r.columns) v.items ≡ wanted_by tables.now queries.now) }
 {
     let mut rows = Vec::new(alloc);
     for table in 0..tables.len() {
         let columns = wanted_columns(alloc, queries, table, columns_at(tables, table))?;
-        rows.push(filled(alloc, columns, tables[table].first.as_slice())?)?;
+        let first = filled(alloc, columns, tables[table].first.as_slice())?;
+        rows.push(SharedRows::new(alloc, first)?)?;
     }
     Ok(rows)
 }
@@ -101,7 +108,7 @@ fn filled(alloc: Global, columns: Vec<u8>, first: &[Row]) -> Result<TableRows, A
 
 // Runs an action where nobody asks how many rows are tested.
 fn run_on<L: Ledger>(
-    rows: &mut TableRows,
+    rows: &mut SharedRows,
     alloc: Global,
     columns: &[Column],
     action: &Action,
@@ -119,6 +126,8 @@ fn run_on<L: Ledger>(
 }
 
 impl Keeper for IndexKeeper {
+    type Pin = IndexPin;
+
     ghost tables = { λ k. k.tables.items };
 
     ghost told = { λ k. Some (map (λ r. rows_of r.entries) k.rows.items) };
@@ -139,5 +148,18 @@ impl Keeper for IndexKeeper {
         let action = &statement.action;
         let answer = run_on::<Brand>(rows, alloc, columns, action, args, Blank::new(1))?;
         Ok(answer)
+    }
+
+    fn pin(
+        &mut self,
+        alloc: Global,
+        statement: &Statement,
+        args: &[Value],
+    ) -> Result<IndexPin, RunError> {
+        let Action::Select(selection) = &statement.action else {
+            unreachable!()
+        };
+        let rows = &self.rows[statement.table as usize];
+        Ok(IndexPin::new(alloc, rows, selection, args)?)
     }
 }

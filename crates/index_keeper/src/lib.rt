@@ -1,5 +1,6 @@
 //! A keeper that finds rows by their values: the rows of each table stand by their places of
-//! insertion, and slots lead from a value in a column to the places of the rows that have it there.
+//! insertion, and slots lead from a value in a column to the places of the rows that have it there. The answer of
+//! a SELECT may be pinned: it holds its version of the rows, which a later write then leaves as it is.
 #![tactic(auto)]
 
 mod answering;
@@ -8,11 +9,14 @@ mod declared;
 mod editing;
 mod finding;
 mod keeper;
+mod pinning;
 mod rows;
+mod shared;
 mod slot;
 mod slots;
 mod steps;
 
 pub use keeper::IndexKeeper;
+pub use pinning::IndexPin;
 pub use slot::Slot;
 pub use steps::Steps;

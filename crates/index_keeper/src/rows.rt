@@ -9,17 +9,19 @@ ghost use Rattle.std.specs.Map.{keys_of};
 ghost use Rattle.okws_base.specs.Value.{value_eq};
 ghost use Rattle.okws_plan.specs.Meaning.{nothing, mean_on, meets_all, at_column, selection_answer, is_taken};
 ghost use Rattle.okws_plan.specs.Meaning.{hits, misses, updated, assigned, inserted, row_of};
-ghost use Rattle.index_keeper.specs.Places.{places_where, rows_of, tests, is_indexed};
-ghost use Rattle.index_keeper.specs.Changes.{row_at, changed, changes_at};
+ghost use Rattle.index_keeper.specs.Places.{places_where, passes_at, rows_of, tests, is_indexed};
+ghost use Rattle.index_keeper.specs.Pinning.{AreTested};
+ghost use Rattle.index_keeper.specs.Changes.{row_at, row_or, changed, changes_at};
 
 use crate::answering::{answer, rows_at};
 use crate::changing::{Change, append, apply};
 use crate::declared::key_column;
 use crate::editing::{removals, replacements};
-use crate::finding::{at, candidates, leading_of, met_among, scanned};
+use crate::finding::{at, candidates, leading_of, meets_at, met_among, scanned};
 use crate::slot::Slot;
 use crate::slots::places_at;
 use crate::steps::Steps;
+use okws_base::items::{Exact, copies};
 use okws_base::value::{Row, Value};
 use okws_plan::configuration::Column;
 use okws_plan::meaning::new_row;
@@ -69,6 +71,31 @@ impl TableRows {
         };
         let places = candidates(alloc, args, condition, &self.slots)?;
         met_among(alloc, args, conditions, &self.rows, &places, steps)
+    }
+
+    /// The places of the rows that are tested for these conditions: those that the leading one leads to,
+    /// or all.
+    pub fn tested(
+        &self,
+        alloc: Global,
+        args: &[Value],
+        conditions: &[Condition],
+    ) -> Result<Vec<u64>, AllocError>
+        ensures { IfOk result (λ v. AreTested args.now conditions.now self.now.entries v.items) }
+    {
+        let Some(condition) = leading_of(&self.columns, conditions) else {
+            let all = all_places(alloc, &self.rows)?;
+            return Ok(all);
+        };
+        let some = candidates(alloc, args, condition, &self.slots)?;
+        Ok(some)
+    }
+
+    /// Whether there is a row at the place, and it meets the conditions.
+    pub fn meets(&self, args: &[Value], conditions: &[Condition], place: u64) -> bool
+        ensures { result ≡ passes_at (meets_all args.now conditions.now) (row_at self.now.entries place) }
+    {
+        meets_at(args, conditions, &self.rows, place)
     }
 
     /// No rows, with an index by each of these columns.
@@ -129,7 +156,40 @@ impl TableRows {
         }
     }
 
-    fn select<L: Ledger>(
+    /// The value of the row at a place in a column, or `other` where there is none.
+    pub fn cell<'a>(&'a self, place: u64, column: u8, other: &'a Value) -> &'a Value
+        requires { other.now ≡ nothing }
+        ensures { result.now ≡ at_column (row_or self.now.entries place) column }
+    {
+        match self.rows.get(&place) {
+            None => other,
+            Some(row) => at(row.as_slice(), column as usize, other),
+        }
+    }
+
+    /// The same rows, at places from 0 on, with the same indexes.
+    pub fn copy(&self, alloc: Global) -> Result<TableRows, AllocError>
+        ensures columns { IfOk result (λ r. r.columns ≡ self.now.columns) }
+        ensures rows { IfOk result (λ r. rows_of r.entries ≡ rows_of self.now.entries) }
+    {
+        let mut copy = TableRows::new(alloc, copies(alloc, &self.columns)?);
+        copy.push_all(alloc, &self.rows)?;
+        Ok(copy)
+    }
+
+    // Puts copies of these rows behind the others.
+    fn push_all(&mut self, alloc: Global, rows: &BTreeMap<u64, Row>) -> Result<(), AllocError>
+        ensures columns { OnOk result (self.new.columns ≡ self.old.columns) }
+        ensures rows { OnOk result (rows_of self.new.entries ≡ rows_of self.old.entries ++ rows_of rows.now.entries) }
+    {
+        for (_, row) in rows {
+            self.push(alloc, row.copy(alloc)?)?;
+        }
+        Ok(())
+    }
+
+    /// What a SELECT answers. A step is counted for each row that is tested.
+    pub fn select<L: Ledger>(
         &self,
         alloc: Global,
         args: &[Value],
@@ -268,6 +328,12 @@ impl TableRows {
             changes,
         )
     }
+}
+
+fn all_places(alloc: Global, rows: &BTreeMap<u64, Row>) -> Result<Vec<u64>, AllocError>
+    ensures { IfOk result (λ v. v.items ≡ keys_of rows.now.entries) }
+{
+    rows.keys().copied().collect(alloc)
 }
 
 fn count_of(places: &[u64]) -> u64

@@ -1,8 +1,9 @@
-//! The same statements, drawn at random, over the keeper with indexes and over the plain one.
+//! The same statements, drawn at random, over the keeper with indexes and over the plain one; and pins of
+//! both, whose answers are found after later statements.
 
 ghost use Rattle.std.specs.Prelude.{◌≡◌};
 
-use crate::site::{bytes, call, config, indexed, plain, query_at, text};
+use crate::site::{bytes, call, config, found, indexed, pin, plain, query_at, text};
 use okws_base::value::{Kind, Value};
 use okws_plan::configuration::Config;
 use std::alloc::{AllocError, Global};
@@ -77,6 +78,33 @@ fn the_answers_are_the_same(rt: HostRuntime) -> Result<(), Fail> {
         let args = arguments(alloc, &config, query, number)?;
         let found = call(alloc, &mut one, &config, query, &args);
         assert!(rt; found == call(alloc, &mut other, &config, query, &args));
+    }
+    Ok(())
+}
+
+#[test]
+fn the_pins_outlast_later_statements(rt: HostRuntime) -> Result<(), Fail> {
+    let alloc = rt.alloc();
+    let config = config(alloc, SITE)?;
+    let mut one = indexed(alloc, &config)?;
+    let mut other = plain(alloc, &config)?;
+    let mut number = 1;
+    let mut held = None;
+    for _ in 0..2_000 {
+        number = next(number);
+        let query = (number / 4_294_967_296 % 16) as u16;
+        let args = arguments(alloc, &config, query, number)?;
+        if let Some(Ok(mine)) = pin(alloc, &mut one, &config, query, &args) {
+            if let Some(Ok(theirs)) = pin(alloc, &mut other, &config, query, &args) {
+                if let Some((mut mine, mut theirs)) = held {
+                    assert!(rt; found(alloc, &mut mine)? == found(alloc, &mut theirs)?);
+                }
+                held = Some((mine, theirs));
+            }
+        } else {
+            let answer = call(alloc, &mut one, &config, query, &args);
+            assert!(rt; answer == call(alloc, &mut other, &config, query, &args));
+        }
     }
     Ok(())
 }

@@ -7,7 +7,7 @@ ghost use Rattle.okws_plan.specs.Fits.{fits};
 ghost use Rattle.okws_plan.specs.Rules.{keeps_rules};
 ghost use Rattle.config_reader.specs.Ruled.{AreRuled};
 
-use crate::site::{bytes, call, config, indexed, query_at, rows, text};
+use crate::site::{bytes, call, config, found, indexed, pin, query_at, rows, text};
 use index_keeper::{IndexKeeper, Steps};
 use okws_base::items::Items;
 use okws_base::value::{Row, Value};
@@ -124,6 +124,7 @@ proxy main
 table main t id INT KEY n INT
 query main 1 INSERT INTO t (id, n) VALUES (?1, ?1)
 query main 2 DELETE FROM t WHERE id = ?1
+query main 3 SELECT id FROM t
 ";
 
 #[test]
@@ -140,6 +141,48 @@ fn a_key_leads_to_its_row(rt: HostRuntime) -> Result<(), Fail> {
     assert!(rt; call(alloc, &mut keeper, &config, 2, &args) == changed(1));
     assert!(rt; hits(alloc, &keeper, &config, 2, &args)?.is_empty());
     assert!(rt; call(alloc, &mut keeper, &config, 2, &args) == changed(0));
+    Ok(())
+}
+
+#[test]
+fn a_pin_is_of_the_rows_before_a_delete(rt: HostRuntime) -> Result<(), Fail> {
+    let alloc = rt.alloc();
+    let config = config(alloc, MESSAGES)?;
+    let mut keeper = indexed(alloc, &config)?;
+    let Some(Ok(mut pin)) = pin(alloc, &mut keeper, &config, 1, &[]) else {
+        return Err(Fail::from("no pin"));
+    };
+    let one = list(alloc, Value::Int(1))?;
+    assert!(rt; call(alloc, &mut keeper, &config, 3, &one) == changed(1));
+    let mut all = Vec::new(alloc);
+    all.push(entry(alloc, 1, "ann")?)?;
+    all.push(entry(alloc, 2, "bob")?)?;
+    assert!(rt; Some(Ok(found(alloc, &mut pin)?)) == rows(2, all));
+    Ok(())
+}
+
+// A copy has its rows at places from 0 on, so the place of a row tells whether they were copied.
+#[test]
+fn a_write_copies_only_what_is_pinned(rt: HostRuntime) -> Result<(), Fail> {
+    let alloc = rt.alloc();
+    let config = config(alloc, NUMBERS)?;
+    let mut keeper = indexed(alloc, &config)?;
+    for id in 1..6 {
+        let args = list(alloc, Value::Int(id))?;
+        assert!(rt; call(alloc, &mut keeper, &config, 1, &args) == changed(1));
+    }
+    let one = list(alloc, Value::Int(1))?;
+    let two = list(alloc, Value::Int(2))?;
+    let three = list(alloc, Value::Int(3))?;
+    let last = list(alloc, Value::Int(5))?;
+    assert!(rt; call(alloc, &mut keeper, &config, 2, &one) == changed(1));
+    assert!(rt; hits(alloc, &keeper, &config, 2, &last)?.as_slice() == [4].as_slice());
+    let pinned = pin(alloc, &mut keeper, &config, 3, &[]);
+    assert!(rt; call(alloc, &mut keeper, &config, 2, &two) == changed(1));
+    assert!(rt; hits(alloc, &keeper, &config, 2, &last)?.as_slice() == [3].as_slice());
+    assert!(rt; call(alloc, &mut keeper, &config, 2, &three) == changed(1));
+    assert!(rt; hits(alloc, &keeper, &config, 2, &last)?.as_slice() == [3].as_slice());
+    drop(pinned);
     Ok(())
 }
 

@@ -1,18 +1,21 @@
-//! Keepers over the first proxy of a configuration, and calls of its queries by number.
+//! Keepers over the first proxy of a configuration, and calls of its queries by number, answered at once or
+//! pinned.
 
-ghost use Rattle.std.specs.Prelude.{◌≡◌, IfOk, slice_get};
+ghost use Rattle.std.specs.Prelude.{◌≡◌, ◌<◌, true, length, IfOk, slice_get};
 ghost use Rattle.std.specs.Option.{option_copied};
 ghost use Rattle.okws_plan.specs.Configuration.{tables, query, queries_of};
+ghost use Rattle.okws_outer.specs.Keeping.{is_select};
 ghost use Rattle.config_reader.specs.Ruled.{AreRuled};
 
 use config_reader::read;
 use index_keeper::IndexKeeper;
-use okws_base::items::{Items, copies};
+use okws_base::items::{Exact, Items, copies};
 use okws_base::value::{Row, Text, Value};
 use okws_outer::keeper::{Keeper, RunError};
+use okws_outer::pinned::Pinned;
 use okws_plan::configuration::{Config, Query, Table};
 use okws_plan::meaning::fit;
-use okws_plan::statement::Answer;
+use okws_plan::statement::{Action, Answer};
 use row_keeper::ListKeeper;
 use std::alloc::{AllocError, Global};
 use std::test::Fail;
@@ -86,6 +89,64 @@ pub fn call<K: Keeper>(
         return None;
     }
     Some(keeper.run(alloc, &query.statement, args))
+}
+
+fn lists_rows(action: &Action) -> bool
+    ensures { result ≡ is_select action.now }
+{
+    match action {
+        Action::Select(_) => true,
+        Action::Insert { values: _ }
+        | Action::Update {
+            assignments: _,
+            conditions: _,
+        }
+        | Action::Delete { conditions: _ } => false,
+    }
+}
+
+/// A pin of what a query answers; nothing where there is none of this number, it lists no rows, or its
+/// arguments are wrong.
+pub fn pin<K: Keeper>(
+    alloc: Global,
+    keeper: &mut K,
+    config: &Config,
+    number: u16,
+    args: &[Value],
+) -> Option<Result<K::Pin, RunError>>
+    requires tables { K.tables keeper.old ≡ tables config.now 0 }
+    requires ruled { AreRuled config.now }
+    ensures { K.tables keeper.new ≡ tables config.now 0 }
+{
+    let query = query_at(config, number)?;
+    if !fit(query.statement.parameters.as_slice(), args) || !lists_rows(&query.statement.action) {
+        return None;
+    }
+    Some(keeper.pin(alloc, &query.statement, args))
+}
+
+/// The answer of a pin.
+pub fn found<P: Pinned>(alloc: Global, pin: &mut P) -> Result<Answer, AllocError> {
+    let count = pin.answer();
+    let mut rows = Vec::new(alloc);
+    for row in 0..count {
+        rows.push(row_at(alloc, pin, row)?)?;
+    }
+    Ok(Answer::Rows {
+        columns: pin.columns(),
+        rows: Items::of(rows),
+    })
+}
+
+fn row_at<P: Pinned>(alloc: Global, pin: &P, row: usize) -> Result<Row, AllocError>
+    requires found { P.found pin.now ≡ true }
+    requires row { row < length (P.rows pin.now) }
+{
+    let mut values = Vec::new(alloc);
+    for column in 0..pin.columns() {
+        values.push(pin.value(row, column).copy(alloc)?)?;
+    }
+    Ok(Items::of(values))
 }
 
 pub fn text(alloc: Global, text: &str) -> Result<Value, AllocError> {

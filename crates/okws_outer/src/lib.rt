@@ -19,6 +19,7 @@ pub mod keeper;
 pub mod memory;
 pub mod network;
 pub mod optional;
+pub mod pinned;
 pub mod printing;
 pub mod reading;
 pub mod sinks;

@@ -9,6 +9,7 @@ use okws_base::value::Value;
 use okws_outer::error::MakeError;
 use okws_outer::keeper::{Keeper, RunError};
 use okws_outer::memory::failing::Failing;
+use okws_outer::pinned::Listed;
 use okws_outer::stores::{KeeperEnd, KeeperStart, Stores};
 use okws_plan::configuration::Table;
 use okws_plan::statement::{Answer, Statement};
@@ -78,6 +79,8 @@ pub struct BrokenKeeper {
 }
 
 impl Keeper for BrokenKeeper {
+    type Pin = Listed;
+
     ghost use Rattle.std.specs.Prelude.{None, false};
 
     ghost tables = { λ k. k.tables.items };
@@ -89,6 +92,11 @@ impl Keeper for BrokenKeeper {
     ghost steady = { λ k. false };
 
     fn run(&mut self, _: Global, _: &Statement, _: &[Value]) -> Result<Answer, RunError> {
+        self.faults = self.faults.saturating_add(1);
+        Err(RunError::Failed)
+    }
+
+    fn pin(&mut self, _: Global, _: &Statement, _: &[Value]) -> Result<Listed, RunError> {
         self.faults = self.faults.saturating_add(1);
         Err(RunError::Failed)
     }

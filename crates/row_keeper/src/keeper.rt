@@ -8,6 +8,7 @@ use crate::rows::TableRows;
 use okws_base::items::{Exact, copies};
 use okws_base::value::Value;
 use okws_outer::keeper::{Keeper, RunError};
+use okws_outer::pinned::Listed;
 use okws_plan::configuration::Table;
 use okws_plan::meaning::columns_at;
 use okws_plan::statement::{Answer, Statement};
@@ -59,6 +60,8 @@ fn first_rows(alloc: Global, tables: &[Table]) -> Result<Vec<TableRows>, AllocEr
 }
 
 impl Keeper for ListKeeper {
+    type Pin = Listed;
+
     ghost tables = { λ k. k.tables.items };
 
     ghost told = { λ k. Some k.rows.items };
@@ -81,5 +84,18 @@ impl Keeper for ListKeeper {
         let rows = &mut self.rows[table];
         let answer = rows.run(alloc, columns, &statement.action, args)?;
         Ok(answer)
+    }
+
+    fn pin(
+        &mut self,
+        alloc: Global,
+        statement: &Statement,
+        args: &[Value],
+    ) -> Result<Listed, RunError> {
+        if self.failing.fails() {
+            return Err(RunError::Failed);
+        }
+        let rows = &self.rows[statement.table as usize];
+        Ok(rows.pin(alloc, &statement.action, args)?)
     }
 }

@@ -1,11 +1,15 @@
 //! The rows of one table, changed in place.
 
-ghost use Rattle.std.specs.Prelude.{◌≡◌, IfOk, OnOk, OnErr, List, ℕ, map, length, fold, slice_set, if◌then◌else◌};
+ghost use Rattle.std.specs.Prelude.{◌≡◌, IfOk, OnOk, OnErr, List, ℕ, map, length, fold, slice_set, true, if◌then◌else◌};
+ghost use Rattle.okws_plan.specs.declared.configuration.Column.{Column as TableColumn};
+ghost use Rattle.okws_plan.specs.declared.statement.Answer.TheVariants.{Rows};
+ghost use Rattle.okws_outer.specs.Keeping.{is_select};
 ghost use Rattle.okws_plan.specs.Meaning.{mean_on, hits, misses, updated, inserted, is_taken, row_of};
 ghost use Rattle.row_keeper.specs.Changes.{replaced};
 
 use okws_base::items::{Exact, Items, copies};
 use okws_base::value::{Row, Value};
+use okws_outer::pinned::{Listed, Pinned};
 use okws_plan::configuration::Column;
 use okws_plan::meaning::{assigned_row, meets_every, new_row, selected, taken};
 use okws_plan::statement::{Action, Answer, Assignment, Condition, Operand};
@@ -70,6 +74,21 @@ impl TableRows {
                 conditions,
             } => { self.update(alloc, assignments.as_slice(), conditions.as_slice(), args) }
             Action::Delete { conditions } => Ok(self.delete(conditions.as_slice(), args)),
+        }
+    }
+
+    /// The answer of a SELECT.
+    #[tactic(auto, using(okws_outer::proofs::Widths::cut_rows_wide))]
+    pub fn pin(&self, alloc: Global, action: &Action, args: &[Value]) -> Result<Listed, AllocError>
+        requires { is_select action.now ≡ true }
+        ensures { IfOk result (λ p. (columns : List TableColumn) → Rows (⟦<Listed as Pinned>⟧.width p) (⟦<Listed as Pinned>⟧.rows p) ≡ (mean_on columns action.now args.now self.now).0) }
+    {
+        let Action::Select(selection) = action else {
+            unreachable!()
+        };
+        match selected(alloc, args, selection, &self.rows)? {
+            Answer::Rows { columns, rows } => Ok(Listed::new(columns, rows)),
+            Answer::Changed(_) | Answer::Duplicate => unreachable!(),
         }
     }
 

@@ -10,7 +10,7 @@ use okws_base::items::{Items, copies};
 use okws_base::name::{Identifier, Name};
 use okws_base::value::{Kind, Value};
 use okws_plan::configuration::{Column, Config, Granted, ProxyPlan, Query, ServicePlan, Table};
-use okws_plan::statement::{Action, Operand, Selection, Statement};
+use okws_plan::statement::{Action, Comparison, Condition, Operand, Selection, Statement};
 use row_keeper::ListKeeper;
 use std::alloc::{AllocError, Global};
 use std::sync::Arc;
@@ -91,6 +91,18 @@ fn made_queries(alloc: Global) -> Result<Items<Query>, AllocError>
             limit: None,
         }),
     };
+    let own = Condition {
+        column: 0,
+        comparison: Comparison::Equal,
+        operand: Operand::Parameter(1),
+    };
+    let delete = Statement {
+        table: 0,
+        parameters: one(alloc, Kind::Bytes)?,
+        action: Action::Delete {
+            conditions: one(alloc, own)?,
+        },
+    };
     let mut all = Vec::new(alloc);
     all.push(Query {
         number: 1,
@@ -99,6 +111,10 @@ fn made_queries(alloc: Global) -> Result<Items<Query>, AllocError>
     all.push(Query {
         number: 2,
         statement: select,
+    })?;
+    all.push(Query {
+        number: 4,
+        statement: delete,
     })?;
     Ok(Items::of(all))
 }
@@ -119,6 +135,7 @@ fn made_grants(alloc: Global) -> Result<Items<Granted>, AllocError>
     let mut grants = Vec::new(alloc);
     grants.push(granted(GUEST, 1))?;
     grants.push(granted(GUEST, 2))?;
+    grants.push(granted(GUEST, 4))?;
     grants.push(granted(OTHER, 2))?;
     Ok(Items::of(grants))
 }

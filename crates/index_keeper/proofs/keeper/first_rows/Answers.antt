@@ -19,15 +19,15 @@ loop-table-preserved c =
     record {
       rows =
           ap (map rows) c.in_ok-push.ensures.items
-          ∙ map-append rows c.loop-table.rows.items (c.in_ok-filled.field-0 ∷ [])
-          ∙ ap (λ (all : List (List (List Value))). all ++ rows c.in_ok-filled.field-0 ∷ []) c.loop-table.invariant.rows
-          ∙ ap (λ (new : List (List Value)). map first (take c.loop-table.table c.args.tables.now) ++ new ∷ []) (c.in_ok-filled.ensures.rows ∙ c.as_slice.ensures)
+          ∙ map-append rows c.loop-table.rows.items (c.in_ok-new.field-0 ∷ [])
+          ∙ ap (λ (all : List (List (List Value))). all ++ rows c.in_ok-new.field-0 ∷ []) c.loop-table.invariant.rows
+          ∙ ap (λ (new : List (List Value)). map first (take c.loop-table.table c.args.tables.now) ++ new ∷ []) (ap rows c.in_ok-new.ensures ∙ c.in_ok-first.ensures.rows ∙ c.as_slice.ensures)
           ∙ sym (ap (map first) (take_more c.args.tables.now c.loop-table.table c.index-tables-table.result c.loop-table-test.true)
           ∙ map-append first (take c.loop-table.table c.args.tables.now) (get_or c.args.tables.now c.loop-table.table c.index-tables-table.result ∷ []));
       columns =
           ap (map columns) c.in_ok-push.ensures.items
-          ∙ map-append columns c.loop-table.rows.items (c.in_ok-filled.field-0 ∷ [])
-          ∙ ap (λ (all : List (List ℕ)). all ++ columns c.in_ok-filled.field-0 ∷ []) c.loop-table.invariant.columns
-          ∙ ap (λ (new : List ℕ). map due (range_with_len 0 c.loop-table.table) ++ new ∷ []) (c.in_ok-filled.ensures.columns ∙ c.in_ok-columns.ensures ∙ ap (wanted c.args.queries.now c.loop-table.table) c.columns_at.ensures)
+          ∙ map-append columns c.loop-table.rows.items (c.in_ok-new.field-0 ∷ [])
+          ∙ ap (λ (all : List (List ℕ)). all ++ columns c.in_ok-new.field-0 ∷ []) c.loop-table.invariant.columns
+          ∙ ap (λ (new : List ℕ). map due (range_with_len 0 c.loop-table.table) ++ new ∷ []) (ap columns c.in_ok-new.ensures ∙ c.in_ok-first.ensures.columns ∙ c.in_ok-columns.ensures ∙ ap (wanted c.args.queries.now c.loop-table.table) c.columns_at.ensures)
           ∙ sym (map-range_with_len_more due 0 c.loop-table.table c.loop-table.table (omega arith));
     }

@@ -11,11 +11,13 @@ use okws_plan::event::{Call, PubdEvent};
 use service_cell::columns::Columns;
 use std::alloc::{AllocError, Global};
 
-/// The entries and the items of number 0, and what the board shows.
+/// The entries and the items of number 0, what the board shows, and how many incarnations are begun while
+/// a dialog that `dialog` began waits behind its Request.
 #[derive(Drop)]
 pub(crate) struct Bare {
     alloc: Global,
     pub(crate) shown: u32,
+    pub(crate) meanwhile: u32,
     drained: Journal<Entry<PubdEvent>>,
     own: Journal<Own>,
 }
@@ -25,6 +27,7 @@ impl Bare {
         Bare {
             alloc,
             shown: 1,
+            meanwhile: 0,
             drained: Journal::new(alloc, true),
             own: Journal::new(alloc, true),
         }
@@ -32,7 +35,7 @@ impl Bare {
 }
 
 impl Columns for Bare {
-    ghost use Rattle.std.specs.Prelude.{[], ◌∷◌, false, ◌≡◌};
+    ghost use Rattle.std.specs.Prelude.{[], ◌∷◌, false};
 
     ghost asker = { λ b. record {
       config = record { proxies = record { name = []; tables = []; queries = [] } ∷ []; services = record { name = []; words = [] } ∷ []; templates = []; retry = 0; paths = []; grants = []; readables = []; loggers = [] };
@@ -44,7 +47,7 @@ impl Columns for Bare {
 
     ghost seen = { λ b. record { okd = []; proxies = []; pubd = b.drained.past; oklogd = []; launcher = []; own = b.own.past } };
 
-    ghost shows = { λ b s k. b.shown ≡ k };
+    ghost shows = { λ b s k. Unit {0} };
 
     fn worker(&self) -> u16 {
         0
@@ -56,6 +59,10 @@ impl Columns for Bare {
 
     fn current(&mut self, _service: u16) -> u32 {
         self.shown
+    }
+
+    fn requested(&mut self, _service: u16) {
+        self.shown = self.shown.saturating_add(self.meanwhile);
     }
 
     fn note(&mut self, item: Own) -> Result<(), AllocError> {

@@ -1,7 +1,8 @@
 //! Dialogs over a link in memory, one for each way in which they end.
 
-ghost use Rattle.std.specs.Prelude.{◌≡◌, ◌≢◌, ◌≤◌, None, IfOk, IfSome, length};
+ghost use Rattle.std.specs.Prelude.{◌≡◌, ◌≢◌, ◌≤◌, ◌<◌, None, IfOk, IfSome, length};
 ghost use Rattle.std.specs.Arc.{arc_value};
+ghost use Rattle.okws_base.specs.declared.limit.TheConstants.{MOST_INCARNATIONS};
 ghost use Rattle.service_cell.specs.Standing.{IsFresh};
 ghost use Rattle.monitor_model.specs.Cell.{incarnation};
 ghost use Rattle.service_cell.specs.Steps.{IsSpeaking};
@@ -24,9 +25,20 @@ use std::test::Fail;
 /// What the tests call their requests.
 const REQUEST: u32 = 7;
 
-const LOG: &[u8] = b"\x00\x00\x00\x07\x44\x00\x00\x00\x02hi";
+pub(crate) const LOG: &[u8] = b"\x00\x00\x00\x07\x44\x00\x00\x00\x02hi";
 
-const REPLY: &[u8] = b"\x00\x00\x00\x15\x45\x00\xc8\x0atext/plain\x00\x00\x00\x00\x02ok";
+pub(crate) const REPLY: &[u8] = b"\x00\x00\x00\x15\x45\x00\xc8\x0atext/plain\x00\x00\x00\x00\x02ok";
+
+/// One letter for each cause of a crash.
+pub(crate) fn letter_of_cause(cause: Cause) -> char {
+    match cause {
+        Cause::BadFrame => 'b',
+        Cause::Ended => 'e',
+        Cause::LinkFault => 'f',
+        Cause::FrameLimit => 'l',
+        Cause::Starved => 'n',
+    }
+}
 
 /// One letter for each answer.
 fn letter_of(answer: Advanced) -> char {
@@ -34,11 +46,7 @@ fn letter_of(answer: Advanced) -> char {
         Advanced::Goes => 'g',
         Advanced::Reply => 'r',
         Advanced::Superseded { .. } => 's',
-        Advanced::Crashed(Cause::BadFrame) => 'b',
-        Advanced::Crashed(Cause::Ended) => 'e',
-        Advanced::Crashed(Cause::LinkFault) => 'f',
-        Advanced::Crashed(Cause::FrameLimit) => 'l',
-        Advanced::Crashed(Cause::Starved) => 'n',
+        Advanced::Crashed(cause) => letter_of_cause(cause),
     }
 }
 
@@ -60,7 +68,7 @@ fn begun<L: Link + Drop>(alloc: Global, mut cell: Cell<L>, columns: &mut Bare) -
 }
 
 /// A site that declares nothing.
-fn site(alloc: Global) -> Result<Arc<Config, Global>, AllocError>
+pub(crate) fn site(alloc: Global) -> Result<Arc<Config, Global>, AllocError>
     ensures { IfOk result (λ c. length (arc_value c).proxies ≤ 16) }
 {
     let config = Config {
@@ -76,25 +84,38 @@ fn site(alloc: Global) -> Result<Arc<Config, Global>, AllocError>
     Ok(Arc::new(alloc, config)?)
 }
 
-/// A cell whose dialog is open, with this link.
-fn started<L: Link + Drop>(alloc: Global, link: L, columns: &mut Bare) -> Option<Cell<L>>
-    requires { IsFresh (L.wire link) }
-    ensures { IfSome result (λ c. IsSpeaking 0 c.open_dialog × (c.service ≡ 0) × (incarnation c.past ≢ 0)) }
+/// A cell with this incarnation, over this link.
+pub(crate) fn booted<L: Link + Drop>(alloc: Global, link: L, number: u32) -> Option<Cell<L>>
+    requires fresh { IsFresh (L.wire link) }
+    requires first { 0 < number }
+    requires most { number ≤ MOST_INCARNATIONS }
+    ensures { IfSome result (λ c. (c.open_dialog ≡ None) × (c.service ≡ 0)) }
 {
     let Ok(config) = site(alloc) else {
         return None;
     };
     let mut cell = Cell::new(alloc, config, [0; 32], 0, false);
-    let Ok(tokens) = cell.tokens(1) else {
+    let Ok(tokens) = cell.tokens(number) else {
         let _pasts = cell.close();
         return None;
     };
-    match cell.boot(link, 1, Items::of(tokens)) {
-        Booting::Booted => begun(alloc, cell, columns),
+    match cell.boot(link, number, Items::of(tokens)) {
+        Booting::Booted => Some(cell),
         Booting::LinkFault(_) | Booting::NoMemory(_) => {
             let _pasts = cell.close();
             None
         }
+    }
+}
+
+/// A cell whose dialog is open, with this link.
+fn started<L: Link + Drop>(alloc: Global, link: L, columns: &mut Bare) -> Option<Cell<L>>
+    requires { IsFresh (L.wire link) }
+    ensures { IfSome result (λ c. IsSpeaking 0 c.open_dialog × (c.service ≡ 0) × (incarnation c.past ≢ 0)) }
+{
+    match booted(alloc, link, 1) {
+        Some(cell) => begun(alloc, cell, columns),
+        None => None,
     }
 }
 

@@ -9,3 +9,7 @@ mod bare;
 mod dialogs;
 #[cfg(test)]
 mod scant;
+#[cfg(test)]
+mod turns;
+#[cfg(test)]
+mod whole;

@@ -8,3 +8,4 @@ pub mod Stepping
 pub mod Replied
 pub mod Opening
 pub mod Readiness
+pub mod Talking

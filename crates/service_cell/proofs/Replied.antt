@@ -1,5 +1,5 @@
 -- A dialog that has its Reply beside its items ended in it.
-use Rattle.std.proofs.Common.{◌≡◌, ℕ, List, ◌∷◌, Option, Some, None, refl, sym, subst, option_copied, MatchOption, Bor}
+use Rattle.std.proofs.Common.{◌≡◌, ℕ, List, Option, Some, None, refl, sym, subst, option_copied, MatchOption, Bor}
 use Rattle.frame_codec.specs.declared.frame.ServiceFrame.{ServiceFrame}
 use Rattle.monitor_model.specs.declared.record.Dialog.{Dialog}
 use Rattle.monitor_model.specs.declared.record.End.{End}

@@ -7,3 +7,4 @@ pub mod Tied
 pub mod Hearing
 pub mod Issuing
 pub mod Exchange
+pub mod Dialogs

@@ -27,6 +27,21 @@ pub enum Begun {
     NoMemory,
 }
 
+/// What `dialog` answers.
+#[derive(Clone, Copy, PartialEq, Eq)]
+pub enum Spoken {
+    /// The service replied, which ended the dialog; its Reply is at hand (`last_dialog`).
+    Reply,
+    /// The dialog ended, and its incarnation with it.
+    Crashed(Cause),
+    /// Another incarnation is there than was wanted, or none, which is 0.
+    Missed { wanted: u32, is: u32 },
+    /// A greater incarnation was begun, before the dialog's Drain or later, which ended it.
+    Superseded { incarnation: u32, shown: u32 },
+    /// Memory was refused; all is as before.
+    NoMemory,
+}
+
 /// What `advance` answers.
 #[derive(Clone, Copy, PartialEq, Eq)]
 pub enum Advanced {

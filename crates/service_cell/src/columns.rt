@@ -53,6 +53,12 @@ pub trait Columns {
         ensures seen { seen self.new ≡ seen self.old }
         ensures board { KeepsBoard asker shows token_seed self.old self.new };
 
+    /// Hears that the Request of a dialog with the service was just put. Nothing changes.
+    fn requested(&mut self, service: u16)
+        requires { service < length (asker self.old).config.services }
+        ensures seen { seen self.new ≡ seen self.old }
+        ensures board { KeepsBoard asker shows token_seed self.old self.new };
+
     /// Notes an own item that is no entry.
     fn note(&mut self, item: Own) -> Result<(), AllocError>
         ensures ok { OnOk result (seen self.new ≡ noted (seen self.old) item) }

@@ -6,6 +6,7 @@
 pub mod answer;
 pub mod cell;
 pub mod columns;
+mod conversing;
 mod course;
 mod dialog;
 pub mod ending;

@@ -47,6 +47,8 @@ impl Columns for SiteColumns {
         self.greatest(service)
     }
 
+    fn requested(&mut self, _service: u16) {}
+
     fn note(&mut self, item: Own) -> Result<(), AllocError> {
         self.own.make_room(1)?;
         self.own.enter(item);

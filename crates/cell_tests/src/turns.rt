@@ -1,0 +1,69 @@
+//! A cell behind its lock, which who launches and a worker take in turn.
+
+ghost use Rattle.std.specs.Prelude.{◌≡◌, ◌≤◌, [], None, length};
+ghost use Rattle.okws_base.specs.declared.limit.TheConstants.{MOST_PROXIES};
+ghost use Rattle.service_cell.specs.Standing.{IsFresh};
+
+use crate::bare::Bare;
+use crate::dialogs::{REPLY, site};
+use okws_base::items::Items;
+use okws_outer::memory::link::{FedLink, MemoryLink};
+use okws_outer::stream::Link;
+use service_cell::answer::{Booting, Spoken};
+use service_cell::cell::Cell;
+use site_cell::cell::SiteCell;
+use site_cell::named::Numbered;
+use std::alloc::Global;
+use std::marker::Brand;
+use std::test::Fail;
+use turn_lock::Journaled;
+
+/// The number of who launches.
+const LAUNCHER: u16 = 3;
+
+/// The cell is booted by who launches, speaks with worker 0, and is retired. What the dialog answers,
+/// and the incarnation before the retirement and behind it.
+fn take_turns<N: Numbered, L: Link + Drop>(
+    alloc: Global,
+    cell: Cell<L>,
+    link: L,
+    columns: &mut Bare,
+) -> Option<(Spoken, u32, u32)>
+    requires launcher { N.launcher ≡ LAUNCHER }
+    requires site { cell.config ≡ N.site }
+    requires seed { cell.seed ≡ N.run_seed }
+    requires few { length N.site.proxies ≤ MOST_PROXIES }
+    requires service { cell.service ≡ 0 }
+    requires new { (cell.past ≡ []) × (cell.open_dialog ≡ None) × (cell.link ≡ None) }
+    requires fresh { IsFresh (L.wire link) }
+{
+    let mut held = SiteCell::<N, L>::new(cell);
+    held.hold(LAUNCHER);
+    let tokens = held.tokens(1).ok()?;
+    match held.boot(link, 1, Items::of(tokens)) {
+        Booting::Booted => {}
+        Booting::LinkFault(_) | Booting::NoMemory(_) => return None,
+    }
+    held.hold(0);
+    let head = Items::of(Vec::new(alloc));
+    let content = Items::of(Vec::new(alloc));
+    let answer = held.dialog(head, content, 1, columns);
+    let before = held.incarnation();
+    held.hold(LAUNCHER);
+    let _link = held.retire();
+    let behind = held.incarnation();
+    let _pasts = held.close();
+    Some((answer, before, behind))
+}
+
+#[test]
+fn a_cell_is_taken_in_turns(rt: HostRuntime) -> Result<(), Fail> {
+    let alloc = rt.alloc();
+    let mut columns = Bare::new(alloc);
+    let mut link = MemoryLink::new(alloc, 3, &[]);
+    link.feed(REPLY)?;
+    let cell = Cell::new(alloc, site(alloc)?, [0; 32], 0, false);
+    let taken = take_turns::<Brand, _>(alloc, cell, link, &mut columns);
+    assert!(rt; taken == Some((Spoken::Reply, 1, 0)));
+    Ok(())
+}

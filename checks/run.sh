@@ -46,6 +46,17 @@ if [ -n "$only" ]; then
     exit
 fi
 
+# What guest hears doesn't change where its neighbours are launched again, open sessions, call and publish what it may not read; it does where another
+# service inserts a row that guest's queries list. The rows' files are those that were just compared with what the program prints.
+heard_by_guest() { grep '^heard guest ' "rows/$1.stdout"; }
+if diff -q <(heard_by_guest a_world-whole-0) <(heard_by_guest a_world_with_busy_neighbours-whole-0) >/dev/null &&
+    ! diff -q <(heard_by_guest a_world-whole-0) <(heard_by_guest a_world_with_another_writer-third-0) >/dev/null; then
+    passed=$((passed + 1))
+else
+    failed=$((failed + 1))
+    echo "worlds that look alike: guest hears other bytes"
+fi
+
 # Each rule of a script at a line of its own.
 while IFS='|' read -r line rule script; do
     printf "$script" >"$folder/script"
@@ -150,6 +161,20 @@ awk 'BEGIN {
 run play whole.okws "$folder/script"
 denied "a session above the greatest number" 0911
 
+# Drills: the summary of an empty one, and of one of five events.
+kinds() {
+    paste -d ' ' <(printf '%s\n' boots requests pushes opened rows changed duplicates templates logged failed nomemory) <(printf '%s\n' "$@") >"$folder/wanted"
+}
+kinds 2 0 0 0 0 0 0 0 0 0 0
+for number in 0 18446744073709551615; do
+    run drill $number 0
+    told "drill $number 0" 0 "$folder/wanted"
+done
+kinds 2 3 2 2 0 1 0 0 0 0 0
+echo "denied 22 1" >>"$folder/wanted"
+run drill 0 5
+told "drill 0 5" 0 "$folder/wanted"
+
 # Listings, refusals, words, files and an out that fails.
 run check whole.okws
 told "listing" 0 listing.stdout
@@ -166,7 +191,8 @@ run play whole.okws "$folder/nowhere"
 told "a script that isn't there" 3 "$folder/wanted"
 run check "$folder/nowhere"
 told "a configuration that isn't there" 3 "$folder/wanted"
-for words in "" "play whole.okws" "check" "serve whole.okws" "--help" "Check whole.okws"; do
+for words in "" "play whole.okws" "check" "serve whole.okws" "--help" "Check whole.okws" "drill" "drill 0" "drill 0 0 0" "drill 0 100001" \
+    "drill 18446744073709551616 0" "drill 00 0" "drill 0 05" "drill -1 0" "drill +1 0" "drill 0x1 0"; do
     # Words are parted on purpose.
     # shellcheck disable=SC2086
     run $words
@@ -184,6 +210,9 @@ told "a full device" 8 /dev/null
 "$okws" play plain.okws rows/a_page_is_served-plain-0.script >/dev/full
 status=$?
 told "a full device in a script" 8 /dev/null
+"$okws" drill 0 5 >/dev/full
+status=$?
+told "a full device in a drill" 8 /dev/null
 
 echo "$passed passed, $failed failed"
 [ "$failed" -eq 0 ]

@@ -8,3 +8,7 @@ pub mod Said
 pub mod ScriptLines
 pub mod Sents
 pub mod Isolation
+pub mod DrillLines
+pub mod Drilled
+pub mod Numbers
+pub mod Sited

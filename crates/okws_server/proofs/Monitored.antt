@@ -43,7 +43,7 @@ abbrev pub left_of : Stage → List (List Sent) → Record
 left_of S x = with_sents x (record_of S)
 
 -- a run of lines
-of_stage : Laws → (C : Config) (seed : List ℕ) (lines : List Line) (printed : List ℕ) (S : Stage) (x : List (List Sent)) →
+pub of_stage : Laws → (C : Config) (seed : List ℕ) (lines : List Line) (printed : List ℕ) (S : Stage) (x : List (List Sent)) →
     Each (LineFits C) lines → PlaysAll C seed (reverse lines) printed S → IsFaultless S → Links C seed (left_of S x) → IsMonitored C seed lines (left_of S x) printed
 of_stage laws C seed lines printed S x fit plays faultless links =
     let whole = unharmed_still x (record_of S) (laws.unharmed C seed lines printed S fit plays) in

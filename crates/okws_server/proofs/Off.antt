@@ -1,6 +1,6 @@
 -- What is answered where memory is refused.
 use Rattle.std.proofs.Common.{◌≡◌, ℕ, ◌≤◌, List, length, subst, inr}
-use Rattle.std.specs.Prelude.{IsErr, Option}
+use Rattle.std.specs.Prelude.{IsErr, IfOk, Option}
 use Rattle.std.specs.declared.result.Result.{Result}
 use Rattle.std.specs.declared.result.Result.TheVariants.{Ok, Err}
 use Rattle.std.specs.declared.alloc.AllocError.{AllocError}
@@ -36,3 +36,8 @@ pub due_here : (C : Config) (seed text : List ℕ) (run : Run) (a b : Printer) �
     ((due : List ℕ) × IsDue run.config run.seed text due × PrintsFront a b due) → (due : List ℕ) × IsDueOf C seed text due × PrintsFront a b due
 due_here C seed text run a b config_is seed_is fits h =
     (h.0, inr (fits, subst (λ (D : Config). IsDue D seed text h.0) config_is (subst (λ (x : List ℕ). IsDue run.config x text h.0) seed_is h.1)), h.2)
+
+-- what is said of a value holds where there is none
+pub fails_any : {V E : Type 0} (r : Result V E) (P : V → Type 0) → IsErr r → IfOk r P
+fails_any (Ok v) P e = absurd (cc)
+fails_any (Err v) P e = tt

@@ -1,4 +1,5 @@
 pub mod Command
+pub mod Drill
 pub mod Ending
 pub mod Headline
 pub mod Listing

@@ -28,7 +28,7 @@ pub fn out_status(stopped: bool) -> Status
 }
 
 /// Prints the last line of a run of which nothing was printed.
-fn print_last<O: Sink>(out: &mut O, line: &[u8])
+pub fn print_last<O: Sink>(out: &mut O, line: &[u8])
     ensures { Told (O.given out.old) (O.given out.new) line.now (Rose (O.faults out.old) (O.faults out.new)) }
 {
     let mut stopped = false;

@@ -3,6 +3,7 @@
 
 mod checking;
 mod command;
+mod drilling;
 mod ending;
 pub mod laws;
 mod listing;

@@ -222,10 +222,47 @@ fn other_words_are_told_how_to_call(rt: HostRuntime) -> Result<(), Fail> {
         &["Check", "site"],
         &["serve", "site"],
         &["--help"],
+        &["drill", "0"],
+        &["drill", "0", "100001"],
+        &["drill", "18446744073709551616", "0"],
+        &["drill", "00", "0"],
+        &["drill", "0", "+5"],
     ] {
         let ended = run(rt.alloc(), words, &[], &[], 4096, &[])?;
         assert_eq!(rt; ended.status, Status::Usage);
         assert!(rt; ended.printed.starts_with(b"usage: okws "));
     }
+    Ok(())
+}
+
+// The counts are those of a model of its own, which played the drills' scripts.
+#[test]
+fn drills_are_summed(rt: HostRuntime) -> Result<(), Fail> {
+    for (words, printed) in [
+        (
+            ["drill", "18446744073709551615", "0"].as_slice(),
+            "boots 2\nrequests 0\npushes 0\nopened 0\nrows 0\nchanged 0\nduplicates 0\ntemplates 0\nlogged 0\nfailed 0\nnomemory 0\n",
+        ),
+        (
+            &["drill", "0", "5"],
+            "boots 2\nrequests 3\npushes 2\nopened 2\nrows 0\nchanged 1\nduplicates 0\ntemplates 0\nlogged 0\nfailed 0\nnomemory 0\ndenied 22 1\n",
+        ),
+        (
+            &["drill", "7", "40"],
+            "boots 8\nrequests 31\npushes 1\nopened 17\nrows 3\nchanged 5\nduplicates 1\ntemplates 0\nlogged 2\nfailed 0\nnomemory 0\ndenied 12 3\ndenied 14 4\ndenied 21 6\ndenied 22 1\ndenied 31 2\n",
+        ),
+    ] {
+        let ended = run(rt.alloc(), words, &[], &[], 4096, &[])?;
+        assert_eq!(rt; ended.status, Status::Ok);
+        assert_eq!(rt; ended.printed.as_slice(), printed.as_bytes());
+    }
+    Ok(())
+}
+
+#[test]
+fn a_drill_over_an_out_that_fails(rt: HostRuntime) -> Result<(), Fail> {
+    let ended = run(rt.alloc(), &["drill", "0", "5"], &[], &[], 4096, &[0])?;
+    assert_eq!(rt; ended.status, Status::OutFault);
+    assert!(rt; ended.printed.is_empty());
     Ok(())
 }

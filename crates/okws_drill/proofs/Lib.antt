@@ -1,0 +1,10 @@
+pub mod Courses
+pub mod Rules
+pub mod Sayable
+pub mod Telling
+pub mod Tallies
+pub mod Safe
+pub mod Rests
+pub mod Launching
+pub mod Speaking
+pub mod Unrefused

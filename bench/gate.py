@@ -44,7 +44,7 @@ def look(top, seen):
     for pid, seconds in stats.items():
         words = read(f"/proc/{pid}/cmdline").decode(errors="replace").split("\0")
         if len(words) > 2 and words[0].endswith("/rattle") and "--crate-name" in words and descends(pid, top, parents):
-            crate = words[words.index("--crate-name") + 1].removesuffix("_tests")
+            crate = words[words.index("--crate-name") + 1]
             try:
                 is_edit = "/rt-edit" in os.readlink(f"/proc/{pid}/cwd")
             except OSError:

@@ -7,8 +7,6 @@ mod finishing;
 mod granting;
 mod proxy;
 mod starting;
-#[cfg(test)]
-mod tests;
 
 pub use finishing::{Finished, finish};
 pub use proxy::Proxy;

@@ -16,5 +16,3 @@ mod server_fields;
 pub mod service;
 mod service_fields;
 pub mod taker;
-#[cfg(test)]
-mod tests;

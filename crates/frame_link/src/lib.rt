@@ -4,5 +4,3 @@
 
 pub mod receiving;
 pub mod sending;
-#[cfg(test)]
-mod tests;

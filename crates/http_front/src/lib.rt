@@ -9,8 +9,4 @@ mod looking;
 mod places;
 mod pulling;
 pub mod reading;
-#[cfg(test)]
-mod tests;
-#[cfg(test)]
-mod texts;
 pub mod writing;

@@ -4,7 +4,5 @@
 
 mod daemon;
 mod line;
-#[cfg(test)]
-mod tests;
 
 pub use daemon::{LogDaemon, WriteOut};

@@ -4,7 +4,5 @@
 
 mod okd;
 mod owner;
-#[cfg(test)]
-mod tests;
 
 pub use okd::Okd;

@@ -9,6 +9,4 @@ pub mod script;
 pub mod site;
 pub mod summary;
 pub mod tally;
-#[cfg(test)]
-mod tests;
 pub mod words;

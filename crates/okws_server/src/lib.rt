@@ -11,8 +11,6 @@ mod preparing;
 mod script;
 mod script_run;
 pub mod status;
-#[cfg(test)]
-mod tests;
 mod top;
 
 pub use top::{answer_no_memory, answer_usage, okws};

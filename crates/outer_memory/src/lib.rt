@@ -9,5 +9,3 @@ pub mod door;
 mod noted;
 pub mod sinks;
 pub mod stores;
-#[cfg(test)]
-mod tests;

@@ -5,7 +5,5 @@
 mod kept;
 mod pubd;
 mod readers;
-#[cfg(test)]
-mod tests;
 
 pub use pubd::Pubd;

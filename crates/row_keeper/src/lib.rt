@@ -4,7 +4,5 @@
 mod failing;
 mod keeper;
 mod rows;
-#[cfg(test)]
-mod tests;
 
 pub use keeper::ListKeeper;

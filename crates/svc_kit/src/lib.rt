@@ -36,7 +36,7 @@
 //! }
 //! ```
 //!
-//! The tests have it whole, with `lines_of`, over a link in memory (`tests/example.rt`).
+//! The tests have it whole, with `lines_of`, over a link in memory (`kit_tests/src/kit/example.rt`).
 #![tactic(auto)]
 
 pub mod answer;
@@ -54,5 +54,3 @@ pub mod saying;
 pub mod service;
 pub mod standard;
 pub mod stop;
-#[cfg(test)]
-mod tests;

@@ -1,0 +1,238 @@
+//! Frames in whatever pieces they come, and where a link fails. Not tested here: each kind of frame,
+//! which the codec's tests have.
+
+ghost use Rattle.frame_codec.specs.Spelling.{HasSpelling};
+
+use frame_codec::frame::{Issued, ServerFrame, ServiceFrame};
+use frame_link::receiving::{NextFrame, next};
+use frame_link::sending::send;
+use okws_base::items::Items;
+use okws_base::limit::LONGEST_FRAME;
+use okws_base::value::{Token, Value};
+use okws_outer::memory::link::{FedLink, MemoryLink};
+use okws_outer::stream::Link;
+use std::alloc::{AllocError, Global};
+use std::process::Abort;
+use std::test::Fail;
+
+/// One letter for each answer.
+fn letter_of(next: &NextFrame) -> char {
+    match next {
+        NextFrame::Frame(ServiceFrame::Open { .. }) => 'o',
+        NextFrame::Frame(ServiceFrame::Call { .. }) => 'c',
+        NextFrame::Frame(ServiceFrame::Get(_)) => 'g',
+        NextFrame::Frame(ServiceFrame::Log(_)) => 'l',
+        NextFrame::Frame(ServiceFrame::Reply { .. }) => 'r',
+        NextFrame::Ended => 'E',
+        NextFrame::BadFrame => 'B',
+        NextFrame::LinkFault => 'F',
+        NextFrame::NoMemory => 'N',
+    }
+}
+
+/// A link to which these bytes were fed, and then the end.
+fn fed<'a>(
+    alloc: Global,
+    digits: &str,
+    piece: usize,
+    failing: &'a [u64],
+) -> Result<MemoryLink<'a>, Fail> {
+    let mut link = MemoryLink::new(alloc, piece, failing);
+    link.feed(&hex::decode(alloc, digits)?)?;
+    link.feed_end();
+    Ok(link)
+}
+
+/// The link answers these letters, one after another, and so many bytes are left.
+fn answers(
+    rt: &impl Abort,
+    alloc: Global,
+    mut link: MemoryLink,
+    want: &str,
+    left: usize,
+) -> Result<(), Fail> {
+    for letter in want.chars() {
+        assert_eq!(rt; letter_of(&next(alloc, &mut link)), letter, "{want}");
+    }
+    assert_eq!(rt; link.left().len(), left, "{want}");
+    Ok(())
+}
+
+#[test]
+fn frames_come_in_pieces(rt: HostRuntime) -> Result<(), Fail> {
+    for (digits, want, left) in [
+        // A Get, a Log and a Call, and then the end.
+        (
+            "0000000643047061676500000007440000000268690000000a42000000000000000100",
+            "glcE",
+            0,
+        ),
+        // A Get, of which nothing behind it is taken.
+        ("00000006430470616765ff", "g", 1),
+        // The end inside a head, and inside a frame.
+        ("000000", "B", 0),
+        ("0000000643047061", "B", 0),
+        // Lengths that no frame has, of which only the head is taken.
+        ("00000000ffff", "B", 2),
+        ("0010000141", "B", 1),
+        // A kind that no service says, and a byte behind the fields.
+        ("0000000108ff", "B", 1),
+        ("0000000743047061676500", "B", 0),
+    ] {
+        for piece in [1, 3, 4096] {
+            let link = fed(rt.alloc(), digits, piece, &[])?;
+            answers(&rt, rt.alloc(), link, want, left)?;
+        }
+    }
+    Ok(())
+}
+
+#[test]
+fn links_fail_at_a_call(rt: HostRuntime) -> Result<(), Fail> {
+    let digits = "0000000643047061676500000007440000000268690000";
+    for (failing, want) in [([0], "Fg"), ([1], "F"), ([2], "gF")] {
+        let mut link = fed(rt.alloc(), digits, 4096, &failing)?;
+        for letter in want.chars() {
+            assert_eq!(rt; letter_of(&next(rt.alloc(), &mut link)), letter, "{want}");
+        }
+    }
+    Ok(())
+}
+
+fn template(alloc: Global) -> Result<ServerFrame, AllocError> {
+    Ok(ServerFrame::Template {
+        edition: 2,
+        content: Items::of(Vec::from_slice(alloc, b"bb")?),
+    })
+}
+
+/// A link with this room takes the frame whole or doesn't, and what it was given begins with these
+/// digits.
+fn goes_into(
+    rt: &impl Abort,
+    alloc: Global,
+    room: usize,
+    done: bool,
+    digits: &str,
+) -> Result<(), Fail> {
+    let frame = template(alloc)?;
+    let mut link = MemoryLink::new(alloc, 1, &[]);
+    link.make_room(room)?;
+    assert!(rt; frame.has_spelling());
+    assert_eq!(rt; send(&mut link, &frame).is_ok(), done);
+    let given = hex::encode(alloc, link.given())?;
+    assert!(rt; given.as_str().starts_with(digits));
+    Ok(())
+}
+
+#[test]
+fn a_frame_is_put_as_far_as_there_is_room(rt: HostRuntime) -> Result<(), Fail> {
+    for (room, done, digits) in [
+        (15, true, "0000000b0700000002000000026262"),
+        (14, false, "0000000b070000000200000002"),
+        (4, false, "0000000b"),
+        (0, false, ""),
+    ] {
+        goes_into(&rt, rt.alloc(), room, done, digits)?;
+    }
+    Ok(())
+}
+
+/// Whether the frame went out, over a link whose first `puts` calls succeed and the next one fails.
+fn goes_in(alloc: Global, frame: &ServerFrame, puts: u64) -> Result<bool, AllocError>
+    requires { HasSpelling frame.now }
+{
+    let failing = [puts];
+    let mut link = MemoryLink::new(alloc, 1, &failing);
+    link.make_room(LONGEST_FRAME + 4)?;
+    Ok(send(&mut link, frame).is_ok())
+}
+
+/// Bytes of this length.
+fn bytes_of(alloc: Global, length: usize) -> Result<Items<u8>, AllocError> {
+    Ok(Items::of(vec![in alloc; 97u8; length]?))
+}
+
+/// Rows of a number and a text of 20 bytes.
+fn few_rows(alloc: Global, count: i64) -> Result<ServerFrame, AllocError> {
+    let mut rows = Items::of(Vec::new(alloc));
+    for number in 0..count {
+        let mut row = Items::of(Vec::new(alloc));
+        row.push(Value::Int(number))?;
+        row.push(Value::Bytes(bytes_of(alloc, 20)?))?;
+        rows.push(row)?;
+    }
+    Ok(ServerFrame::Rows { columns: 2, rows })
+}
+
+/// A Boot of two tokens.
+fn boot(alloc: Global) -> Result<ServerFrame, AllocError> {
+    let mut tokens = Items::of(Vec::new(alloc));
+    for proxy in 0..2 {
+        tokens.push(Issued {
+            proxy,
+            token: Token { bytes: [7; 20] },
+        })?;
+    }
+    Ok(ServerFrame::Boot {
+        service: 1,
+        incarnation: 1,
+        tokens,
+    })
+}
+
+/// A Request with a head and a content of these lengths, which has 13 bytes more.
+fn request(alloc: Global, head: usize, content: usize) -> Result<ServerFrame, AllocError> {
+    Ok(ServerFrame::Request {
+        head: bytes_of(alloc, head)?,
+        content: bytes_of(alloc, content)?,
+    })
+}
+
+/// The frame that was made goes out in just so many puts.
+fn is_put_in(
+    rt: &impl Abort,
+    alloc: Global,
+    made: Result<ServerFrame, AllocError>,
+    puts: u64,
+) -> Result<(), Fail> {
+    let frame = made?;
+    assert!(rt; frame.has_spelling());
+    assert!(rt; goes_in(alloc, &frame, puts)?);
+    assert!(rt; !goes_in(alloc, &frame, puts.saturating_sub(1))?);
+    Ok(())
+}
+
+#[test]
+fn a_short_frame_is_one_put(rt: HostRuntime) -> Result<(), Fail> {
+    let alloc = rt.alloc();
+    is_put_in(&rt, alloc, boot(alloc), 1)?;
+    is_put_in(&rt, alloc, few_rows(alloc, 4), 1)?;
+    is_put_in(&rt, alloc, Ok(ServerFrame::Logged), 1)
+}
+
+#[test]
+fn one_put_is_of_1024_bytes(rt: HostRuntime) -> Result<(), Fail> {
+    let alloc = rt.alloc();
+    // 150 bytes, 1,024 bytes, and one more.
+    for (head, content, puts) in [(120, 17, 1), (1_000, 11, 1), (1_000, 12, 2)] {
+        is_put_in(&rt, alloc, request(alloc, head, content), puts)?;
+    }
+    Ok(())
+}
+
+/// A Template with a content of this length.
+fn long_template(alloc: Global, length: usize) -> Result<ServerFrame, AllocError> {
+    Ok(ServerFrame::Template {
+        edition: 1,
+        content: bytes_of(alloc, length)?,
+    })
+}
+
+#[test]
+fn a_long_frame_is_few_puts(rt: HostRuntime) -> Result<(), Fail> {
+    let alloc = rt.alloc();
+    // A content of 5,000 bytes goes by itself, and rows of some 5,000 in five.
+    is_put_in(&rt, alloc, long_template(alloc, 5_000), 2)?;
+    is_put_in(&rt, alloc, few_rows(alloc, 147), 5)
+}

@@ -1,0 +1,14 @@
+//! Tests of the columns by worked runs. Not tested here: columns behind locks, and dialogs, which other
+//! crates of tests have.
+#![tactic(auto)]
+
+#[cfg(test)]
+mod dispatch;
+#[cfg(test)]
+mod log;
+#[cfg(test)]
+mod proxy;
+#[cfg(test)]
+mod site;
+#[cfg(test)]
+mod templates;

@@ -1,0 +1,5 @@
+//! Tests of the service's end of a link. Not tested here: standard input and output.
+#![tactic(auto)]
+
+#[cfg(test)]
+mod kit;

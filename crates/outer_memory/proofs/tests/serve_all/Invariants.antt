@@ -1,5 +1,0 @@
-use Rattle.std.proofs.Common.{IsNone}
-use Rattle.outer_memory.proofs.tests.serve_all.Given as goal
-
-abbrev pub invariant-loop : goal.invariant-loop
-invariant-loop g l = IsNone (g.D.Door.entrance l.door).out

@@ -1,0 +1,5 @@
+//! Tests of the objects of a server in memory. Not tested here: real sockets, pipes and children.
+#![tactic(auto)]
+
+#[cfg(test)]
+mod objects;

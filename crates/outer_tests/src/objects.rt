@@ -1,0 +1,393 @@
+//! The objects of a server in memory, on the ways that no clause tells: which client comes to which
+//! door, which calls fail, and where memory and room end. Not tested here: real sockets, pipes and
+//! children, and what threads do to each other.
+
+ghost use Rattle.std.specs.Prelude.{◌≡◌, [], IfOk, IsNone, None};
+
+use okws_base::items::Items;
+use okws_outer::child::{Child, Ended};
+use okws_outer::children::{Children, Started};
+use okws_outer::conn::Conn;
+use okws_outer::door::{Door, Served};
+use okws_outer::error::{Fault, MakeError};
+use okws_outer::gate::{Gate, NoGate, Point};
+use okws_outer::memory::link::{FedLink, MemoryLink};
+use okws_outer::network::Network;
+use okws_outer::sinks::Sinks;
+use okws_outer::stores::Stores;
+use okws_outer::stream::{Link, Pull, Put, Sink};
+use outer_memory::children::{ChildPlan, MemoryChildren};
+use outer_memory::door::{Client, MemoryDoor, MemoryNetwork};
+use outer_memory::sinks::MemorySinks;
+use outer_memory::stores::{Breaking, MemoryStores};
+use std::alloc::Global;
+use std::process::Abort;
+use std::sync::{Mutex, Wait};
+use std::test::Fail;
+use std::thread;
+
+const CLIENTS: [Client<'static>; 3] = [
+    Client {
+        bytes: b"one",
+        sizes: &[2],
+        room: 4,
+        failing: &[],
+    },
+    Client {
+        bytes: b"two",
+        sizes: &[],
+        room: 1,
+        failing: &[],
+    },
+    Client {
+        bytes: b"three",
+        sizes: &[],
+        room: 9,
+        failing: &[0, 1],
+    },
+];
+
+/// Accepts, takes one piece and gives two bytes; the piece's length, or None where no client comes.
+fn serve_one<D: Door>(door: &mut D) -> Option<usize>
+    requires { IsNone (D.entrance door.old).out }
+    ensures { IsNone (D.entrance door.new).out }
+{
+    match door.accept() {
+        Ok(mut conn) => {
+            let mut piece = [0u8; 8];
+            let took = match conn.pull(&mut piece) {
+                Pull::Took(count) => count,
+                Pull::End | Pull::Failed => 0,
+            };
+            conn.put(b"ok");
+            door.finish(conn);
+            Some(took)
+        }
+        Err(Fault) => None,
+    }
+}
+
+/// How many connections a door serves until none comes.
+fn serve_all<D: Door>(door: &mut D) -> u8
+    requires { IsNone (D.entrance door.old).out }
+    ensures { IsNone (D.entrance door.new).out }
+{
+    let mut served = 0u8;
+    for _ in 0..8 {
+        if serve_one(door).is_some() {
+            served = served.saturating_add(1);
+        }
+    }
+    served
+}
+
+fn is(told: &Option<Items<u8>>, bytes: &[u8]) -> bool {
+    match told {
+        Some(told) => told.as_slice() == bytes,
+        None => false,
+    }
+}
+
+fn is_served(served: &Served, came: &[u8], left: &[u8], given: &[u8]) -> bool {
+    is(&served.came, came) && is(&served.left, left) && is(&served.given, given)
+}
+
+/// The doors of a network that opened two.
+#[derive(Drop)]
+struct Two<'a> {
+    first: MemoryDoor<'a>,
+    second: MemoryDoor<'a>,
+}
+
+/// Opens two doors, at which no connection is out.
+fn two_doors<'a>(alloc: Global, network: &mut MemoryNetwork<'a>) -> Result<Two<'a>, Fail>
+    ensures first { IfOk result (λ two. IsNone (⟦<MemoryDoor<'a> as Door>⟧.entrance two.first).out) }
+    ensures second { IfOk result (λ two. IsNone (⟦<MemoryDoor<'a> as Door>⟧.entrance two.second).out) }
+{
+    let Ok(mut doors) = network.listen(alloc, 8080, 2) else {
+        return Err(Fail::new("not as planned"));
+    };
+    let (Some(second), Some(first)) = (doors.pop(), doors.pop()) else {
+        return Err(Fail::new("not as planned"));
+    };
+    Ok(Two { first, second })
+}
+
+/// The second door holds the client that came first, while the other serves all further ones.
+fn serve_beside<D: Door>(rt: &impl Abort, first: &mut D, second: &mut D)
+    requires first { IsNone (D.entrance first.old).out }
+    requires second { IsNone (D.entrance second.old).out }
+{
+    let Ok(held) = second.accept() else {
+        panic!(rt; "not as planned");
+    };
+    assert_eq!(rt; serve_one(first), Some(3));
+    assert_eq!(rt; serve_one(first), Some(0));
+    assert_eq!(rt; serve_one(first), None);
+    second.finish(held);
+    assert_eq!(rt; serve_one(second), None);
+}
+
+/// The first door finished the clients `two` and `three`.
+fn tells_two(rt: &impl Abort, door: &MemoryDoor) {
+    let Some([two, three]) = door.finished() else {
+        panic!(rt; "not as planned");
+    };
+    assert!(rt; is_served(two, b"two", b"", b"o"));
+    assert!(rt; is_served(three, b"three", b"three", b""));
+    assert_eq!(rt; (two.faults, three.faults), (1, 2));
+}
+
+/// The second door finished the client `one`.
+fn tells_one(rt: &impl Abort, door: &MemoryDoor) {
+    let Some([one]) = door.finished() else {
+        panic!(rt; "not as planned");
+    };
+    assert!(rt; is_served(one, b"one", b"one", b""));
+}
+
+/// The network was asked twice, and took the two doors back.
+fn tells_doors(rt: &impl Abort, network: &MemoryNetwork) {
+    assert_eq!(rt; network.faults(), 1);
+    let Some([_, last]) = network.listened() else {
+        panic!(rt; "not as planned");
+    };
+    assert_eq!(rt; (last.port, last.count), (8080, 2));
+    let [first, second] = network.doors() else {
+        panic!(rt; "not as planned");
+    };
+    tells_two(rt, first);
+    tells_one(rt, second);
+}
+
+#[test]
+fn doors_take_from_one_line(rt: HostRuntime) -> Result<(), Fail> {
+    let mut network = MemoryNetwork::new(rt.alloc(), &CLIENTS, &[2], &[0]);
+    let refused = network.listen(rt.alloc(), 8080, 2);
+    assert!(rt; matches!(refused, Err(MakeError::Failed)));
+    let Two {
+        mut first,
+        mut second,
+    } = two_doors(rt.alloc(), &mut network)?;
+    serve_beside(&rt, &mut first, &mut second);
+    assert_eq!(rt; first.faults(), 4);
+    assert_eq!(rt; second.faults(), 1);
+    let mut doors = Vec::with_capacity(rt.alloc(), 2)?;
+    doors.push(first)?;
+    doors.push(second)?;
+    network.close(doors);
+    tells_doors(&rt, &network);
+    Ok(())
+}
+
+#[test]
+fn doors_serve_in_two_threads(rt: HostRuntime) -> Result<(), Fail> {
+    let mut network = MemoryNetwork::new(rt.alloc(), &CLIENTS, &[], &[]);
+    let Two {
+        mut first,
+        mut second,
+    } = two_doors(rt.alloc(), &mut network)?;
+    let (one, other) = thread::join(&rt, || serve_all(&mut first), || serve_all(&mut second));
+    assert_eq!(rt; one.saturating_add(other), 3);
+    Ok(())
+}
+
+const PLANS: [ChildPlan<'static>; 1] = [ChildPlan {
+    service: 1,
+    incarnation: 2,
+    says: b"hello",
+    piece: 3,
+    failing: &[1],
+    answers: &[Ended::No, Ended::Failed, Ended::Yes],
+}];
+
+/// The link says `hel`, fails once, and takes four bytes as soon as there is room.
+fn speaks(rt: &impl Abort, link: &mut MemoryLink) -> Result<(), Fail> {
+    let mut piece = [0u8; 8];
+    assert_eq!(rt; link.pull(&mut piece), Pull::Took(3));
+    assert_eq!(rt; link.pull(&mut piece), Pull::Failed);
+    assert_eq!(rt; link.put(b"boot"), Put::Stopped(0));
+    link.make_room(4)?;
+    assert_eq!(rt; link.put(b"boot"), Put::Done);
+    Ok(())
+}
+
+/// One start and one end are told.
+fn tells_a_child(rt: &impl Abort, children: &MemoryChildren) {
+    assert_eq!(rt; children.faults(), 1);
+    let (Some([start]), Some([end])) = (children.started(), children.finished()) else {
+        panic!(rt; "not as planned");
+    };
+    assert_eq!(rt; (start.service, start.incarnation), (1, 2));
+    assert!(rt; is(&start.says, b"hello"));
+    assert_eq!(rt; (end.service, end.incarnation, end.faults), (1, 2, 2));
+    assert_eq!(rt; end.ended, true);
+    assert!(rt; is(&end.left, b"lo"));
+    assert!(rt; is(&end.given, b"boot"));
+}
+
+#[test]
+fn children_do_what_is_planned(rt: HostRuntime) -> Result<(), Fail> {
+    let mut children = MemoryChildren::new(rt.alloc(), &PLANS, &[0]);
+    let refused = children.start(rt.alloc(), 1, 1, &[]);
+    assert!(rt; matches!(refused, Err(MakeError::Failed)));
+    let Ok(
+        Started {
+            mut child,
+            mut link,
+        },
+    ) = children.start(rt.alloc(), 1, 2, &[])
+    else {
+        panic!(rt; "not as planned");
+    };
+    speaks(&rt, &mut link)?;
+    assert_eq!(rt; child.ended(), Ended::No);
+    assert_eq!(rt; child.ended(), Ended::Failed);
+    assert_eq!(rt; child.ended(), Ended::Yes);
+    child.stop();
+    children.finish(1, 2, child, link);
+    tells_a_child(&rt, &children);
+    Ok(())
+}
+
+#[test]
+fn child_without_a_plan_is_silent(rt: HostRuntime) -> Result<(), Fail> {
+    let mut children = MemoryChildren::new(rt.alloc(), &PLANS, &[]);
+    let Ok(
+        Started {
+            mut child,
+            mut link,
+        },
+    ) = children.start(rt.alloc(), 1, 1, &[])
+    else {
+        panic!(rt; "not as planned");
+    };
+    assert_eq!(rt; link.pull(&mut [0u8; 8]), Pull::End);
+    assert_eq!(rt; child.ended(), Ended::No);
+    children.finish(1, 1, child, link);
+    Ok(())
+}
+
+/// An opening, one that failed, and a sink that was closed are told.
+fn tells_a_sink(rt: &impl Abort, sinks: &MemorySinks) {
+    assert_eq!(rt; sinks.faults(), 3);
+    let (Some([first, second]), Some([closed])) = (sinks.opened(), sinks.closed()) else {
+        panic!(rt; "not as planned");
+    };
+    assert_eq!(rt; (first.is_open, second.is_open), (true, false));
+    assert_eq!(rt; second.path.as_slice(), b"audit".as_slice());
+    assert!(rt; is(&closed.given, b"abce"));
+    assert_eq!(rt; closed.faults, 2);
+}
+
+#[test]
+fn sinks_fail_in_turn(rt: HostRuntime) -> Result<(), Fail> {
+    let mut sinks = MemorySinks::new(rt.alloc(), 4, &[1], &[1]);
+    let Ok(mut log) = sinks.open("log") else {
+        panic!(rt; "not as planned");
+    };
+    assert!(rt; sinks.open("audit").is_err());
+    for (put, bytes) in [
+        (Put::Done, b"abc".as_slice()),
+        (Put::Stopped(0), b"d"),
+        (Put::Stopped(1), b"ef"),
+    ] {
+        assert_eq!(rt; log.put(bytes), put);
+    }
+    sinks.close("log", log);
+    tells_a_sink(&rt, &sinks);
+    Ok(())
+}
+
+#[test]
+fn absent_network_refuses_each_listen(rt: HostRuntime) -> Result<(), Fail> {
+    let mut network = MemoryNetwork::absent(rt.alloc());
+    for _ in 0..2 {
+        let doors = network.listen(rt.alloc(), 8080, 1);
+        assert!(rt; matches!(doors, Err(MakeError::Failed)));
+    }
+    assert_eq!(rt; network.faults(), 2);
+    Ok(())
+}
+
+#[test]
+fn absent_children_refuse_each_start(rt: HostRuntime) -> Result<(), Fail> {
+    let mut children = MemoryChildren::absent(rt.alloc());
+    for _ in 0..2 {
+        let child = children.start(rt.alloc(), 0, 1, &[]);
+        assert!(rt; matches!(child, Err(MakeError::Failed)));
+    }
+    assert_eq!(rt; children.faults(), 2);
+    Ok(())
+}
+
+#[test]
+fn absent_stores_refuse_each_making(rt: HostRuntime) -> Result<(), Fail> {
+    let mut stores = MemoryStores::absent(Breaking);
+    for _ in 0..2 {
+        let keeper = stores.make(rt.alloc(), "rows", 0, &[]);
+        assert!(rt; matches!(keeper, Err(MakeError::Failed)));
+    }
+    assert_eq!(rt; stores.faults(), 2);
+    Ok(())
+}
+
+#[test]
+fn absent_sinks_refuse_each_opening(rt: HostRuntime) -> Result<(), Fail> {
+    let mut sinks = MemorySinks::absent(rt.alloc());
+    for _ in 0..2 {
+        assert!(rt; sinks.open("log").is_err());
+    }
+    assert_eq!(rt; sinks.faults(), 2);
+    Ok(())
+}
+
+#[test]
+fn stores_fail_in_turn(rt: HostRuntime) -> Result<(), Fail> {
+    let mut stores = MemoryStores::new(Breaking, &[1]);
+    let Ok(keeper) = stores.make(rt.alloc(), "rows", 0, &[]) else {
+        panic!(rt; "not as planned");
+    };
+    let refused = stores.make(rt.alloc(), "rows", 1, &[]);
+    assert!(rt; matches!(refused, Err(MakeError::Failed)));
+    stores.finish(0, keeper);
+    assert_eq!(rt; stores.faults(), 1);
+    Ok(())
+}
+
+/// A gate that waits for its turn to count.
+#[derive(Drop)]
+struct Counting<'r, R> {
+    rt: &'r R,
+    passed: Mutex<u64>,
+}
+
+impl<'r, R: Wait> Gate for Counting<'r, R> {
+    fn pass(&self, _point: Point, number: u64) {
+        let mut passed = self.passed.lock(self.rt);
+        *passed = passed.saturating_add(number);
+    }
+}
+
+fn pass_all<G: Gate>(gate: &G) {
+    for point in [
+        Point::Requested,
+        Point::Answered,
+        Point::Raised,
+        Point::Called,
+    ] {
+        gate.pass(point, 2);
+    }
+}
+
+#[test]
+fn gate_may_wait(rt: HostRuntime) -> Result<(), Fail> {
+    pass_all(&NoGate);
+    let gate = Counting {
+        rt: &rt,
+        passed: Mutex::new(0),
+    };
+    pass_all(&gate);
+    assert_eq!(rt; *gate.passed.lock(&rt), 8);
+    Ok(())
+}

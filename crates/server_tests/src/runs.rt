@@ -1,0 +1,268 @@
+//! Whole runs over a world in memory: two worked scripts, what is refused, and each status. Not tested
+//! here: the other worked scripts, which are run by the program, and want of memory.
+
+use okws_outer::memory::files::{Entry, MemoryFiles};
+use okws_outer::memory::sink::MemorySink;
+use okws_outer::world::{Held, Outside};
+use okws_server::okws;
+use okws_server::status::Status;
+use std::alloc::{AllocError, Global};
+use std::test::Fail;
+
+const SITE: &str = "okws 1\n\
+    proxy main\n\
+    table main msgs id INT KEY who TEXT note TEXT\n\
+    row main msgs 1 'ann' 'hi'\n\
+    row main msgs 2 'bob' 'yo'\n\
+    query main 1 SELECT id, who FROM msgs ORDER BY id\n\
+    service guest ./svc_guest\n\
+    uri /guest guest\n\
+    grant guest main 1\n";
+
+const ONE_DIALOG: &str = "launch guest\n\
+    accept GET /guest\n\
+    dialog 0\n\
+    bytes guest 000000174100000000000000000001ade0b876903df1a0e56a5d40\n\
+    bytes guest 0000000a42000000000000000100\n\
+    bytes guest 000000154500c80a746578742f706c61696e00000000026f6b\n";
+
+const ONE_DIALOG_PRINTED: &str =
+    "heard guest 1 0000001e010000000000010100000000000000000001ade0b876903df1a0e56a5d40\n\
+    heard guest 1 000000310200000028474554202f677565737420485454502f312e310d0a486f73743a206c6f63616c686f73740d0a0d0a00000000\n\
+    heard guest 1 000000050400000000\n\
+    heard guest 1 000000280502000000020100000000000000010200000003616e6e0100000000000000020200000003626f62\n\
+    answer 0 HTTP/1.1 200 OK\\x0d\\x0aContent-Type: text/plain\\x0d\\x0aContent-Length: 2\\x0d\\x0aConnection: close\\x0d\\x0a\\x0d\\x0aok\n";
+
+const TWO_SESSIONS: &str = "launch guest\n\
+    accept GET /guest\n\
+    dialog 0\n\
+    bytes guest 000000174100000000000000000001ade0b876903df1a0e56a5d40\n\
+    bytes guest 000000174100000000000000000001ade0b876903df1a0e56a5d40\n";
+
+const TWO_SESSIONS_PRINTED: &str =
+    "heard guest 1 0000001e010000000000010100000000000000000001ade0b876903df1a0e56a5d40\n\
+    heard guest 1 000000310200000028474554202f677565737420485454502f312e310d0a486f73743a206c6f63616c686f73740d0a0d0a00000000\n\
+    heard guest 1 000000050400000000\n\
+    heard guest 1 000000050400000001\n";
+
+/// How a run ended, and what it printed.
+#[derive(Debug, Drop)]
+struct Ended {
+    status: Status,
+    printed: Vec<u8>,
+}
+
+/// Runs these words over files in memory, whose pulls of the numbers in `pulls` fail, and an out with
+/// so much room, whose puts of the numbers in `puts` fail.
+fn run(
+    alloc: Global,
+    words: &[&str],
+    entries: &[Entry<'_>],
+    pulls: &[u64],
+    room: usize,
+    puts: &[u64],
+) -> Result<Ended, AllocError> {
+    let mut owned = Vec::new(alloc);
+    for word in words {
+        owned.push(String::from_str(alloc, word)?)?;
+    }
+    let mut world = Held {
+        objects: Some(Outside {
+            files: MemoryFiles::new(entries, 4096, pulls),
+            out: MemorySink::new(alloc, room, puts)?,
+            seed: [0; 32],
+        }),
+    };
+    let (status, record) = okws(&(), alloc, &owned, &mut world);
+    drop(record);
+    let mut printed = Vec::new(alloc);
+    if let Some(all) = &world.objects {
+        printed.extend_from_slice(all.out.given())?;
+    }
+    Ok(Ended { status, printed })
+}
+
+/// A site and a script as files.
+fn files<'a>(site: &'a str, script: &'a str) -> [Entry<'a>; 2] {
+    [
+        Entry {
+            path: "site",
+            bytes: site.as_bytes(),
+        },
+        Entry {
+            path: "script",
+            bytes: script.as_bytes(),
+        },
+    ]
+}
+
+const PLAY: [&str; 3] = ["play", "site", "script"];
+
+#[test]
+fn a_dialog_is_printed(rt: HostRuntime) -> Result<(), Fail> {
+    let entries = files(SITE, ONE_DIALOG);
+    let ended = run(rt.alloc(), &PLAY, &entries, &[], 4096, &[])?;
+    assert_eq!(rt; ended.status, Status::Ok);
+    assert_eq!(rt; ended.printed.as_slice(), ONE_DIALOG_PRINTED.as_bytes());
+    Ok(())
+}
+
+#[test]
+fn two_sessions_are_opened(rt: HostRuntime) -> Result<(), Fail> {
+    let entries = files(SITE, TWO_SESSIONS);
+    let ended = run(rt.alloc(), &PLAY, &entries, &[], 4096, &[])?;
+    assert_eq!(rt; ended.status, Status::Ok);
+    assert_eq!(rt; ended.printed.as_slice(), TWO_SESSIONS_PRINTED.as_bytes());
+    Ok(())
+}
+
+#[test]
+fn out_may_be_full_at_any_byte(rt: HostRuntime) -> Result<(), Fail> {
+    let whole = ONE_DIALOG_PRINTED.as_bytes();
+    let entries = files(SITE, ONE_DIALOG);
+    for room in 0..whole.len() {
+        let ended = run(rt.alloc(), &PLAY, &entries, &[], room, &[])?;
+        assert_eq!(rt; ended.status, Status::OutFault);
+        assert!(rt; ended.printed.len() <= room);
+        assert!(rt; whole.starts_with(&ended.printed));
+    }
+    Ok(())
+}
+
+#[test]
+fn a_put_that_fails_is_the_last(rt: HostRuntime) -> Result<(), Fail> {
+    let entries = files(SITE, ONE_DIALOG);
+    for put in [0, 2, 4] {
+        let ended = run(rt.alloc(), &PLAY, &entries, &[], 4096, &[put as u64])?;
+        assert_eq!(rt; ended.status, Status::OutFault);
+        assert_eq!(rt;
+            ended.printed.iter().filter(|byte| **byte == b'\n').count(),
+            put
+        );
+        assert!(rt; ONE_DIALOG_PRINTED.as_bytes().starts_with(&ended.printed));
+    }
+    Ok(())
+}
+
+#[test]
+fn broken_files_are_told(rt: HostRuntime) -> Result<(), Fail> {
+    for (site, script, status, printed) in [
+        (
+            "",
+            ONE_DIALOG,
+            Status::ConfigRefused,
+            "refused: config line 1 rule 1\n",
+        ),
+        (
+            "okws 1\nproxy main\ngrant guest main 1\n",
+            ONE_DIALOG,
+            Status::ConfigRefused,
+            "refused: config line 3 rule 11\n",
+        ),
+        (
+            SITE,
+            "bytes guest 00\n",
+            Status::ScriptRefused,
+            "refused: script line 1 rule 7\n",
+        ),
+        (
+            SITE,
+            "accept GET /none\nlaunch nobody\n",
+            Status::ScriptRefused,
+            "answer 0 HTTP/1.1 404 Not Found\\x0d\\x0aContent-Type: text/plain\\x0d\\x0aContent-Length: 14\\x0d\\x0aConnection: close\\x0d\\x0a\\x0d\\x0a404 Not Found\\x0a\nrefused: script line 2 rule 2\n",
+        ),
+    ] {
+        let ended = run(rt.alloc(), &PLAY, &files(site, script), &[], 4096, &[])?;
+        assert_eq!(rt; ended.status, status);
+        assert_eq!(rt; ended.printed.as_slice(), printed.as_bytes());
+    }
+    Ok(())
+}
+
+#[test]
+fn files_that_fail_are_told(rt: HostRuntime) -> Result<(), Fail> {
+    let entries = files(SITE, ONE_DIALOG);
+    for (words, pulls) in [
+        (["play", "site", "nowhere"].as_slice(), [].as_slice()),
+        (&["play", "nowhere", "script"], &[]),
+        (&["check", "nowhere"], &[]),
+        (&["check", "site"], &[0]),
+        (&["check", "site"], &[1]),
+        (&["play", "site", "script"], &[2]),
+    ] {
+        let ended = run(rt.alloc(), words, &entries, pulls, 4096, &[])?;
+        assert_eq!(rt; ended.status, Status::ReadFault);
+        assert_eq!(rt; ended.printed.as_slice(), b"read fault\n".as_slice());
+    }
+    Ok(())
+}
+
+#[test]
+fn queries_are_listed(rt: HostRuntime) -> Result<(), Fail> {
+    let listing = b"main 1 SELECT id, who FROM msgs ORDER BY id\n".as_slice();
+    for (puts, status, printed) in [
+        ([].as_slice(), Status::Ok, listing),
+        (&[0], Status::OutFault, b""),
+    ] {
+        let entries = files(SITE, "");
+        let ended = run(rt.alloc(), &["check", "site"], &entries, &[], 4096, puts)?;
+        assert_eq!(rt; ended.status, status);
+        assert_eq!(rt; ended.printed.as_slice(), printed);
+    }
+    Ok(())
+}
+
+#[test]
+fn other_words_are_told_how_to_call(rt: HostRuntime) -> Result<(), Fail> {
+    for words in [
+        [].as_slice(),
+        &["play", "site"],
+        &["check"],
+        &["check", "site", "script"],
+        &["Check", "site"],
+        &["serve", "site"],
+        &["--help"],
+        &["drill", "0"],
+        &["drill", "0", "100001"],
+        &["drill", "18446744073709551616", "0"],
+        &["drill", "00", "0"],
+        &["drill", "0", "+5"],
+    ] {
+        let ended = run(rt.alloc(), words, &[], &[], 4096, &[])?;
+        assert_eq!(rt; ended.status, Status::Usage);
+        assert!(rt; ended.printed.starts_with(b"usage: okws "));
+    }
+    Ok(())
+}
+
+// The counts are those of a model of its own, which played the drills' scripts.
+#[test]
+fn drills_are_summed(rt: HostRuntime) -> Result<(), Fail> {
+    for (words, printed) in [
+        (
+            ["drill", "18446744073709551615", "0"].as_slice(),
+            "boots 2\nrequests 0\npushes 0\nopened 0\nrows 0\nchanged 0\nduplicates 0\ntemplates 0\nlogged 0\nfailed 0\nnomemory 0\n",
+        ),
+        (
+            &["drill", "0", "5"],
+            "boots 2\nrequests 3\npushes 2\nopened 2\nrows 0\nchanged 1\nduplicates 0\ntemplates 0\nlogged 0\nfailed 0\nnomemory 0\ndenied 22 1\n",
+        ),
+        (
+            &["drill", "7", "40"],
+            "boots 8\nrequests 31\npushes 1\nopened 17\nrows 3\nchanged 5\nduplicates 1\ntemplates 0\nlogged 2\nfailed 0\nnomemory 0\ndenied 12 3\ndenied 14 4\ndenied 21 6\ndenied 22 1\ndenied 31 2\n",
+        ),
+    ] {
+        let ended = run(rt.alloc(), words, &[], &[], 4096, &[])?;
+        assert_eq!(rt; ended.status, Status::Ok);
+        assert_eq!(rt; ended.printed.as_slice(), printed.as_bytes());
+    }
+    Ok(())
+}
+
+#[test]
+fn a_drill_over_an_out_that_fails(rt: HostRuntime) -> Result<(), Fail> {
+    let ended = run(rt.alloc(), &["drill", "0", "5"], &[], &[], 4096, &[0])?;
+    assert_eq!(rt; ended.status, Status::OutFault);
+    assert!(rt; ended.printed.is_empty());
+    Ok(())
+}

@@ -1,20 +1,20 @@
 //! How the columns of a site are made.
 
-ghost use Rattle.std.specs.Prelude.{◌≡◌, ℕ, ◌<◌, ◌≤◌, [], IfOk, length};
+ghost use Rattle.std.specs.Prelude.{◌≡◌, ℕ, ◌<◌, ◌≤◌, [], IfOk, length, slice_get};
 ghost use Rattle.std.specs.Arc.{arc_value};
 ghost use Rattle.okws_base.specs.declared.limit.TheConstants.{MOST_SERVICES, MOST_TEMPLATES};
-ghost use Rattle.okws_plan.specs.Configuration.{tables, template_name};
+ghost use Rattle.okws_plan.specs.Configuration.{tables, queries_of, template_name};
 ghost use Rattle.okws_plan.specs.Rules.{QueriesKeepRules};
 ghost use Rattle.site_columns.specs.Proxies.{IsColumn};
 
 use crate::discard::Discard;
 use crate::launches::Launches;
 use db_proxy::Proxy;
+use index_keeper::IndexKeeper;
 use log_daemon::LogDaemon;
 use okd_dispatch::Okd;
-use okws_plan::configuration::{Config, Table};
+use okws_plan::configuration::{Config, Query, Table};
 use pubd_core::Pubd;
-use row_keeper::ListKeeper;
 use std::alloc::{AllocError, Global};
 use std::sync::Arc;
 use token_core::Seed;
@@ -38,6 +38,16 @@ pub fn tables_at(config: &Config, proxy: u16) -> &[Table]
     }
 }
 
+/// The queries of a proxy; none where it isn't declared.
+pub fn queries_at(config: &Config, proxy: u16) -> &[Query]
+    ensures { result.now ≡ queries_of (slice_get config.now.proxies proxy) }
+{
+    match config.proxies.as_slice().get(proxy as usize) {
+        None => &[],
+        Some(plan) => plan.queries.as_slice(),
+    }
+}
+
 /// The column of a proxy, over a keeper of its tables that tells its rows and never fails.
 pub fn proxy_column(
     alloc: Global,
@@ -45,14 +55,14 @@ pub fn proxy_column(
     seed: &Seed,
     proxy: u16,
     keeps: bool,
-) -> Result<Proxy<ListKeeper>, AllocError>
+) -> Result<Proxy<IndexKeeper>, AllocError>
     requires declared { proxy < length (arc_value config.now).proxies }
     requires services { length (arc_value config.now).services ≤ MOST_SERVICES }
     requires rules { QueriesKeepRules (arc_value config.now) proxy }
     ensures is { IfOk result (λ x. IsColumn (arc_value config.now) seed.now proxy x) }
     ensures past { IfOk result (λ x. x.past ≡ []) }
 {
-    let keeper = ListKeeper::new(alloc, tables_at(config, proxy), Vec::new(alloc))?;
+    let keeper = IndexKeeper::new(alloc, tables_at(config, proxy), queries_at(config, proxy))?;
     match Proxy::new(alloc, config.clone()?, proxy, seed, keeper, keeps) {
         Ok(column) => Ok(column),
         Err(_) => Err(AllocError),

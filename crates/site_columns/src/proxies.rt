@@ -16,12 +16,12 @@ ghost use Rattle.site_columns.specs.Proxies.{entered_at};
 
 use crate::opening::proxy_column;
 use db_proxy::Proxy;
+use index_keeper::IndexKeeper;
 use monitor_model::verdict::Verdict;
 use okws_base::journal::{Entry, Past};
 use okws_base::value::Token;
 use okws_plan::configuration::Config;
 use okws_plan::event::{Call, Mark, ProxyEvent};
-use row_keeper::ListKeeper;
 use std::alloc::{AllocError, Global};
 use std::marker::Model;
 use std::sync::Arc;
@@ -35,7 +35,7 @@ pub struct Proxies {
     // The seed of the tokens that are issued.
     seed: Seed,
     holder: u16,
-    columns: Vec<Proxy<ListKeeper>>,
+    columns: Vec<Proxy<IndexKeeper>>,
 }
 
 impl Model for Proxies {

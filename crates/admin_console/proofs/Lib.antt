@@ -1,0 +1,4 @@
+pub mod Taking
+pub mod Lines
+pub mod Stepping
+pub mod Spelled

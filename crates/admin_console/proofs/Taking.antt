@@ -1,0 +1,36 @@
+-- How bytes that come in pieces become those that were taken.
+use Rattle.std.proofs.Common.{◌≡◌, ◌≤◌, ℕ, List, [], ◌++◌, take, refl, ◌∙◌, arith}
+use Rattle.std.specs.Io.KnownBytes.{Consumes, IsAtEnd}
+use Rattle.std.proofs.KnownBytes.{Consumes-nil, Consumes-trans, Consumes-kept}
+use Rattle.okws_outer.specs.Streams.{Rose}
+use Rattle.okws_outer.specs.Conns.{ConnWire, PullsFrom}
+use Rattle.okws_outer.specs.declared.stream.Pull.TheVariants as pull
+
+-- Since the start these bytes were taken, and none given.
+pub record Took (start now : ConnWire) (bytes : List ℕ) : Type 0 where
+  pub taken : Consumes start.left now.left bytes
+  pub given : now.given ≡ start.given
+  pub later : start.faults ≤ now.faults
+
+pub took_none : (start : ConnWire) → Took start start []
+took_none start = record { taken = Consumes-nil start.left; given = refl; later = omega arith }
+
+pub took_more : (start old new : ConnWire) (bytes into : List ℕ) (n : ℕ) → Took start old bytes → PullsFrom old new into (pull.Took n) → Took start new (bytes ++ take n into)
+took_more start old new bytes into n t p = record {
+  taken = Consumes-trans start.left old.left new.left bytes (take n into) t.taken p.pulls.2;
+  given = p.given ∙ t.given;
+  later = omega (arith, t.later, p.faults.later);
+}
+
+pub took_end : (start old new : ConnWire) (bytes into : List ℕ) → Took start old bytes → PullsFrom old new into pull.End → Took start new bytes × IsAtEnd new.left
+took_end start old new bytes into t p = (
+  record { taken = Consumes-kept start.left old.left new.left bytes t.taken p.pulls.0; given = p.given ∙ t.given; later = omega (arith, t.later, p.faults.later) },
+  p.pulls.1,
+)
+
+pub took_failed : (start old new : ConnWire) (bytes into : List ℕ) → Took start old bytes → PullsFrom old new into pull.Failed → Took start new bytes × Rose start.faults new.faults
+took_failed start old new bytes into t p =
+    let rose : Rose old.faults new.faults = p.faults.cause refl in (
+      record { taken = Consumes-kept start.left old.left new.left bytes t.taken p.pulls; given = p.given ∙ t.given; later = omega (arith, t.later, p.faults.later) },
+      omega (arith, t.later, rose),
+    )

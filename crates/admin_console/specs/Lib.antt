@@ -1,0 +1,5 @@
+pub mod Orders
+pub mod Answers
+pub mod Reading
+pub mod Steps
+pub mod Spelling

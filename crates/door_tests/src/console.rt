@@ -1,0 +1,304 @@
+//! What an operator's console is answered.
+
+ghost use Rattle.std.specs.Prelude.{◌≡◌};
+
+use admin_console::answer::Answer;
+use admin_console::controls::{Controls, Publishing, Relaunching};
+use admin_console::reader::Reader;
+use admin_console::rule::Rule;
+use admin_console::step::{Stepped, step};
+use okws_base::items::Items;
+use okws_base::limit::{MOST_SERVICES, MOST_TEMPLATES};
+use okws_base::name::Name;
+use okws_outer::memory::conn::MemoryConn;
+use okws_plan::configuration::{Config, ServicePlan};
+use std::alloc::{AllocError, Global};
+use std::sync::Wait;
+use std::test::Fail;
+
+/// The site that is steered: what publications and relaunches come to, and what was asked last.
+#[derive(Drop)]
+struct Site<'a> {
+    config: &'a Config,
+    publishing: Publishing,
+    relaunching: Relaunching,
+    content: Option<Items<u8>>,
+    template: u16,
+    service: u16,
+    published: u8,
+    relaunched: u8,
+}
+
+impl<'a> Controls for Site<'a> {
+    ghost use Rattle.std.specs.Prelude.{⊤};
+
+    ghost State = { ⊤ };
+
+    ghost state = { λ _. tt };
+
+    ghost config = { λ s. s.config.now };
+
+    ghost publishes = { λ _ _ _ _ _. ⊤ };
+
+    ghost relaunches = { λ _ _ _ _. ⊤ };
+
+    fn publish(&mut self, template: u16, content: Items<u8>) -> Publishing {
+        self.template = template;
+        self.content = Some(content);
+        self.published = self.published.saturating_add(1);
+        self.publishing
+    }
+
+    fn relaunch(&mut self, service: u16) -> Relaunching {
+        self.service = service;
+        self.relaunched = self.relaunched.saturating_add(1);
+        self.relaunching
+    }
+}
+
+fn none<T>(alloc: Global) -> Items<T> {
+    Items::of(Vec::new(alloc))
+}
+
+fn name(alloc: Global, text: &[u8]) -> Result<Name, Fail> {
+    match Name::new(Items::of(Vec::from_slice(alloc, text)?)) {
+        Some(name) => Ok(name),
+        None => Err(Fail::new("not as planned")),
+    }
+}
+
+fn service(alloc: Global, text: &[u8]) -> Result<ServicePlan, Fail> {
+    Ok(ServicePlan {
+        name: name(alloc, text)?,
+        words: none(alloc),
+    })
+}
+
+/// A site with the services guest and other, and the templates page and secret.
+fn declared(alloc: Global) -> Result<Config, Fail> {
+    let services = vec![in alloc; service(alloc, b"guest")?, service(alloc, b"other")?]?;
+    let templates = vec![in alloc; name(alloc, b"page")?, name(alloc, b"secret")?]?;
+    Ok(Config {
+        proxies: none(alloc),
+        services: Items::of(services),
+        templates: Items::of(templates),
+        retry: 3,
+        paths: none(alloc),
+        grants: none(alloc),
+        readables: none(alloc),
+        loggers: none(alloc),
+    })
+}
+
+fn site_of(config: &Config) -> Site<'_> {
+    Site {
+        config,
+        publishing: Publishing::Edition(1),
+        relaunching: Relaunching::Up(2),
+        content: None,
+        template: 9,
+        service: 9,
+        published: 0,
+        relaunched: 0,
+    }
+}
+
+/// One step.
+fn next<R: Wait>(
+    rt: &R,
+    alloc: Global,
+    console: &mut MemoryConn<'_>,
+    reader: &mut Reader,
+    site: &mut Site<'_>,
+) -> Stepped {
+    let config = site.config;
+    if config.services.as_slice().len() > MOST_SERVICES {
+        return Stepped::Finished;
+    }
+    if config.templates.as_slice().len() > MOST_TEMPLATES {
+        return Stepped::Finished;
+    }
+    step(rt, alloc, console, reader, config, site)
+}
+
+/// What a console of these bytes is given in at most twelve steps, and whether it then finished.
+fn answers<R: Wait>(
+    rt: &R,
+    alloc: Global,
+    bytes: &[u8],
+    site: &mut Site<'_>,
+) -> Result<(Vec<u8>, bool), AllocError> {
+    let mut console = MemoryConn::new(alloc, bytes, &[], 400, &[])?;
+    let mut reader = Reader::new(alloc)?;
+    let mut finished = false;
+    for _ in 0..12 {
+        if !finished {
+            finished = next(rt, alloc, &mut console, &mut reader, site) == Stepped::Finished;
+        }
+    }
+    Ok((Vec::from_slice(alloc, console.given())?, finished))
+}
+
+#[test]
+fn commands_are_answered(rt: HostRuntime) -> Result<(), Fail> {
+    let alloc = rt.alloc();
+    let config = declared(alloc)?;
+    let rows = [
+        (
+            b"publish page 1\na\nrelaunch nobody\nrelaunch guest\nend\nrelaunch guest\n".as_slice(),
+            b"published 1\nrefused 3 2\nrelaunched 2\n".as_slice(),
+        ),
+        (
+            b"publish x 3\na\nb\r\n \t\nend\n",
+            b"refused 1 2\nrefused 3 1\n",
+        ),
+        (b"\r\n\n\tpublish  page\t0 \r\nend\r\n", b"published 1\n"),
+        (
+            b"publish page\npublish page +1\npublish page 1 1\nend 1\nPublish page 1\n",
+            b"refused 1 1\nrefused 2 1\nrefused 3 1\nrefused 4 1\nrefused 5 1\n",
+        ),
+        (
+            b"publish page 0123456789\nrelaunch\nrelaunch guest other\nend\n",
+            b"refused 1 1\nrefused 2 1\nrefused 3 1\n",
+        ),
+        (b"publish page 262145\nabc", b"refused 1 3\n"),
+        (b"publish page 4\nabc", b"refused 1 4\n"),
+        (b"publish x 4\nabc", b"refused 1 2\n"),
+        (b"relaunch guest", b""),
+        (b"", b""),
+    ];
+    for (bytes, wanted) in rows {
+        let (given, finished) = answers(&rt, alloc, bytes, &mut site_of(&config))?;
+        assert_eq!(rt; given.as_slice(), wanted, "at {bytes:?}");
+        assert!(rt; finished, "at {bytes:?}");
+    }
+    Ok(())
+}
+
+#[test]
+fn the_site_is_told(rt: HostRuntime) -> Result<(), Fail> {
+    let alloc = rt.alloc();
+    let config = declared(alloc)?;
+    let mut steered = site_of(&config);
+    let bytes = b"publish secret 5\na\n\r\nbrelaunch other\nend\n";
+    let (_, finished) = answers(&rt, alloc, bytes, &mut steered)?;
+    assert!(rt; finished);
+    assert_eq!(rt; (steered.template, steered.service), (1, 1));
+    assert_eq!(rt; (steered.published, steered.relaunched), (1, 1));
+    let Some(content) = steered.content else {
+        panic!(rt; "not as planned");
+    };
+    assert_eq!(rt; content.as_slice(), b"a\n\r\nb".as_slice());
+    Ok(())
+}
+
+#[test]
+fn what_they_come_to_is_answered(rt: HostRuntime) -> Result<(), Fail> {
+    let alloc = rt.alloc();
+    let config = declared(alloc)?;
+    let bytes = b"relaunch guest\npublish page 1\naend\n";
+    let rows = [
+        (
+            Relaunching::Up(7),
+            Publishing::Edition(4),
+            b"relaunched 7\npublished 4\n".as_slice(),
+        ),
+        (
+            Relaunching::Dead(3),
+            Publishing::EditionsSpent,
+            b"dead 3\nrefused 2 5\n",
+        ),
+        (
+            Relaunching::Spent,
+            Publishing::NoMemory,
+            b"refused 1 6\nno memory\n",
+        ),
+        (
+            Relaunching::NoMemory,
+            Publishing::Edition(1),
+            b"no memory\npublished 1\n",
+        ),
+    ];
+    for (relaunching, publishing, wanted) in rows {
+        let mut steered = site_of(&config);
+        steered.relaunching = relaunching;
+        steered.publishing = publishing;
+        let (given, _) = answers(&rt, alloc, bytes, &mut steered)?;
+        assert_eq!(rt; given.as_slice(), wanted);
+    }
+    Ok(())
+}
+
+/// A line of so many bytes that is a relaunch of guest, and its end.
+fn padded(alloc: Global, len: usize, end: &[u8]) -> Result<Vec<u8>, AllocError> {
+    let mut line = Vec::from_slice(alloc, b"relaunch ")?;
+    for _ in 14..len {
+        line.push(b' ')?;
+    }
+    line.extend_from_slice(b"guest")?;
+    line.extend_from_slice(end)?;
+    Ok(line)
+}
+
+#[test]
+fn lines_have_a_greatest_length(rt: HostRuntime) -> Result<(), Fail> {
+    let alloc = rt.alloc();
+    let config = declared(alloc)?;
+    let rows = [
+        (256, b"\n".as_slice(), b"relaunched 2\n".as_slice()),
+        (256, b"\r\n", b"relaunched 2\n"),
+        (257, b"\n", b"refused 1 1\n"),
+        (257, b"\r\n", b"refused 1 1\n"),
+        (1_000, b"\nend\n", b"refused 1 1\n"),
+    ];
+    for (len, end, wanted) in rows {
+        let line = padded(alloc, len, end)?;
+        let (given, finished) = answers(&rt, alloc, &line, &mut site_of(&config))?;
+        assert_eq!(rt; given.as_slice(), wanted, "at {len}");
+        assert!(rt; finished, "at {len}");
+    }
+    Ok(())
+}
+
+#[test]
+fn faults_of_a_console_are_told(rt: HostRuntime) -> Result<(), Fail> {
+    let alloc = rt.alloc();
+    let config = declared(alloc)?;
+    let mut steered = site_of(&config);
+    let mut reader = Reader::new(alloc)?;
+    let mut deaf = MemoryConn::new(alloc, b"relaunch guest\n", &[], 9, &[3])?;
+    let unread = next(&rt, alloc, &mut deaf, &mut reader, &mut steered);
+    assert!(rt; unread == Stepped::ConsoleFault(None));
+    assert_eq!(rt; (steered.relaunched, deaf.faults()), (0, 1));
+    let mut mute = MemoryConn::new(alloc, b"relaunch guest\n", &[], 9, &[])?;
+    let untold = next(&rt, alloc, &mut mute, &mut reader, &mut steered);
+    assert!(rt; untold == Stepped::ConsoleFault(Some(Answer::Relaunched(2))));
+    assert_eq!(rt; mute.given(), b"relaunche".as_slice());
+    assert_eq!(rt; (steered.relaunched, mute.faults()), (1, 1));
+    Ok(())
+}
+
+#[test]
+fn nothing_behind_the_end_is_taken(rt: HostRuntime) -> Result<(), Fail> {
+    let alloc = rt.alloc();
+    let config = declared(alloc)?;
+    let mut steered = site_of(&config);
+    let mut reader = Reader::new(alloc)?;
+    let mut console = MemoryConn::new(alloc, b"\npublish page 2\nabcd\nend\nmore", &[], 99, &[])?;
+    let first = next(&rt, alloc, &mut console, &mut reader, &mut steered);
+    assert!(rt; first == Stepped::Answered(Answer::Published(1)));
+    assert_eq!(rt; console.left(), b"cd\nend\nmore".as_slice());
+    let second = next(&rt, alloc, &mut console, &mut reader, &mut steered);
+    assert!(rt;
+        second
+            == Stepped::Answered(Answer::Refused {
+                line: 3,
+                rule: Rule::NoCommand
+            })
+    );
+    let last = next(&rt, alloc, &mut console, &mut reader, &mut steered);
+    assert!(rt; last == Stepped::Finished);
+    assert_eq!(rt; console.left(), b"more".as_slice());
+    assert_eq!(rt; Rule::NoCommand.number(), 1);
+    Ok(())
+}

@@ -1,0 +1,6 @@
+pub mod Stays
+pub mod Places
+pub mod Names
+pub mod Joins
+pub mod Replies
+pub mod Onlys

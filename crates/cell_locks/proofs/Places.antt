@@ -1,0 +1,83 @@
+-- A seat of a row, and the row after its turn.
+use Rattle.std.proofs.Common.{◌≡◌, ℕ, zero, suc, ◌+◌, ◌<◌, List, [], ◌∷◌, map, length, get_or, set, refl, sym, ap, ◌∙◌, subst, arith}
+use Rattle.std.proofs.lemmas.List.{length-map}
+use Rattle.monitor_model.specs.declared.record.CellEvent.{CellEvent}
+use Rattle.turn_lock.specs.Seats.{TurnIs, SeatIs}
+use Rattle.turn_lock.specs.Rows.{RestsAt}
+use Rattle.turn_lock.proofs.Rows.{rest_length, rest_at, rest_set, rests_still}
+use Rattle.cell_locks.specs.Row.{Rise, AllAlone, CellsSeen, AreLocks, AreSeats, OnlyAt, seen_at}
+
+rise_at : (k : ℕ) (ts : List TurnIs) (i : ℕ) (t : TurnIs) → Rise k (map (λ t. t.label) ts) → i < length ts → t ≡ get_or ts i t → t.label ≡ k + i
+rise_at k [] i t h l e = absurd (omega arith)
+rise_at k (u ∷ ts) zero t h l e = ap (λ (x : TurnIs). x.label) e ∙ (h.0 ∙ (let q : k ≡ k + 0 = omega arith in q))
+rise_at k (u ∷ ts) (suc i) t h l e = rise_at (suc k) ts i t h.1 (omega arith) e ∙ (let q : suc k + i ≡ k + suc i = omega arith in q)
+
+alone_at : (n : ℕ) (as' : List (SeatIs CellEvent)) (i : ℕ) (a : SeatIs CellEvent) → AllAlone n as' → i < length as' → a ≡ get_or as' i a → (a.number ≡ n) × (a.olds ≡ [])
+alone_at n [] i a h l e = absurd (omega arith)
+alone_at n (x ∷ as') zero a h l e = subst (λ (y : SeatIs CellEvent). (y.number ≡ n) × (y.olds ≡ [])) (sym e) (h.0, h.1)
+alone_at n (x ∷ as') (suc i) a h l e = alone_at n as' i a h.2 (omega arith) e
+
+alone_set : (n : ℕ) (as' : List (SeatIs CellEvent)) (i : ℕ) (b : SeatIs CellEvent) → AllAlone n as' → b.number ≡ n → b.olds ≡ [] → AllAlone n (set as' i b)
+alone_set n [] i b h p q = tt
+alone_set n (x ∷ as') zero b h p q = (p, q, h.2)
+alone_set n (x ∷ as') (suc i) b h p q = (h.0, h.1, alone_set n as' i b h.2 p q)
+
+seen_get : (as' : List (SeatIs CellEvent)) (i : ℕ) (a : SeatIs CellEvent) → i < length as' → a ≡ get_or as' i a → get_or (map (λ x. x.seen) as') i [] ≡ a.seen
+seen_get [] i a l e = absurd (omega arith)
+seen_get (x ∷ as') zero a l e = ap (λ (y : SeatIs CellEvent). y.seen) (sym e)
+seen_get (x ∷ as') (suc i) a l e = seen_get as' i a (omega arith) e
+
+map_set : {A B : Type 0} (f : A → B) (xs : List A) (i : ℕ) (x : A) → map f (set xs i x) ≡ set (map f xs) i (f x)
+map_set f [] i x = refl
+map_set f (y ∷ xs) zero x = refl
+map_set f (y ∷ xs) (suc i) x = ap (λ l. f y ∷ l) (map_set f xs i x)
+
+get_set : {A : Type 0} (xs : List A) (i : ℕ) (x d : A) → i < length xs → get_or (set xs i x) i d ≡ x
+get_set [] i x d l = absurd (omega arith)
+get_set (y ∷ xs) zero x d l = refl
+get_set (y ∷ xs) (suc i) x d l = get_set xs i x d (omega arith)
+
+-- what the seats of a number have seen
+abbrev pub seen_of : ℕ → List (SeatIs CellEvent) → CellsSeen
+seen_of n as' = record { number = n; cells = map (λ a. a.seen) as' }
+
+module _ (names ts : List TurnIs) (gates n : ℕ) (as' : List (SeatIs CellEvent)) (seen : CellsSeen) (locks : AreLocks names ts gates) (seats : AreSeats names n as') (is : seen_of n as' ≡ seen) (s : ℕ) (short : s < length seen.cells) where
+  pub within : (s < length as') × (s < length ts) × (s < gates)
+  within =
+      let a = ap (λ (x : CellsSeen). length x.cells) is in
+      let m = length-map as' (λ a. a.seen) in
+      let r = rest_length names as' seats.rest in
+      let k = ap length locks.named in
+      let g = locks.gated in
+      (omega arith, omega arith, omega arith)
+
+  module _ (t : TurnIs) (a : SeatIs CellEvent) (t_is : t ≡ get_or ts s t) (a_is : a ≡ get_or as' s a) where
+    pub rests : RestsAt t a
+    rests = rest_at names as' seats.rest s t a within.0 (t_is ∙ ap (λ l. get_or l s t) locks.named) a_is
+
+    pub label_here : a.label ≡ s
+    label_here = rests.label_is ∙ (rise_at 0 ts s t locks.cells within.1 t_is ∙ (let q : 0 + s ≡ s = omega arith in q))
+
+    pub number_here : a.number ≡ seen.number
+    number_here = (alone_at n as' s a seats.alone within.0 a_is).0 ∙ ap (λ (x : CellsSeen). x.number) is
+
+    pub seen_here : a.seen ≡ seen_at seen s
+    seen_here = sym (seen_get as' s a within.0 a_is) ∙ ap (λ (x : CellsSeen). seen_at x s) is
+
+    module _ (b : SeatIs CellEvent) (b_is : b ≡ record { lock = a.lock; number = a.number; seen = b.seen; held = a.held; label = a.label; olds = a.olds }) where
+      pub seats_still : AreSeats names n (set as' s b)
+      seats_still =
+          let one = alone_at n as' s a seats.alone within.0 a_is in
+          record {
+            rest = rest_set names as' seats.rest s t b within.0 (t_is ∙ ap (λ l. get_or l s t) locks.named)
+                (rests_still t a b rests (ap (λ (x : SeatIs CellEvent). x.lock) b_is) (ap (λ (x : SeatIs CellEvent). x.label) b_is) (ap (λ (x : SeatIs CellEvent). x.held) b_is));
+            alone = alone_set n as' s b seats.alone (ap (λ (x : SeatIs CellEvent). x.number) b_is ∙ one.0) (ap (λ (x : SeatIs CellEvent). x.olds) b_is ∙ one.1);
+          }
+
+      pub seen_then : b.seen ≡ seen_at (seen_of n (set as' s b)) s
+      seen_then = sym (ap (λ l. get_or l s []) (map_set (λ a. a.seen) as' s b) ∙ get_set (map (λ a. a.seen) as') s b.seen [] (let m = length-map as' (λ a. a.seen) in let w = within.0 in omega arith))
+
+      pub only_here : OnlyAt s seen (seen_of n (set as' s b))
+      only_here =
+          ap (λ l. record { number = n; cells = l }) (map_set (λ a. a.seen) as' s b ∙ ap (set (map (λ a. a.seen) as') s) seen_then)
+          ∙ ap (λ (x : CellsSeen). record { number = x.number; cells = set x.cells s (seen_at (seen_of n (set as' s b)) s) }) is

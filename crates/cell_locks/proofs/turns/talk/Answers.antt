@@ -1,0 +1,33 @@
+use Rattle.std.proofs.Common.{ℕ, sym, ap, subst}
+use Rattle.okws_base.specs.Turns.{GrowsBy}
+use Rattle.monitor_model.specs.declared.record.CellEvent.{CellEvent}
+use Rattle.service_cell.specs.Dialogs.{Dialogs}
+use Rattle.site_cell.specs.Held.{by_event}
+use Rattle.turn_lock.specs.Seats.{SeatIs}
+use Rattle.cell_locks.proofs.Stays.{given}
+use Rattle.cell_locks.proofs.turns.talk.Goals as goal
+
+pub give-requires-clause-adds : goal.give-requires-clause-adds
+give-requires-clause-adds g c =
+    given (by_event g.N.Numbered.launcher) c.args.seat.now c.take-cell.new.seat c.take-cell.result.holder c.take-cell.result.standing.past c.dialog-spoken.new.self.standing.past c.take-cell.ensures.holder c.take-cell.ensures.seat c.dialog-spoken.ensures.adds
+
+pub returns-clause-talked : goal.returns-clause-talked
+returns-clause-talked g c =
+    let who = g.C.Columns.asker c.args.columns.now in
+    let before = c.take-cell.result.standing in
+    let after = c.dialog-spoken.new.self.standing in
+    let shows = g.C.Columns.shows c.dialog-spoken.new.columns in
+    let seen = g.C.Columns.seen c.args.columns.now in
+    let now = g.C.Columns.seen c.dialog-spoken.new.columns in
+    let here = subst (λ (s : ℕ). Dialogs who (shows s) c.args.head c.args.content c.args.wanted before seen c.dialog-spoken.result after now) c.take-cell.ensures.label c.dialog-spoken.ensures.dialogs in
+    record {
+      before = before;
+      after = after;
+      found = record {
+        service_is = c.take-cell.ensures.label;
+        grows = subst (λ (m : ℕ). GrowsBy (by_event g.N.Numbered.launcher) m c.args.seat.now.seen before.past) (sym c.requires.worker) c.take-cell.ensures.grows;
+      };
+      talks = subst (λ a. Dialogs who (shows c.args.seat.now.label) c.args.head c.args.content c.args.wanted before seen a after now) (sym c.with_copy-answer.ensures.spoken) here;
+      gives = c.with_copy-answer.ensures.gives;
+      seen_is = ap (λ (a : SeatIs CellEvent). a.seen) c.give.ensures.seat;
+    }

@@ -1,0 +1,4 @@
+pub mod Row
+pub mod Turns
+pub mod Making
+pub mod Closing

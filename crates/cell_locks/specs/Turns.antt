@@ -1,0 +1,95 @@
+-- What one turn at a cell makes of it, and tells the number that took it.
+use Rattle.std.specs.Prelude.{◌≡◌, ◌<◌, ℕ, List, ◌∷◌, Option, option_map}
+use Rattle.okws_base.specs.Turns.{GrowsBy}
+use Rattle.okws_outer.specs.Wire.{Wire}
+use Rattle.frame_codec.specs.declared.frame.ServerFrame.{ServerFrame}
+use Rattle.frame_codec.specs.declared.frame.ServiceFrame.{ServiceFrame}
+use Rattle.frame_codec.specs.declared.frame.ServiceFrame.TheVariants as said
+use Rattle.monitor_model.specs.declared.record.CellEvent.{CellEvent}
+use Rattle.monitor_model.specs.declared.record.CellEvent.TheVariants as cell
+use Rattle.monitor_model.specs.declared.record.Dialog.{Dialog}
+use Rattle.monitor_model.specs.declared.record.End.TheVariants as end
+use Rattle.monitor_model.specs.Cell.{incarnation, last_booted}
+use Rattle.monitor_model.specs.Seen.{Seen}
+use Rattle.service_cell.specs.Asking.{Asker}
+use Rattle.service_cell.specs.Dialogs.{Dialogs}
+use Rattle.service_cell.specs.Ending.{EndsIn}
+use Rattle.service_cell.specs.Standing.{Standing}
+use Rattle.service_cell.specs.Steps.{Boots, retired}
+use Rattle.service_cell.specs.declared.answer.Spoken.{Spoken}
+use Rattle.service_cell.specs.declared.answer.Spoken.TheVariants as spoken
+use Rattle.site_cell.specs.Held.{by_event}
+use Rattle.cell_locks.specs.declared.answer.Reply.{Reply}
+use Rattle.cell_locks.specs.declared.answer.Launched.{Launched}
+use Rattle.cell_locks.specs.declared.answer.Talked.{Talked}
+use Rattle.cell_locks.specs.declared.answer.Talked.TheVariants as talked
+
+-- The cell of service s as number n finds it when its turn comes: others may have entered since it saw these events. Number k launches.
+pub record IsFound (k s n : ℕ) (seen : List CellEvent) (c : Standing) : Type 0 where
+  pub service_is : c.service ≡ s
+  pub grows : GrowsBy (by_event k) n seen c.past
+
+-- The frame of a Reply that was copied.
+abbrev pub reply_frame : Reply → ServiceFrame
+reply_frame r = said.Reply r.status r.content_type r.location r.content
+
+-- The last event is a dialog that ended in a Reply.
+abbrev pub HasReplied : List CellEvent → Type 0
+HasReplied J = (d : Dialog) × (before : List CellEvent) × (J ≡ cell.Dialog d ∷ before) × (d.end ≡ end.Reply)
+
+-- It does, where a dialog is answered so.
+abbrev pub RepliedIf : Spoken → List CellEvent → Type 0
+RepliedIf spoken.Reply J = HasReplied J
+RepliedIf (spoken.Crashed why) J = Unit {0}
+RepliedIf (spoken.Missed wanted is) J = Unit {0}
+RepliedIf (spoken.Superseded k shown) J = Unit {0}
+RepliedIf spoken.NoMemory J = Unit {0}
+
+-- The last event is a dialog that ended in this Reply.
+abbrev pub EndsInCopy : Reply → List CellEvent → Type 0
+EndsInCopy r J = (d : Dialog) × (before : List CellEvent) × (J ≡ cell.Dialog d ∷ before) × EndsIn (reply_frame r) d
+
+-- A Reply that is answered is the one in which the last event, a dialog, ended.
+abbrev pub GivesLast : Talked → List CellEvent → Type 0
+GivesLast (talked.Replied r) J = EndsInCopy r J
+GivesLast talked.Uncopied J = Unit {0}
+GivesLast (talked.Crashed why) J = Unit {0}
+GivesLast (talked.Missed wanted is) J = Unit {0}
+GivesLast (talked.Superseded k shown) J = Unit {0}
+GivesLast talked.NoMemory J = Unit {0}
+
+-- What the cell answered.
+abbrev pub spoken_of : Talked → Spoken
+spoken_of (talked.Replied r) = spoken.Reply
+spoken_of talked.Uncopied = spoken.Reply
+spoken_of (talked.Crashed why) = spoken.Crashed why
+spoken_of (talked.Missed wanted is) = spoken.Missed wanted is
+spoken_of (talked.Superseded k shown) = spoken.Superseded k shown
+spoken_of talked.NoMemory = spoken.NoMemory
+
+-- A whole dialog in one turn at the cell of service s, where the worker had seen these of its events, and J of the columns: then it has seen these, the cell's own to the last one, and `now` of the columns.
+pub record HasTalked (k : ℕ) (who : Asker) (shows : ℕ → Type 0) (head content : List ℕ) (wanted s : ℕ) (old : List CellEvent) (J : Seen) (answer : Talked) (new : List CellEvent) (now : Seen) : Type 0 where
+  pub before : Standing
+  pub after : Standing
+  pub found : IsFound k s who.worker old before
+  pub talks : Dialogs who shows head content wanted before J (spoken_of answer) after now
+  pub gives : GivesLast answer after.past
+  pub seen_is : new ≡ after.past
+
+-- An incarnation was booted at the cell of service s in one turn, or not, by who launches, number k. It had left the cell without one, and finds it so; a link that it had left there comes back.
+pub record HasLaunched {L : Type 0} (wire : L → Wire) (k : ℕ) (link : L) (boot : ServerFrame) (number s : ℕ) (old : List CellEvent) (answer : Launched L) (new : List CellEvent) : Type 0 where
+  pub before : Standing
+  pub after : Standing
+  pub found : IsFound k s k old before
+  pub empty : incarnation before.past ≡ 0
+  pub later : last_booted before.past < number
+  pub boots : Boots wire link boot number (retired before) answer.booting after
+  pub left : option_map wire answer.left ≡ before.link
+  pub seen_is : new ≡ after.past
+
+-- The cell of service s was retired in one turn, by who launches, number k, and its link was taken out.
+pub record HasRetired {L : Type 0} (wire : L → Wire) (k s : ℕ) (old : List CellEvent) (link : Option L) (new : List CellEvent) : Type 0 where
+  pub before : Standing
+  pub found : IsFound k s k old before
+  pub taken : option_map wire link ≡ before.link
+  pub seen_is : new ≡ (retired before).past

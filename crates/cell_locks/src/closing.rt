@@ -1,0 +1,137 @@
+//! Closing the locks of a site's cells with the seats of all numbers.
+
+ghost use Rattle.std.specs.Prelude.{◌≡◌, ◌⊎◌, ℕ, ◌<◌, ◌≤◌, List, [], map, reverse, length, vec_len, vec_capacity};
+ghost use Rattle.monitor_model.specs.declared.record.CellEvent.{CellEvent};
+ghost use Rattle.site_cell.specs.Held.{by_event};
+ghost use Rattle.turn_lock.specs.Rows.{AllCount, RowHas, GrownRow, NoneFrom};
+ghost use Rattle.cell_locks.specs.Row.{Rise};
+ghost use Rattle.cell_locks.specs.Closing.{CellsGrow, AllCellsGrow, HasNumber};
+
+use crate::locks::CellLocks;
+use crate::named::CellNames;
+use crate::seats::CellSeats;
+use okws_outer::stream::Link;
+use site_cell::cell::SiteCell;
+use site_cell::named::Numbered;
+use std::marker::{Model, PhantomData};
+use turn_lock::{Seat, end_row, join_row};
+
+/// The seats at a site's cells into which those of all numbers are joined. Contracts see the row of seats.
+#[derive(Drop)]
+pub struct CellEnds<N: Numbered, C: CellNames, L: Link> {
+    seats: Vec<Seat<SiteCell<N, L>>>,
+    of: PhantomData<C>,
+}
+
+impl<N: Numbered, C: CellNames, L: Link> Model for CellEnds<N, C, L> {
+    ghost use Rattle.std.specs.Prelude.{List};
+    ghost use Rattle.monitor_model.specs.declared.record.CellEvent.{CellEvent};
+    ghost use Rattle.turn_lock.specs.Seats.{SeatIs};
+    ghost use Rattle.turn_lock.specs.Rows.{RestRow};
+
+    ghost Value = { List (SeatIs CellEvent) };
+
+    ghost view = { λ e. e.seats.items };
+
+    ghost invariant = { λ e. RestRow C.cell_turns e.seats.items };
+}
+
+impl<N: Numbered, C: CellNames, L: Link> CellEnds<N, C, L> {
+    /// The seats of the first number; takes no memory.
+    pub fn of(seats: CellSeats<N, C, L>) -> Self
+        ensures told { (Js : List (List CellEvent)) → GrownRow (by_event N.launcher) result Js → CellsGrow N.launcher seats.number seats.cells Js }
+        ensures has { RowHas seats.number result }
+    {
+        let CellSeats {
+            alloc: _,
+            number: _,
+            seats,
+            of: _,
+        } = seats;
+        CellEnds {
+            seats,
+            of: PhantomData,
+        }
+    }
+
+    /// Joins the seats of another number into these; takes no memory.
+    pub fn join(&mut self, locks: &CellLocks<N, C, L>, other: CellSeats<N, C, L>)
+        ensures told { (Js : List (List CellEvent)) → GrownRow (by_event N.launcher) self.new Js → GrownRow (by_event N.launcher) self.old Js × CellsGrow N.launcher other.number other.cells Js }
+        ensures has { RowHas other.number self.new }
+        ensures still { (k : ℕ) → RowHas k self.old → RowHas k self.new }
+    {
+        let CellSeats {
+            alloc: _,
+            number: _,
+            seats,
+            of: _,
+        } = other;
+        join_row(&locks.turns, &mut self.seats, seats);
+    }
+}
+
+// The same, the last first.
+fn turned<T>(mut items: Vec<T>) -> Vec<T>
+    ensures { result.items ≡ reverse items.items }
+{
+    items.as_mut_slice().reverse();
+    items
+}
+
+/// Ends the locks with the seats into which those of all numbers were joined, and gives the cells in `done`,
+/// that of service 0 first. It takes no memory. The events of each go on from what each number had seen
+/// there by events of others alone, and none names another number.
+pub fn end_cells<N: Numbered, C: CellNames, L: Link>(
+    locks: CellLocks<N, C, L>,
+    ends: CellEnds<N, C, L>,
+    done: Vec<SiteCell<N, L>>,
+    count: u16,
+) -> Vec<SiteCell<N, L>>
+    requires counts { AllCount count locks }
+    requires all { (k : ℕ) → k < count → RowHas k ends }
+    requires room { (done.items ≡ []) × (length locks ≤ vec_capacity done) }
+    ensures told { GrownRow (by_event N.launcher) ends (map (λ c. c.standing.past) result.items) }
+    ensures none { NoneFrom (by_event N.launcher) count (map (λ c. c.standing.past) result.items) }
+    ensures services { Rise 0 (map (λ c. c.standing.service) result.items) }
+    ensures count { vec_len result ≡ length locks }
+{
+    let CellLocks {
+        turns,
+        gates: _,
+        of: _,
+    } = locks;
+    let CellEnds { seats, of: _ } = ends;
+    let mut done = done;
+    end_row(turns, seats, &mut done, count);
+    turned(done)
+}
+
+/// Joins the seats of all numbers, ends the locks, and gives the cells in `done`, that of service 0 first.
+/// It takes no memory. The events of each go on from what each number had seen there by events of others
+/// alone, and none names another number.
+pub fn close_cells<N: Numbered, C: CellNames, L: Link>(
+    locks: CellLocks<N, C, L>,
+    seats: Vec<CellSeats<N, C, L>>,
+    done: Vec<SiteCell<N, L>>,
+    count: u16,
+) -> Vec<SiteCell<N, L>>
+    requires some { 0 < vec_len seats }
+    requires counts { AllCount count locks }
+    requires all { (k : ℕ) → k < count → HasNumber k seats.items }
+    requires room { (done.items ≡ []) × (length locks ≤ vec_capacity done) }
+    ensures told { AllCellsGrow N.launcher seats.items (map (λ c. c.standing.past) result.items) }
+    ensures none { NoneFrom (by_event N.launcher) count (map (λ c. c.standing.past) result.items) }
+    ensures services { Rise 0 (map (λ c. c.standing.service) result.items) }
+    ensures count { vec_len result ≡ length locks }
+{
+    let mut left = seats;
+    let Some(first) = left.pop() else {
+        unreachable!()
+    };
+    let mut ends = CellEnds::of(first);
+    while let Some(other) = left.pop() {
+        ends.join(&locks, other);
+    }
+    left.destroy_empty();
+    end_cells(locks, ends, done, count)
+}

@@ -1,0 +1,172 @@
+//! The seats of one number at a site's cells.
+
+ghost use Rattle.std.specs.Prelude.{◌≡◌, ◌≤◌, ◌<◌, ◌+◌, length, IfOk};
+ghost use Rattle.okws_base.specs.Turns.{GrowsBy};
+ghost use Rattle.okws_base.specs.declared.limit.TheConstants.{LONGEST_FRAME, MOST_INCARNATIONS, MOST_PROXIES};
+ghost use Rattle.monitor_model.specs.Cell.{incarnation, last_booted, boot_frame};
+ghost use Rattle.service_cell.specs.Asking.{KeepsBoard};
+ghost use Rattle.service_cell.specs.Standing.{IsFresh};
+ghost use Rattle.site_cell.specs.Held.{by_event};
+ghost use Rattle.cell_locks.specs.Row.{seen_at, OnlyAt};
+ghost use Rattle.cell_locks.specs.Turns.{HasTalked, HasLaunched, HasRetired};
+
+use crate::answer::{Launched, Talked};
+use crate::locks::CellLocks;
+use crate::named::CellNames;
+use crate::turns;
+use frame_codec::frame::{Issued, ServerFrame};
+use okws_base::items::Items;
+use okws_outer::stream::Link;
+use service_cell::columns::Columns;
+use site_cell::cell::SiteCell;
+use site_cell::named::Numbered;
+use std::alloc::{AllocError, Global};
+use std::marker::{Model, PhantomData};
+use std::sync::Wait;
+use turn_lock::Seat;
+
+/// The seats of one number at all cells of a site, none of which holds its turn. Contracts see the number,
+/// and what was seen at each cell: its events, the newest first.
+#[derive(Drop)]
+pub struct CellSeats<N: Numbered, C: CellNames, L: Link> {
+    pub(crate) alloc: Global,
+    pub(crate) number: u16,
+    pub(crate) seats: Vec<Seat<SiteCell<N, L>>>,
+    pub(crate) of: PhantomData<C>,
+}
+
+impl<N: Numbered, C: CellNames, L: Link> Model for CellSeats<N, C, L> {
+    ghost use Rattle.std.specs.Prelude.{map};
+    ghost use Rattle.cell_locks.specs.Row.{CellsSeen, AreSeats};
+
+    ghost Value = { CellsSeen };
+
+    ghost view = { λ s. record { number = s.number; cells = map (λ a. a.seen) s.seats.items } };
+
+    ghost invariant = { λ s. AreSeats C.cell_turns s.number s.seats.items };
+}
+
+impl<N: Numbered, C: CellNames, L: Link> CellSeats<N, C, L> {
+    /// The number that the entries of these seats name.
+    pub fn number(&self) -> u16
+        ensures { result ≡ self.now.number }
+    {
+        self.number
+    }
+
+    /// How many cells there are: one for each of the locks.
+    pub fn services(&self) -> usize
+        ensures cells { result ≡ length self.now.cells }
+        ensures locks { result ≡ length C.cell_turns }
+    {
+        self.seats.len()
+    }
+
+    /// A whole dialog of a worker at the cell of a service, in one turn. Where the service replies, the Reply
+    /// is copied before the turn is given up.
+    pub fn dialog<R: Wait, W: Columns>(
+        &mut self,
+        rt: &R,
+        locks: &CellLocks<N, C, L>,
+        service: u16,
+        head: Items<u8>,
+        content: Items<u8>,
+        wanted: u32,
+        columns: &mut W,
+    ) -> Talked
+        requires worker { (W.asker columns.old).worker ≡ self.old.number }
+        requires service { service < length self.old.cells }
+        requires wanted { 0 < wanted }
+        requires declared { service < length (W.asker columns.old).config.services }
+        requires short { length head + length content + 9 ≤ LONGEST_FRAME }
+        ensures talked { HasTalked N.launcher (W.asker columns.old) (W.shows columns.new service) head content wanted service (seen_at self.old service) (W.seen columns.old) result (seen_at self.new service) (W.seen columns.new) }
+        ensures only { OnlyAt service self.old self.new }
+        ensures board { KeepsBoard W.asker W.shows W.token_seed columns.old columns.new }
+    {
+        let alloc = self.alloc;
+        let i = service as usize;
+        let seat = &mut self.seats[i];
+        let lock = &locks.turns[i];
+        let gate = &locks.gates[i];
+        turns::talk(rt, alloc, gate, lock, seat, head, content, wanted, columns)
+    }
+
+    /// The incarnation that is there in a turn, 0 for none.
+    pub fn incarnation<R: Wait>(&mut self, rt: &R, locks: &CellLocks<N, C, L>, service: u16) -> u32
+        requires { service < length self.old.cells }
+        ensures incarnation { result ≡ incarnation (seen_at self.new service) }
+        ensures grows { GrowsBy (by_event N.launcher) self.old.number (seen_at self.old service) (seen_at self.new service) }
+        ensures only { OnlyAt service self.old self.new }
+    {
+        let i = service as usize;
+        let seat = &mut self.seats[i];
+        let lock = &locks.turns[i];
+        turns::look(rt, lock, seat)
+    }
+
+    /// The tokens of an incarnation of a service, as `boot` wants them.
+    pub fn tokens<R: Wait>(
+        &mut self,
+        rt: &R,
+        locks: &CellLocks<N, C, L>,
+        service: u16,
+        number: u32,
+    ) -> Result<Vec<Issued>, AllocError>
+        requires service { service < length self.old.cells }
+        requires first { 0 < number }
+        requires most { number ≤ MOST_INCARNATIONS }
+        requires proxies { length N.site.proxies ≤ MOST_PROXIES }
+        ensures tokens { IfOk result (λ v. ServerFrame.Boot service number v.items ≡ boot_frame N.site N.run_seed service number) }
+        ensures few { IfOk result (λ v. length v.items ≤ MOST_PROXIES) }
+        ensures grows { GrowsBy (by_event N.launcher) self.old.number (seen_at self.old service) (seen_at self.new service) }
+        ensures only { OnlyAt service self.old self.new }
+    {
+        let i = service as usize;
+        let seat = &mut self.seats[i];
+        let lock = &locks.turns[i];
+        turns::tokens(rt, lock, seat, number)
+    }
+
+    /// Boots an incarnation at the cell of a service, in one turn, where the launcher had left it without
+    /// one: it is still so, since no other number boots. Its Boot frame is put first on the link.
+    pub fn boot<R: Wait>(
+        &mut self,
+        rt: &R,
+        locks: &CellLocks<N, C, L>,
+        service: u16,
+        link: L,
+        number: u32,
+        tokens: Items<Issued>,
+    ) -> Launched<L>
+        requires launcher { self.old.number ≡ N.launcher }
+        requires service { service < length self.old.cells }
+        requires empty { incarnation (seen_at self.old service) ≡ 0 }
+        requires later { last_booted (seen_at self.old service) < number }
+        requires few { length tokens < 256 }
+        requires tokens { ServerFrame.Boot service number tokens ≡ boot_frame N.site N.run_seed service number }
+        requires fresh { IsFresh (L.wire link) }
+        ensures launched { HasLaunched L.wire N.launcher link (ServerFrame.Boot service number tokens) number service (seen_at self.old service) result (seen_at self.new service) }
+        ensures only { OnlyAt service self.old self.new }
+    {
+        let i = service as usize;
+        let seat = &mut self.seats[i];
+        let lock = &locks.turns[i];
+        turns::boot(rt, lock, seat, link, number, tokens)
+    }
+
+    /// Retires the incarnation at the cell of a service, where there is one, in one turn, and takes the link
+    /// out. Takes no memory.
+    pub fn retire<R: Wait>(&mut self, rt: &R, locks: &CellLocks<N, C, L>, service: u16) -> Option<L>
+        requires launcher { self.old.number ≡ N.launcher }
+        requires service { service < length self.old.cells }
+        ensures retired { HasRetired L.wire N.launcher service (seen_at self.old service) result (seen_at self.new service) }
+        ensures empty { incarnation (seen_at self.new service) ≡ 0 }
+        ensures last { last_booted (seen_at self.new service) ≡ last_booted (seen_at self.old service) }
+        ensures only { OnlyAt service self.old self.new }
+    {
+        let i = service as usize;
+        let seat = &mut self.seats[i];
+        let lock = &locks.turns[i];
+        turns::retire(rt, lock, seat)
+    }
+}

@@ -1,0 +1,199 @@
+//! One turn at one cell.
+
+ghost use Rattle.std.specs.Prelude.{◌≡◌, ◌≤◌, ◌<◌, ◌+◌, false, length, IfOk};
+ghost use Rattle.okws_base.specs.Turns.{GrowsBy};
+ghost use Rattle.okws_base.specs.declared.limit.TheConstants.{LONGEST_FRAME, MOST_INCARNATIONS, MOST_PROXIES};
+ghost use Rattle.monitor_model.specs.Cell.{incarnation, last_booted, boot_frame};
+ghost use Rattle.service_cell.specs.Asking.{KeepsBoard};
+ghost use Rattle.service_cell.specs.Ending.{IsReply};
+ghost use Rattle.service_cell.specs.Standing.{IsFresh};
+ghost use Rattle.site_cell.specs.Held.{by_event};
+ghost use Rattle.cell_locks.specs.Turns.{reply_frame, spoken_of, HasReplied, RepliedIf, EndsInCopy, GivesLast, HasTalked, HasLaunched, HasRetired};
+
+use crate::answer::{Launched, Reply, Talked};
+use frame_codec::frame::{Issued, ServerFrame, ServiceFrame};
+use okws_base::items::{Exact, Items};
+use okws_outer::stream::Link;
+use service_cell::answer::Spoken;
+use service_cell::columns::Columns;
+use site_cell::cell::SiteCell;
+use site_cell::named::Numbered;
+use std::alloc::{AllocError, Global};
+use std::sync::{Mutex, Wait};
+use turn_lock::{Seat, Turn};
+
+// A copy of a Reply.
+fn copy_reply(alloc: Global, frame: &ServiceFrame) -> Result<Reply, AllocError>
+    requires { IsReply frame.now }
+    ensures { IfOk result (λ r. reply_frame r ≡ frame.now) }
+{
+    match frame {
+        ServiceFrame::Reply {
+            status,
+            content_type,
+            location,
+            content,
+        } => Ok(Reply {
+            status: *status,
+            content_type: content_type.copy(alloc)?,
+            location: location.copy(alloc)?,
+            content: content.copy(alloc)?,
+        }),
+        ServiceFrame::Open { .. }
+        | ServiceFrame::Call { .. }
+        | ServiceFrame::Get(_)
+        | ServiceFrame::Log(_) => unreachable!(),
+    }
+}
+
+// A copy of the Reply in which the last dialog ended.
+fn last_reply<N: Numbered, L: Link>(
+    alloc: Global,
+    cell: &SiteCell<N, L>,
+) -> Result<Reply, AllocError>
+    requires { HasReplied cell.now.standing.past }
+    ensures { IfOk result (λ r. EndsInCopy r cell.now.standing.past) }
+{
+    let Some(dialog) = cell.last_dialog() else {
+        unreachable!()
+    };
+    let Some(frame) = dialog.reply() else {
+        unreachable!()
+    };
+    copy_reply(alloc, frame)
+}
+
+// What a dialog answered, with a copy of the Reply in which it ended.
+fn with_copy<N: Numbered, L: Link>(alloc: Global, spoken: Spoken, cell: &SiteCell<N, L>) -> Talked
+    requires { RepliedIf spoken cell.now.standing.past }
+    ensures spoken { spoken_of result ≡ spoken }
+    ensures gives { GivesLast result cell.now.standing.past }
+{
+    match spoken {
+        Spoken::Reply => match last_reply(alloc, cell) {
+            Ok(reply) => Talked::Replied(reply),
+            Err(_) => Talked::Uncopied,
+        },
+        Spoken::Crashed(cause) => Talked::Crashed(cause),
+        Spoken::Missed { wanted, is } => Talked::Missed { wanted, is },
+        Spoken::Superseded { incarnation, shown } => Talked::Superseded { incarnation, shown },
+        Spoken::NoMemory => Talked::NoMemory,
+    }
+}
+
+/// A whole dialog in one turn, behind the gate.
+pub(crate) fn talk<R: Wait, N: Numbered, L: Link, C: Columns>(
+    rt: &R,
+    alloc: Global,
+    gate: &Mutex<bool>,
+    lock: &Turn<SiteCell<N, L>>,
+    seat: &mut Seat<SiteCell<N, L>>,
+    head: Items<u8>,
+    content: Items<u8>,
+    wanted: u32,
+    columns: &mut C,
+) -> Talked
+    requires lock { seat.old.lock ≡ lock.now.id }
+    requires free { seat.old.held ≡ false }
+    requires worker { (C.asker columns.old).worker ≡ seat.old.number }
+    requires wanted { 0 < wanted }
+    requires declared { seat.old.label < length (C.asker columns.old).config.services }
+    requires short { length head + length content + 9 ≤ LONGEST_FRAME }
+    ensures talked { HasTalked N.launcher (C.asker columns.old) (C.shows columns.new seat.old.label) head content wanted seat.old.label seat.old.seen (C.seen columns.old) result seat.new.seen (C.seen columns.new) }
+    ensures seat { seat.new ≡ record seat.old { seen = seat.new.seen } }
+    ensures board { KeepsBoard C.asker C.shows C.token_seed columns.old columns.new }
+{
+    let gate = gate.lock(rt);
+    let mut cell = lock.take(rt, seat);
+    let spoken = cell.dialog(head, content, wanted, columns);
+    let answer = with_copy(alloc, spoken, &cell);
+    lock.give(seat, cell);
+    drop(gate);
+    answer
+}
+
+/// The incarnation that is there in a turn, 0 for none.
+pub(crate) fn look<R: Wait, N: Numbered, L: Link>(
+    rt: &R,
+    lock: &Turn<SiteCell<N, L>>,
+    seat: &mut Seat<SiteCell<N, L>>,
+) -> u32
+    requires lock { seat.old.lock ≡ lock.now.id }
+    requires free { seat.old.held ≡ false }
+    ensures incarnation { result ≡ incarnation seat.new.seen }
+    ensures grows { GrowsBy (by_event N.launcher) seat.old.number seat.old.seen seat.new.seen }
+    ensures seat { seat.new ≡ record seat.old { seen = seat.new.seen } }
+{
+    let cell = lock.take(rt, seat);
+    let incarnation = cell.incarnation();
+    lock.give(seat, cell);
+    incarnation
+}
+
+/// The tokens of an incarnation, which are asked for in a turn.
+pub(crate) fn tokens<R: Wait, N: Numbered, L: Link>(
+    rt: &R,
+    lock: &Turn<SiteCell<N, L>>,
+    seat: &mut Seat<SiteCell<N, L>>,
+    number: u32,
+) -> Result<Vec<Issued>, AllocError>
+    requires lock { seat.old.lock ≡ lock.now.id }
+    requires free { seat.old.held ≡ false }
+    requires first { 0 < number }
+    requires most { number ≤ MOST_INCARNATIONS }
+    requires proxies { length N.site.proxies ≤ MOST_PROXIES }
+    ensures tokens { IfOk result (λ v. ServerFrame.Boot seat.old.label number v.items ≡ boot_frame N.site N.run_seed seat.old.label number) }
+    ensures few { IfOk result (λ v. length v.items ≤ MOST_PROXIES) }
+    ensures grows { GrowsBy (by_event N.launcher) seat.old.number seat.old.seen seat.new.seen }
+    ensures seat { seat.new ≡ record seat.old { seen = seat.new.seen } }
+{
+    let cell = lock.take(rt, seat);
+    let tokens = cell.tokens(number);
+    lock.give(seat, cell);
+    tokens
+}
+
+/// Boots an incarnation in one turn, where the launcher had left the cell without one.
+pub(crate) fn boot<R: Wait, N: Numbered, L: Link>(
+    rt: &R,
+    lock: &Turn<SiteCell<N, L>>,
+    seat: &mut Seat<SiteCell<N, L>>,
+    link: L,
+    number: u32,
+    tokens: Items<Issued>,
+) -> Launched<L>
+    requires lock { seat.old.lock ≡ lock.now.id }
+    requires free { seat.old.held ≡ false }
+    requires launcher { seat.old.number ≡ N.launcher }
+    requires empty { incarnation seat.old.seen ≡ 0 }
+    requires later { last_booted seat.old.seen < number }
+    requires few { length tokens < 256 }
+    requires tokens { ServerFrame.Boot seat.old.label number tokens ≡ boot_frame N.site N.run_seed seat.old.label number }
+    requires fresh { IsFresh (L.wire link) }
+    ensures launched { HasLaunched L.wire N.launcher link (ServerFrame.Boot seat.old.label number tokens) number seat.old.label seat.old.seen result seat.new.seen }
+    ensures seat { seat.new ≡ record seat.old { seen = seat.new.seen } }
+{
+    let mut cell = lock.take(rt, seat);
+    let left = cell.retire();
+    let booting = cell.boot(link, number, tokens);
+    lock.give(seat, cell);
+    Launched { booting, left }
+}
+
+/// Retires the incarnation, where there is one, in one turn, and takes the link out.
+pub(crate) fn retire<R: Wait, N: Numbered, L: Link>(
+    rt: &R,
+    lock: &Turn<SiteCell<N, L>>,
+    seat: &mut Seat<SiteCell<N, L>>,
+) -> Option<L>
+    requires lock { seat.old.lock ≡ lock.now.id }
+    requires free { seat.old.held ≡ false }
+    requires launcher { seat.old.number ≡ N.launcher }
+    ensures retired { HasRetired L.wire N.launcher seat.old.label seat.old.seen result seat.new.seen }
+    ensures seat { seat.new ≡ record seat.old { seen = seat.new.seen } }
+{
+    let mut cell = lock.take(rt, seat);
+    let link = cell.retire();
+    lock.give(seat, cell);
+    link
+}

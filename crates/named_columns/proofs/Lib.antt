@@ -1,0 +1,3 @@
+pub mod Adds
+pub mod Keeps
+pub mod Narrow

@@ -1,0 +1,26 @@
+use Rattle.std.proofs.Common.{◌≡◌, ◌∷◌, ap, subst, sym}
+use Rattle.std.proofs.lemmas.Result.{on_err_weaker, IfOk-weaker}
+use Rattle.okws_plan.specs.Rules.{QueriesKeepRules}
+use Rattle.okws_plan.specs.declared.configuration.Config.{Config}
+use Rattle.okws_plan.specs.declared.event.Mark.{Mark}
+use Rattle.okws_plan.specs.declared.event.ProxyEvent.TheVariants as event
+use Rattle.service_cell.specs.Asking.{IsNarrow}
+use Rattle.db_proxy.specs.Seen.{Seen as Proxy}
+use Rattle.named_columns.proofs.Adds.{adds_marked}
+use Rattle.named_columns.proofs.Narrow.{verdict_narrow}
+use Rattle.named_columns.proofs.proxy.SiteProxy.call.Goals as goal
+
+pub returns-clause-narrow : goal.returns-clause-narrow
+returns-clause-narrow g c =
+    let proxy = c.self.inside.proxy in
+    IfOk-weaker c.call.result _ IsNarrow
+    (λ v q.
+    verdict_narrow proxy.config proxy.number proxy.past c.args.call q.0 q.4.0 proxy.told v (subst (λ (D : Config). QueriesKeepRules D proxy.number) (sym c.self.invariant.config_is) (c.self.invariant.rules.queries proxy.number)) q.4.1 q.4.2 q.5)
+    c.call.ensures.entry
+
+pub returns-clause-adds : goal.returns-clause-adds
+returns-clause-adds g c =
+    let proxy = c.self.inside.proxy in
+    rw (← c.self.view_is) (adds_marked c.call.result proxy.holder (λ mark. event.Call c.args.call mark) proxy.past c.call.new.self.past
+    (IfOk-weaker c.call.result _ (λ v. (mark : Mark) × (c.call.new.self.past ≡ record { worker = proxy.holder; event = event.Call c.args.call mark } ∷ proxy.past)) (λ v q. (q.0, q.1)) c.call.ensures.entry)
+    (on_err_weaker c.call.result (ap (λ (z : Proxy). z.past)) c.call.ensures.err))

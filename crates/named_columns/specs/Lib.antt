@@ -1,0 +1,4 @@
+pub mod Launched
+pub mod Counts
+pub mod Held
+pub mod Kept

@@ -1,0 +1,8 @@
+use Rattle.std.proofs.Common.{◌≡◌}
+use Rattle.sqlite_keeper.specs.Making.{Prepares}
+use Rattle.sqlite_keeper.proofs.Turns.{GoesThrough}
+use Rattle.sqlite_keeper.proofs.making.prepare_all.Given as goal
+
+abbrev pub invariant-loop-at : goal.invariant-loop-at
+invariant-loop-at g l =
+    (l.tx.conn.ghost_name ≡ l.initial.tx.conn.ghost_name) × GoesThrough g.S.Store (Prepares g.S.Store) l.tables l.initial.tx.conn.now l.at l.tx.conn.now

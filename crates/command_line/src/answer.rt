@@ -1,0 +1,141 @@
+//! What is told of words that are no command.
+
+use crate::command::MOST_EVENTS;
+use clap::error::ErrorKind;
+use clap::{Arg, Command, Error, value_parser};
+use okws_base::limit::{MOST_CONNECTIONS, MOST_DOORS};
+use std::alloc::{AllocError, Global};
+
+/// Why words are no command that are one but for the spelling of a number.
+const SPELLING: &str = "a number is written in decimal digits, without sign or leading zero";
+
+/// The path of a file that a command needs.
+fn path<'a>(alloc: Global, name: &'a str, help: &'a str) -> Arg<'a> {
+    Arg::new(alloc, name).required(true).help(help)
+}
+
+/// An option whose value is the path of a file.
+fn file<'a>(alloc: Global, name: &'a str, help: &'a str) -> Arg<'a> {
+    Arg::new(alloc, name)
+        .long(name)
+        .value_name("FILE")
+        .help(help)
+}
+
+fn config<'a>(alloc: Global) -> Arg<'a> {
+    path(alloc, "CONFIG", "The configuration of the site")
+}
+
+fn check<'a>(alloc: Global) -> Result<Command<'a>, AllocError> {
+    Command::new(alloc, "check")
+        .about("Reads a configuration, and lists its queries")
+        .arg(config(alloc))
+}
+
+fn play<'a>(alloc: Global) -> Result<Command<'a>, AllocError> {
+    let script = path(
+        alloc,
+        "SCRIPT",
+        "The script, which says what the services send",
+    );
+    Command::new(alloc, "play")
+        .about("Plays a script of a site, without sockets or programs")
+        .arg(config(alloc))?
+        .arg(script)
+}
+
+fn drill<'a>(alloc: Global) -> Result<Command<'a>, AllocError> {
+    let seed = Arg::new(alloc, "SEED")
+        .required(true)
+        .value_parser(value_parser!(u64))
+        .help("The number that gives the script, 0 to 18446744073709551615");
+    let events = Arg::new(alloc, "EVENTS")
+        .required(true)
+        .value_parser(value_parser!(u32).range(0..=i64::from(MOST_EVENTS)))
+        .help("How many events it has, 0 to 100000");
+    Command::new(alloc, "drill")
+        .about("Plays a script that a number gives, and counts what was heard")
+        .arg(seed)?
+        .arg(events)
+}
+
+fn port<'a>(alloc: Global) -> Arg<'a> {
+    Arg::new(alloc, "port")
+        .long("port")
+        .value_name("PORT")
+        .required(true)
+        .value_parser(value_parser!(u16).range(1..))
+        .help("The port of 127.0.0.1, 1 to 65535")
+}
+
+fn doors<'a>(alloc: Global) -> Arg<'a> {
+    Arg::new(alloc, "doors")
+        .long("doors")
+        .value_name("DOORS")
+        .value_parser(value_parser!(u16).range(1..=64))
+        .help("How many connections are served at a time, 1 to 64; 2 where it isn't told")
+}
+
+fn connections<'a>(alloc: Global) -> Arg<'a> {
+    Arg::new(alloc, "serve")
+        .long("serve")
+        .value_name("COUNT")
+        .required(true)
+        .value_parser(value_parser!(u32).range(0..=i64::from(MOST_CONNECTIONS)))
+        .help("How many connections are served in all, 0 to 1000000")
+}
+
+fn serve<'a>(alloc: Global) -> Result<Command<'a>, AllocError> {
+    Command::new(alloc, "serve")
+        .about("Serves a site, whose services are programs")
+        .arg(config(alloc))?
+        .arg(port(alloc))?
+        .arg(doors(alloc))?
+        .arg(connections(alloc))?
+        .arg(file(
+            alloc,
+            "store",
+            "Where rows are kept; in memory where it isn't told",
+        ))?
+        .arg(file(
+            alloc,
+            "log",
+            "Where the log is written; nowhere where it isn't told",
+        ))?
+        .arg(file(
+            alloc,
+            "audit",
+            "Where the record of the run is written at its end",
+        ))
+}
+
+/// The program, as its help and its refusals are made.
+fn program<'a>(alloc: Global) -> Result<Command<'a>, AllocError> {
+    Command::new(alloc, "okws")
+        .about("Web services in least-privilege compartments")
+        .no_binary_name(true)
+        .subcommand_required(true)
+        .arg_required_else_help(true)
+        .subcommand(check(alloc)?)?
+        .subcommand(play(alloc)?)?
+        .subcommand(drill(alloc)?)?
+        .subcommand(serve(alloc)?)
+}
+
+/// The text of a refusal.
+fn text_of(alloc: Global, error: &Error) -> Result<String, AllocError> {
+    if error.kind() == ErrorKind::OutOfMemory {
+        return Err(AllocError);
+    }
+    error.to_string(alloc)
+}
+
+/// What is told of words that are no command: the help that they ask for, or why they are none and how
+/// the program is called. Fails only where memory is refused.
+pub fn answer(alloc: Global, words: &[String]) -> Result<String, AllocError> {
+    let mut program = program(alloc)?;
+    match program.try_get_matches_from_mut(words) {
+        Err(error) => text_of(alloc, &error),
+        Ok(_) => text_of(alloc, &program.error(ErrorKind::ValueValidation, SPELLING)?),
+    }
+}

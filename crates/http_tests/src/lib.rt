@@ -4,4 +4,6 @@
 #[cfg(test)]
 mod front;
 #[cfg(test)]
+mod lines;
+#[cfg(test)]
 mod texts;

@@ -65,27 +65,3 @@ fn without_blanks(value: &[u8]) -> &[u8]
 {
     without_trailing_blanks(without_leading_blanks(value))
 }
-
-#[cfg(test)]
-mod tests {
-    use super::*;
-
-    #[test]
-    fn reads_lengths(rt: HostRuntime) {
-        let rows = [
-            (b"0".as_slice(), ContentLength::Length(0)),
-            (b" 3\t", ContentLength::Length(3)),
-            (b"000000000000000000000000000001", ContentLength::Length(1)),
-            (b"262144", ContentLength::Length(262_144)),
-            (b"262145", ContentLength::TooLarge),
-            (b"999999999999999999999999999999", ContentLength::TooLarge),
-            (b"", ContentLength::NotDigits),
-            (b" ", ContentLength::NotDigits),
-            (b"+1", ContentLength::NotDigits),
-            (b"1, 1", ContentLength::NotDigits),
-        ];
-        for (value, says) in rows {
-            assert_eq!(rt; length_of(value), says, "at {value:?}");
-        }
-    }
-}

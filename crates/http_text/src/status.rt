@@ -28,34 +28,3 @@ pub fn phrase(status: u16) -> Option<&'static str>
         _ => None,
     }
 }
-
-#[cfg(test)]
-mod tests {
-    use super::*;
-
-    #[test]
-    fn has_phrases(rt: HostRuntime) {
-        let rows = [
-            (200, "OK"),
-            (201, "Created"),
-            (303, "See Other"),
-            (400, "Bad Request"),
-            (403, "Forbidden"),
-            (404, "Not Found"),
-            (409, "Conflict"),
-            (413, "Content Too Large"),
-            (431, "Request Header Fields Too Large"),
-            (500, "Internal Server Error"),
-            (501, "Not Implemented"),
-            (502, "Bad Gateway"),
-            (503, "Service Unavailable"),
-            (507, "Insufficient Storage"),
-        ];
-        for (status, text) in rows {
-            assert_eq!(rt; phrase(status).unwrap_or(""), text, "at {status}");
-        }
-        for status in [0, 100, 204, 302, 504, 65_535] {
-            assert!(rt; phrase(status).is_none(), "at {status}");
-        }
-    }
-}

@@ -2,4 +2,8 @@
 #![tactic(auto)]
 
 #[cfg(test)]
+mod fill;
+#[cfg(test)]
 mod kit;
+#[cfg(test)]
+mod pages;

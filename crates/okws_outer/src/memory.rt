@@ -10,5 +10,3 @@ pub mod passing;
 mod room;
 pub mod sink;
 pub mod source;
-#[cfg(test)]
-mod tests;

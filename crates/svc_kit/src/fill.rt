@@ -14,9 +14,6 @@ use okws_base::items::Items;
 use okws_base::name::is_a_name;
 use std::alloc::{AllocError, Global};
 
-#[cfg(test)]
-mod tests;
-
 /// A name, and its value.
 #[derive(Clone, Copy)]
 pub struct Pair<'a> {

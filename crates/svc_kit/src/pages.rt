@@ -7,9 +7,6 @@ use frame_codec::frame::ServerFrame;
 use okws_base::items::{Exact, Items};
 use std::alloc::{AllocError, Global};
 
-#[cfg(test)]
-mod tests;
-
 /// The last edition of a template that came.
 #[derive(Drop)]
 pub struct Page {

@@ -1,16 +1,16 @@
 //! Each object in memory on a plain way and on the ways that no clause tells: which calls fail, and
 //! where the bytes are cut. Not tested here: real files, which the program's runs have.
 
-use crate::files::Files;
-use crate::memory::files::{Entry, MemoryFiles};
-use crate::memory::link::{FedLink, MemoryLink};
-use crate::memory::passing::PassingLink;
-use crate::memory::sink::MemorySink;
-use crate::memory::source::MemorySource;
-use crate::printing::print;
-use crate::reading::{ReadError, read_file, read_whole};
-use crate::stream::{Link, Pull, Put, Sink, Source};
-use crate::world::{Held, Outside, World};
+use okws_outer::files::Files;
+use okws_outer::memory::files::{Entry, MemoryFiles};
+use okws_outer::memory::link::{FedLink, MemoryLink};
+use okws_outer::memory::passing::PassingLink;
+use okws_outer::memory::sink::MemorySink;
+use okws_outer::memory::source::MemorySource;
+use okws_outer::printing::print;
+use okws_outer::reading::{ReadError, read_file, read_whole};
+use okws_outer::stream::{Link, Pull, Put, Sink, Source};
+use okws_outer::world::{Held, Outside, World};
 use std::test::Fail;
 
 const FILES: [Entry<'static>; 2] = [

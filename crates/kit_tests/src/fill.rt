@@ -1,10 +1,10 @@
 //! Templates, filled or refused. That memory may be refused isn't tested here.
 
-use crate::bounded::LONGEST_FILLED;
-use crate::fill::{FillError, Pair, fill};
 use std::alloc::Global;
 use std::process::Abort;
 use std::test::Fail;
+use svc_kit::bounded::LONGEST_FILLED;
+use svc_kit::fill::{FillError, Pair, fill};
 
 /// The template filled, or the place and the number of the rule that refuses it.
 fn filled(

@@ -1,11 +1,11 @@
 //! Which editions are kept. That nothing changes where memory is refused isn't tested here.
 
-use crate::pages::Pages;
 use frame_codec::frame::ServerFrame;
 use okws_base::items::Items;
 use std::alloc::{AllocError, Global};
 use std::process::Abort;
 use std::test::Fail;
+use svc_kit::pages::Pages;
 
 fn push(alloc: Global, name: &[u8], edition: u32, text: &[u8]) -> Result<ServerFrame, AllocError> {
     Ok(ServerFrame::Push {

@@ -52,10 +52,10 @@ pub struct ChildEnd {
 /// The children of a run.
 pub trait Children {
     /// A child that runs.
-    type Child: Child + Send + Drop;
+    type Child: Child + Drop;
 
     /// The two pipes of a child.
-    type Link: Link + Send + Drop;
+    type Link: Link + Drop;
 
     /// What is told of the children. The count of failed starts never falls, and stays at 2^64 - 1
     /// once it is there.

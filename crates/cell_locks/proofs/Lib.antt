@@ -4,3 +4,4 @@ pub mod Names
 pub mod Joins
 pub mod Replies
 pub mod Onlys
+pub mod Notes

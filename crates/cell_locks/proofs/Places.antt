@@ -37,9 +37,18 @@ get_set [] i x d l = absurd (omega arith)
 get_set (y ∷ xs) zero x d l = refl
 get_set (y ∷ xs) (suc i) x d l = get_set xs i x d (omega arith)
 
+set_same : {A : Type 0} (xs : List A) (i : ℕ) (x : A) → x ≡ get_or xs i x → set xs i x ≡ xs
+set_same [] i x e = refl
+set_same (y ∷ xs) zero x e = ap (λ z. z ∷ xs) e
+set_same (y ∷ xs) (suc i) x e = ap (λ l. y ∷ l) (set_same xs i x e)
+
 -- what the seats of a number have seen
 abbrev pub seen_of : ℕ → List (SeatIs CellEvent) → CellsSeen
 seen_of n as' = record { number = n; cells = map (λ a. a.seen) as' }
+
+-- a seat that is the same has only seen the same
+pub still_same : (a b : SeatIs CellEvent) → b ≡ a → b ≡ record { lock = a.lock; number = a.number; seen = b.seen; held = a.held; label = a.label; olds = a.olds }
+still_same a b e = e ∙ ap (λ (x : SeatIs CellEvent). record { lock = a.lock; number = a.number; seen = x.seen; held = a.held; label = a.label; olds = a.olds }) (sym e)
 
 module _ (names ts : List TurnIs) (gates n : ℕ) (as' : List (SeatIs CellEvent)) (seen : CellsSeen) (locks : AreLocks names ts gates) (seats : AreSeats names n as') (is : seen_of n as' ≡ seen) (s : ℕ) (short : s < length seen.cells) where
   pub within : (s < length as') × (s < length ts) × (s < gates)
@@ -81,3 +90,6 @@ module _ (names ts : List TurnIs) (gates n : ℕ) (as' : List (SeatIs CellEvent)
       only_here =
           ap (λ l. record { number = n; cells = l }) (map_set (λ a. a.seen) as' s b ∙ ap (set (map (λ a. a.seen) as') s) seen_then)
           ∙ ap (λ (x : CellsSeen). record { number = x.number; cells = set x.cells s (seen_at (seen_of n (set as' s b)) s) }) is
+
+      pub same_here : b ≡ a → seen_of n (set as' s b) ≡ seen
+      same_here e = ap (λ x. seen_of n (set as' s x)) e ∙ (ap (seen_of n) (set_same as' s a a_is) ∙ is)

@@ -2,3 +2,4 @@ pub mod Row
 pub mod Turns
 pub mod Making
 pub mod Closing
+pub mod Notes

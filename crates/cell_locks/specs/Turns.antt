@@ -87,9 +87,10 @@ pub record HasLaunched {L : Type 0} (wire : L → Wire) (k : ℕ) (link : L) (bo
   pub left : option_map wire answer.left ≡ before.link
   pub seen_is : new ≡ after.past
 
--- The cell of service s was retired in one turn, by who launches, number k, and its link was taken out.
-pub record HasRetired {L : Type 0} (wire : L → Wire) (k s : ℕ) (old : List CellEvent) (link : Option L) (new : List CellEvent) : Type 0 where
+-- The cell of service s was retired in one turn, by who launches, number k, and its link was taken out. Incarnation `was` was there, 0 for none.
+pub record HasRetired {L : Type 0} (wire : L → Wire) (k s : ℕ) (old : List CellEvent) (was : ℕ) (link : Option L) (new : List CellEvent) : Type 0 where
   pub before : Standing
   pub found : IsFound k s k old before
+  pub was_is : was ≡ incarnation before.past
   pub taken : option_map wire link ≡ before.link
   pub seen_is : new ≡ (retired before).past

@@ -7,5 +7,6 @@ pub mod closing;
 pub mod locks;
 pub mod making;
 pub mod named;
+pub mod note;
 pub mod seats;
 mod turns;

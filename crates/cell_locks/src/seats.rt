@@ -1,7 +1,7 @@
 //! The seats of one number at a site's cells.
 
 ghost use Rattle.std.specs.Prelude.{◌≡◌, ◌≤◌, ◌<◌, ◌+◌, length, IfOk};
-ghost use Rattle.okws_base.specs.Turns.{GrowsBy};
+ghost use Rattle.okws_base.specs.Turns.{GrowsBy, Behind};
 ghost use Rattle.okws_base.specs.declared.limit.TheConstants.{LONGEST_FRAME, MOST_INCARNATIONS, MOST_PROXIES};
 ghost use Rattle.monitor_model.specs.Cell.{incarnation, last_booted, boot_frame};
 ghost use Rattle.service_cell.specs.Asking.{KeepsBoard};
@@ -13,6 +13,7 @@ ghost use Rattle.cell_locks.specs.Turns.{HasTalked, HasLaunched, HasRetired};
 use crate::answer::{Launched, Talked};
 use crate::locks::CellLocks;
 use crate::named::CellNames;
+use crate::note::CellNote;
 use crate::turns;
 use frame_codec::frame::{Issued, ServerFrame};
 use okws_base::items::Items;
@@ -155,11 +156,16 @@ impl<N: Numbered, C: CellNames, L: Link> CellSeats<N, C, L> {
     }
 
     /// Retires the incarnation at the cell of a service, where there is one, in one turn, and takes the link
-    /// out. Takes no memory.
-    pub fn retire<R: Wait>(&mut self, rt: &R, locks: &CellLocks<N, C, L>, service: u16) -> Option<L>
+    /// out. Tells which incarnation was there, 0 for none. Takes no memory.
+    pub fn retire<R: Wait>(
+        &mut self,
+        rt: &R,
+        locks: &CellLocks<N, C, L>,
+        service: u16,
+    ) -> (u32, Option<L>)
         requires launcher { self.old.number ≡ N.launcher }
         requires service { service < length self.old.cells }
-        ensures retired { HasRetired L.wire N.launcher service (seen_at self.old service) result (seen_at self.new service) }
+        ensures retired { HasRetired L.wire N.launcher service (seen_at self.old service) result.0 result.1 (seen_at self.new service) }
         ensures empty { incarnation (seen_at self.new service) ≡ 0 }
         ensures last { last_booted (seen_at self.new service) ≡ last_booted (seen_at self.old service) }
         ensures only { OnlyAt service self.old self.new }
@@ -168,5 +174,39 @@ impl<N: Numbered, C: CellNames, L: Link> CellSeats<N, C, L> {
         let seat = &mut self.seats[i];
         let lock = &locks.turns[i];
         turns::retire(rt, lock, seat)
+    }
+
+    /// A note of what was seen at the cell of a service. It takes no turn and no memory.
+    pub fn split(&mut self, locks: &CellLocks<N, C, L>, service: u16) -> CellNote<N, C, L>
+        requires { service < length self.old.cells }
+        ensures note { result ≡ record { service = service; seen = seen_at self.old service } }
+        ensures same { self.new ≡ self.old }
+    {
+        let i = service as usize;
+        let seat = &mut self.seats[i];
+        let lock = &locks.turns[i];
+        CellNote {
+            service,
+            note: lock.split(seat),
+            of: PhantomData,
+        }
+    }
+
+    /// Takes in a note of another number: what it has seen at its cell is then seen here too, and what is
+    /// new was entered by others. It takes no turn and no memory.
+    pub fn meet(&mut self, locks: &CellLocks<N, C, L>, note: CellNote<N, C, L>)
+        ensures met { Behind note.seen (seen_at self.new note.service) }
+        ensures grows { GrowsBy (by_event N.launcher) self.old.number (seen_at self.old note.service) (seen_at self.new note.service) }
+        ensures only { OnlyAt note.service self.old self.new }
+    {
+        let CellNote {
+            service,
+            note,
+            of: _,
+        } = note;
+        let i = service as usize;
+        let seat = &mut self.seats[i];
+        let lock = &locks.turns[i];
+        lock.meet(seat, note);
     }
 }

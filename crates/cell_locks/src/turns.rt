@@ -180,20 +180,22 @@ pub(crate) fn boot<R: Wait, N: Numbered, L: Link>(
     Launched { booting, left }
 }
 
-/// Retires the incarnation, where there is one, in one turn, and takes the link out.
+/// Retires the incarnation, where there is one, in one turn, and takes the link out. Tells which incarnation
+/// was there, 0 for none.
 pub(crate) fn retire<R: Wait, N: Numbered, L: Link>(
     rt: &R,
     lock: &Turn<SiteCell<N, L>>,
     seat: &mut Seat<SiteCell<N, L>>,
-) -> Option<L>
+) -> (u32, Option<L>)
     requires lock { seat.old.lock ≡ lock.now.id }
     requires free { seat.old.held ≡ false }
     requires launcher { seat.old.number ≡ N.launcher }
-    ensures retired { HasRetired L.wire N.launcher seat.old.label seat.old.seen result seat.new.seen }
+    ensures retired { HasRetired L.wire N.launcher seat.old.label seat.old.seen result.0 result.1 seat.new.seen }
     ensures seat { seat.new ≡ record seat.old { seen = seat.new.seen } }
 {
     let mut cell = lock.take(rt, seat);
+    let was = cell.incarnation();
     let link = cell.retire();
     lock.give(seat, cell);
-    link
+    (was, link)
 }

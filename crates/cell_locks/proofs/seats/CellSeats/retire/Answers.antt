@@ -66,7 +66,7 @@ returns-clause-retired g c =
     let n = c.self.inside.number in
     let seats = c.self.inside.seats.items in
     let s = c.args.service in
-    subst (λ (x : ℕ × List CellEvent × List CellEvent). HasRetired g.L.Link.wire g.N.Numbered.launcher x.0 x.1 c.retire.result x.2) (λ i. (label_here names ts gates n seats c.args.self.now c.locks.invariant c.self.invariant c.self.view_is s c.requires.service c.index-lock.result.now c.index_mut-seat.result.now c.index-lock.ensures c.index_mut-seat.ensures.value i, seen_here names ts gates n seats c.args.self.now c.locks.invariant c.self.invariant c.self.view_is s c.requires.service c.index-lock.result.now c.index_mut-seat.result.now c.index-lock.ensures c.index_mut-seat.ensures.value i, seen_then names ts gates n seats c.args.self.now c.locks.invariant c.self.invariant c.self.view_is s c.requires.service c.index-lock.result.now c.index_mut-seat.result.now c.index-lock.ensures c.index_mut-seat.ensures.value c.retire.new.seat c.retire.ensures.seat i)) c.retire.ensures.retired
+    subst (λ (x : ℕ × List CellEvent × List CellEvent). HasRetired g.L.Link.wire g.N.Numbered.launcher x.0 x.1 c.retire.result.0 c.retire.result.1 x.2) (λ i. (label_here names ts gates n seats c.args.self.now c.locks.invariant c.self.invariant c.self.view_is s c.requires.service c.index-lock.result.now c.index_mut-seat.result.now c.index-lock.ensures c.index_mut-seat.ensures.value i, seen_here names ts gates n seats c.args.self.now c.locks.invariant c.self.invariant c.self.view_is s c.requires.service c.index-lock.result.now c.index_mut-seat.result.now c.index-lock.ensures c.index_mut-seat.ensures.value i, seen_then names ts gates n seats c.args.self.now c.locks.invariant c.self.invariant c.self.view_is s c.requires.service c.index-lock.result.now c.index_mut-seat.result.now c.index-lock.ensures c.index_mut-seat.ensures.value c.retire.new.seat c.retire.ensures.seat i)) c.retire.ensures.retired
 
 pub returns-clause-empty : goal.returns-clause-empty
 returns-clause-empty g c =

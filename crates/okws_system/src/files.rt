@@ -1,0 +1,69 @@
+//! The files of the system.
+
+ghost use Rattle.std.specs.Prelude.{None};
+
+use crate::trying::{count, pull_from};
+use okws_outer::files::Files;
+use okws_outer::stream::{Pull, Source};
+use std::fs;
+use std::io::Read;
+
+/// A file that is open, or one that could not be opened, whose first pull fails.
+#[derive(Drop)]
+pub struct RealFile<F> {
+    inner: Option<F>,
+    faults: u64,
+}
+
+impl<F: Read> Source for RealFile<F> {
+    ghost left = { λ s. None };
+
+    ghost faults = { λ s. s.faults };
+
+    fn pull(&mut self, into: &mut [u8]) -> Pull {
+        match &mut self.inner {
+            Some(file) => pull_from(file, &mut self.faults, into),
+            None => {
+                count(&mut self.faults);
+                Pull::Failed
+            }
+        }
+    }
+}
+
+/// The files of the system by their paths.
+#[derive(Drop)]
+pub struct RealFiles<'r, R> {
+    rt: &'r R,
+    opened: u64,
+    faults: u64,
+}
+
+impl<'r, R: std::rt::Files> RealFiles<'r, R> {
+    /// The files, none of them opened and no fault counted yet.
+    pub fn new(rt: &'r R) -> Self {
+        RealFiles {
+            rt,
+            opened: 0,
+            faults: 0,
+        }
+    }
+}
+
+impl<'r, R: std::rt::Files> Files for RealFiles<'r, R> {
+    type File = RealFile<R::File>;
+
+    ghost shelf = { λ s. record { held = λ path. None; opened = s.opened; faults = s.faults } };
+
+    fn open(&mut self, path: &str) -> RealFile<R::File> {
+        self.opened = self.opened.saturating_add(1);
+        RealFile {
+            inner: fs::open(self.rt, path).ok(),
+            faults: self.faults,
+        }
+    }
+
+    fn close(&mut self, file: RealFile<R::File>) {
+        self.faults = self.faults.max(file.faults);
+    }
+}

@@ -1,0 +1,53 @@
+//! The two pipes of a child.
+
+ghost use Rattle.std.specs.Prelude.{◌≡◌, None, false, IfOk};
+
+use crate::trying::{pull_from, put_to, reading_ahead};
+use okws_outer::stream::{Link, Pull, Put};
+use std::alloc::{AllocError, Global};
+use std::io::{BufReader, Read, Write};
+
+/// The end that is read, which is read ahead, and the end that is written. A link never tells and is
+/// never steady, so it needs no room.
+#[derive(Drop)]
+pub struct PipeLink<I, O> {
+    input: BufReader<I>,
+    output: O,
+    faults: u64,
+}
+
+impl<I: Read + Drop, O: Write + Drop> PipeLink<I, O> {
+    /// A link over these, with no fault counted yet. Fails only where memory is refused.
+    pub fn new(alloc: Global, input: I, output: O) -> Result<Self, AllocError>
+        ensures { IfOk result (λ l. ⟦<PipeLink<I, O> as Link>⟧.wire l ≡ record { left = None; given = None; faults = 0; steady = false; ended = false; room = 0 }) }
+    {
+        Ok(PipeLink {
+            input: reading_ahead(alloc, input)?,
+            output,
+            faults: 0,
+        })
+    }
+
+    /// How many calls have failed.
+    pub fn faults(&self) -> u64
+        ensures { result ≡ (⟦<PipeLink<I, O> as Link>⟧.wire self.now).faults }
+    {
+        self.faults
+    }
+}
+
+impl<I: Read, O: Write> Link for PipeLink<I, O> {
+    ghost wire = { λ l. record { left = None; given = None; faults = l.faults; steady = false; ended = false; room = 0 } };
+
+    fn pull(&mut self, into: &mut [u8]) -> Pull {
+        pull_from(&mut self.input, &mut self.faults, into)
+    }
+
+    fn put(&mut self, bytes: &[u8]) -> Put {
+        put_to(&mut self.output, &mut self.faults, bytes)
+    }
+
+    fn make_room(&mut self, _: usize) -> Result<(), AllocError> {
+        Ok(())
+    }
+}

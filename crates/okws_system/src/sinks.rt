@@ -1,0 +1,98 @@
+//! Files that are written, by their paths.
+
+ghost use Rattle.std.specs.Prelude.{◌≡◌, [], None};
+
+use crate::output::Writing;
+use crate::trying::count;
+use okws_base::told::{Says, Told};
+use okws_outer::error::Fault;
+use okws_outer::sinks::{SinkEnd, SinkStart, Sinks};
+use okws_outer::stream::Sink;
+use std::fs::{File, Files, OpenOptions};
+
+/// The files of the system that are written: each is made where it isn't there, and what is given to
+/// it goes behind what stands there.
+#[derive(Drop)]
+pub struct RealSinks<'r, R> {
+    rt: &'r R,
+    opened: Told<SinkStart>,
+    closed: Told<SinkEnd>,
+    faults: u64,
+}
+
+impl<'r, R: Files<File = File>> RealSinks<'r, R> {
+    /// The sinks, none of them opened yet and no fault counted.
+    pub fn new(rt: &'r R) -> Self
+        ensures { ⟦<RealSinks<'r, R> as Sinks>⟧.rack result ≡ record { opened = []; closed = []; faults = 0 } }
+    {
+        RealSinks {
+            rt,
+            opened: Told::new(),
+            closed: Told::new(),
+            faults: 0,
+        }
+    }
+
+    /// How many calls have failed, those of closed sinks included.
+    pub fn faults(&self) -> u64
+        ensures { result ≡ (⟦<RealSinks<'r, R> as Sinks>⟧.rack self.now).faults }
+    {
+        self.faults
+    }
+}
+
+/// An opening.
+#[derive(Clone, Copy)]
+struct Opening<'c> {
+    path: &'c str,
+    is_open: bool,
+}
+
+impl<'c> Says for Opening<'c> {
+    type Item = SinkStart;
+
+    ghost item = { λ o. record { path = o.path.now; is_open = o.is_open } };
+}
+
+/// A sink that is closed.
+#[derive(Clone, Copy)]
+struct Closing<'c> {
+    path: &'c str,
+    faults: u64,
+}
+
+impl<'c> Says for Closing<'c> {
+    type Item = SinkEnd;
+
+    ghost use Rattle.std.specs.Prelude.{None};
+
+    ghost item = { λ c. record { path = c.path.now; given = None; faults = c.faults } };
+}
+
+impl<'r, R: Files<File = File>> Sinks for RealSinks<'r, R> {
+    type Sink = Writing<File>;
+
+    ghost rack = { λ s. record { opened = s.opened.past; closed = s.closed.past; faults = s.faults } };
+
+    fn open(&mut self, path: &str) -> Result<Writing<File>, Fault> {
+        let file = OpenOptions::new()
+            .append(true)
+            .create(true)
+            .open(self.rt, path);
+        let is_open = file.is_ok();
+        self.opened = self.opened.and(&Opening { path, is_open });
+        match file {
+            Ok(file) => Ok(Writing::new(file)),
+            Err(_) => {
+                count(&mut self.faults);
+                Err(Fault)
+            }
+        }
+    }
+
+    fn close(&mut self, path: &str, sink: Writing<File>) {
+        let faults = sink.faults();
+        self.closed = self.closed.and(&Closing { path, faults });
+        self.faults = self.faults.saturating_add(faults);
+    }
+}

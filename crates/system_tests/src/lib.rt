@@ -1,0 +1,17 @@
+//! Tests of the real objects, over the loopback address, real files and real children, and over streams
+//! that fail as a system does; and of worlds that have a server's objects. Not tested here: standard input
+//! and output, and want of memory.
+#![tactic(auto)]
+
+#[cfg(test)]
+mod children;
+#[cfg(test)]
+mod files;
+#[cfg(test)]
+mod network;
+#[cfg(test)]
+mod stores;
+#[cfg(test)]
+mod streams;
+#[cfg(test)]
+mod world;

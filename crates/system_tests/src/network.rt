@@ -1,0 +1,118 @@
+//! Real doors, whose clients come over the loopback address.
+
+ghost use Rattle.std.specs.Prelude.{IsNone};
+
+use okws_outer::conn::Conn;
+use okws_outer::door::Door;
+use okws_outer::error::MakeError;
+use okws_outer::network::Network;
+use okws_outer::stream::{Pull, Put};
+use okws_system::network::{RealDoor, RealNetwork};
+use std::io;
+use std::io::{Read, Write};
+use std::net::{Net, SocketAddr, TcpStream};
+use std::test::Fail;
+
+/// A client of a port, which has sent these bytes.
+fn client<R: Net<Stream = TcpStream>>(rt: &R, port: u16, bytes: &[u8]) -> io::Result<TcpStream> {
+    let mut stream = TcpStream::connect(rt, SocketAddr::from(([127, 0, 0, 1], port)))?;
+    stream.write_all(bytes)?;
+    Ok(stream)
+}
+
+/// Accepts, takes one piece of at most 8 bytes, gives an answer and finishes; what was taken, and what
+/// was given.
+fn serve_one(door: &mut RealDoor, answer: &[u8]) -> Option<(Pull, Put)>
+    requires { IsNone (⟦<RealDoor as Door>⟧.entrance door.old).out }
+    ensures { IsNone (⟦<RealDoor as Door>⟧.entrance door.new).out }
+{
+    let Ok(mut conn) = door.accept() else {
+        return None;
+    };
+    let pull = conn.pull(&mut [0u8; 8]);
+    let put = conn.put(answer);
+    door.finish(conn);
+    Some((pull, put))
+}
+
+#[test]
+fn doors_share_one_port(rt: HostRuntime) -> Result<(), Fail> {
+    let mut network = RealNetwork::new(&rt, rt.alloc());
+    let Ok(mut doors) = network.listen(rt.alloc(), 0, 2) else {
+        panic!(rt; "not as planned");
+    };
+    let (Some(mut second), Some(mut first)) = (doors.pop(), doors.pop()) else {
+        panic!(rt; "not as planned");
+    };
+    let Some(port) = first.port() else {
+        panic!(rt; "not as planned");
+    };
+    assert_eq!(rt; second.port(), Some(port));
+    let taken = network.listen(rt.alloc(), port, 1);
+    assert!(rt; matches!(taken, Err(MakeError::Failed)));
+    let mut one = client(&rt, port, b"one")?;
+    let mut other = client(&rt, port, b"other")?;
+    assert_eq!(rt;
+        serve_one(&mut second, b"first"),
+        Some((Pull::Took(3), Put::Done))
+    );
+    assert_eq!(rt;
+        serve_one(&mut first, b"second"),
+        Some((Pull::Took(5), Put::Done))
+    );
+    let mut heard = Vec::new(rt.alloc());
+    one.read_to_end(&mut heard)?;
+    other.read_to_end(&mut heard)?;
+    assert_eq!(rt; heard.as_slice(), b"firstsecond".as_slice());
+    doors.push(first)?;
+    doors.push(second)?;
+    network.close(doors);
+    assert_eq!(rt; network.faults(), 1);
+    let again = network.listen(rt.alloc(), port, 1);
+    assert!(rt; again.is_ok());
+    Ok(())
+}
+
+#[test]
+fn early_answer_is_seen(rt: HostRuntime) -> Result<(), Fail> {
+    let mut network = RealNetwork::new(&rt, rt.alloc());
+    let Ok(mut doors) = network.listen(rt.alloc(), 0, 1) else {
+        panic!(rt; "not as planned");
+    };
+    let Some(mut door) = doors.pop() else {
+        panic!(rt; "not as planned");
+    };
+    let Some(port) = door.port() else {
+        panic!(rt; "not as planned");
+    };
+    let mut one = client(&rt, port, &[b'a'; 40_000])?;
+    let answer = b"HTTP/1.1 413 Content Too Large\r\n";
+    assert_eq!(rt;
+        serve_one(&mut door, answer),
+        Some((Pull::Took(8), Put::Done))
+    );
+    let mut heard = Vec::new(rt.alloc());
+    one.read_to_end(&mut heard)?;
+    assert_eq!(rt; heard.as_slice(), answer.as_slice());
+    Ok(())
+}
+
+#[test]
+fn client_that_says_nothing_has_ended(rt: HostRuntime) -> Result<(), Fail> {
+    let mut network = RealNetwork::new(&rt, rt.alloc());
+    let Ok(mut doors) = network.listen(rt.alloc(), 0, 1) else {
+        panic!(rt; "not as planned");
+    };
+    let Some(mut door) = doors.pop() else {
+        panic!(rt; "not as planned");
+    };
+    let Some(port) = door.port() else {
+        panic!(rt; "not as planned");
+    };
+    drop(client(&rt, port, b"")?);
+    let Some((pull, _)) = serve_one(&mut door, b"answer") else {
+        panic!(rt; "not as planned");
+    };
+    assert_eq!(rt; pull, Pull::End);
+    Ok(())
+}

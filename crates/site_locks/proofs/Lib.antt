@@ -1,0 +1,11 @@
+pub mod Stays
+pub mod Turning
+pub mod Seeing
+pub mod Rows
+pub mod Sitting
+pub mod Dealing
+pub mod Closes
+pub mod Boards
+pub mod Asking
+pub mod Placing
+pub mod Marks

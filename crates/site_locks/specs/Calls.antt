@@ -1,0 +1,73 @@
+-- What a call and a publication are answered in a turn.
+use Rattle.std.specs.Prelude.{◌≡◌, ℕ, Bool, true, List, None}
+use Rattle.okws_base.specs.declared.journal.Entry.{Entry}
+use Rattle.okws_plan.specs.declared.configuration.Config.{Config}
+use Rattle.okws_plan.specs.declared.event.Call.{Call}
+use Rattle.okws_plan.specs.declared.event.Mark.{Mark}
+use Rattle.okws_plan.specs.declared.event.Mark.TheVariants.{Done, Fault}
+use Rattle.okws_plan.specs.declared.event.ProxyEvent.{ProxyEvent}
+use Rattle.okws_plan.specs.declared.statement.Answer.{Answer}
+use Rattle.monitor_model.specs.Proxy.{call_answer, call_verdict, call_denial}
+use Rattle.monitor_model.specs.Seen.{Seen, AtPubd}
+use Rattle.monitor_model.specs.declared.verdict.Verdict.{Verdict}
+use Rattle.monitor_model.specs.declared.verdict.Verdict.TheVariants as verdict
+use Rattle.okws_plan.specs.declared.event.PubdEvent.{PubdEvent}
+use Rattle.okws_plan.specs.declared.event.PubdEvent.TheVariants.{Publish}
+use Rattle.monitor_model.specs.declared.verdict.Published.{Published}
+use Rattle.monitor_model.specs.declared.verdict.Published.TheVariants.{Edition, NoSuchTemplate, TooLong, EditionsSpent}
+use Rattle.turn_lock.specs.Seats.{SeatIs}
+use Rattle.named_columns.specs.Held.{Held, entered}
+use Rattle.site_locks.specs.Sat.{Sat}
+use Rattle.site_locks.specs.Steps.{NotesPubd, SeesPubd}
+use Rattle.site_locks.specs.Turns.{Enters, Sees}
+
+-- The verdict on a call that is entered with this mark on the entries J of proxy p: where the run's keepers tell their rows it is that of the rows, and else one that the query may be answered. A call that breaks a rule is marked Done, as is each where no call of a keeper fails.
+pub record Answered (C : Config) (tells steady : Bool) (p : ℕ) (J : List (Entry ProxyEvent)) (call : Call) (mark : Mark) (v : Verdict) : Type 0 where
+  pub allowed : mark ≡ Fault → call_denial C p J call ≡ None
+  pub sure : steady ≡ true → mark ≡ Done
+  pub answer : Answer
+  pub is : v ≡ call_answer (call_denial C p J call) mark answer
+  pub means : tells ≡ true → v ≡ call_verdict C p J call mark
+
+-- The mark of a call that was answered so: a fault where it failed.
+abbrev pub mark_of : Verdict → Mark
+mark_of verdict.Failed = Fault
+mark_of (verdict.Opened n) = Done
+mark_of (verdict.Rows columns rows) = Done
+mark_of (verdict.Changed n) = Done
+mark_of verdict.Duplicate = Done
+mark_of (verdict.Denied rule) = Done
+
+-- pubd after a publication of template t: an edition makes an entry, and nothing else does.
+abbrev pub after_edition : Held PubdEvent → ℕ → List ℕ → Published → Held PubdEvent
+after_edition p t content (Edition n) = entered p (Publish t content)
+after_edition p t content NoSuchTemplate = p
+after_edition p t content TooLong = p
+after_edition p t content EditionsSpent = p
+
+-- A seat after a turn in which template t was published.
+abbrev pub EntersEdition : ℕ → List ℕ → Published → List (Entry PubdEvent) → SeatIs (Entry PubdEvent) → SeatIs (Entry PubdEvent) → Type 0
+EntersEdition t content (Edition n) before old new = Enters (Publish t content) before old new
+EntersEdition t content NoSuchTemplate before old new = Sees before old new
+EntersEdition t content TooLong before old new = Sees before old new
+EntersEdition t content EditionsSpent before old new = Sees before old new
+
+-- What a number has seen and noted after it published template t.
+abbrev pub Publishes : ℕ → List ℕ → Published → List (Entry PubdEvent) → Sat → Sat → Type 0
+Publishes t content (Edition n) before s now = NotesPubd (Publish t content) before s now
+Publishes t content NoSuchTemplate before s now = SeesPubd before s now
+Publishes t content TooLong before s now = SeesPubd before s now
+Publishes t content EditionsSpent before s now = SeesPubd before s now
+
+-- The same of what it had seen at its own last entries.
+abbrev pub PublishesAt : ℕ → ℕ → List ℕ → Published → Seen → List (Entry PubdEvent) → Seen → Type 0
+PublishesAt w t content (Edition n) J before now = AtPubd w (Publish t content) J before now
+PublishesAt w t content NoSuchTemplate J before now = now ≡ J
+PublishesAt w t content TooLong J before now = now ≡ J
+PublishesAt w t content EditionsSpent J before now = now ≡ J
+
+-- The number is the same, and what it has seen and drawn on the board.
+pub record SameBoard (s now : Sat) : Type 0 where
+  pub number_is : now.number ≡ s.number
+  pub board_is : now.board ≡ s.board
+  pub drawn_is : now.drawn ≡ s.drawn

@@ -1,0 +1,164 @@
+//! What a number does at the proxies.
+
+ghost use Rattle.std.specs.Prelude.{◌≡◌, ◌<◌, List, IfOk, OnOk, OnErr, length};
+ghost use Rattle.okws_base.specs.Past.{standing_by, last_by};
+ghost use Rattle.okws_base.specs.declared.journal.Entry.{Entry};
+ghost use Rattle.okws_plan.specs.declared.event.Mark.{Mark};
+ghost use Rattle.okws_plan.specs.declared.event.ProxyEvent.{ProxyEvent};
+ghost use Rattle.okws_plan.specs.declared.event.ProxyEvent.TheVariants as event;
+ghost use Rattle.monitor_model.specs.Proxy.{open_verdict};
+ghost use Rattle.monitor_model.specs.Seen.{proxy_past};
+ghost use Rattle.monitor_model.specs.Standing.{proxy_grant};
+ghost use Rattle.service_cell.specs.Asking.{IsNarrow};
+ghost use Rattle.token_core.specs.Token.{token_of};
+ghost use Rattle.site_locks.specs.Calls.{Answered, mark_of};
+ghost use Rattle.site_locks.specs.Sat.{AreSeats, sat_of};
+ghost use Rattle.site_locks.specs.Steps.{NotesProxy, EntersProxy, SeesProxy, RevokesProxy};
+ghost use Rattle.site_locks.specs.Turns.{Stays};
+
+use crate::locks::{Locks, Seats};
+use crate::named::Site;
+use crate::proxy_turn;
+use monitor_model::record::Own;
+use monitor_model::verdict::Verdict;
+use named_columns::named::Backed;
+use okws_base::items::Exact;
+use okws_base::value::Token;
+use okws_outer::gate::Gate;
+use okws_outer::keeper::Keeper;
+use okws_outer::stream::Sink;
+use okws_plan::event::{Call, Mark, ProxyEvent};
+use std::alloc::{AllocError, Global};
+use std::sync::Wait;
+
+// A call that says the same.
+fn copy_of_call(alloc: Global, call: &Call) -> Result<Call, AllocError>
+    ensures { IfOk result (λ c. c ≡ call.now) }
+{
+    Ok(Call {
+        service: call.service,
+        incarnation: call.incarnation,
+        session: call.session,
+        query: call.query,
+        args: call.args.copy(alloc)?,
+    })
+}
+
+// The mark of a call that was answered so: a fault where it failed.
+fn mark_of(verdict: &Verdict) -> Mark
+    ensures { result ≡ mark_of verdict.now }
+{
+    match verdict {
+        Verdict::Failed => Mark::Fault,
+        Verdict::Opened(_)
+        | Verdict::Rows {
+            columns: _,
+            rows: _,
+        }
+        | Verdict::Changed(_)
+        | Verdict::Duplicate
+        | Verdict::Denied(_) => Mark::Done,
+    }
+}
+
+impl<N: Backed, J: Site, K: Keeper, S: Sink> Seats<N, J, K, S> {
+    /// Opens a session at a proxy, or says which rule that breaks. Where memory is refused, nothing is
+    /// entered.
+    pub fn open_session<R: Wait>(
+        &mut self,
+        rt: &R,
+        locks: &Locks<N, J, K, S>,
+        proxy: u16,
+        service: u16,
+        incarnation: u32,
+        shown: Token,
+    ) -> Result<Verdict, AllocError>
+        requires proxy { proxy < length N.site.proxies }
+        requires service { service < length N.site.services }
+        ensures ok { IfOk result (λ v. (before : List (Entry ProxyEvent)) × (v ≡ open_verdict before service incarnation shown) × NotesProxy proxy (event.Open service incarnation shown) before self.old self.new) }
+        ensures err { OnErr result ((before : List (Entry ProxyEvent)) × SeesProxy proxy before self.old self.new) }
+    {
+        self.own.make_room(1)?;
+        let turn = &locks.proxies[proxy as usize];
+        let seat = &mut self.proxies[proxy as usize];
+        let verdict = proxy_turn::open_session(rt, turn, seat, service, incarnation, shown)?;
+        self.own.enter(Own::Proxy(
+            proxy,
+            ProxyEvent::Open {
+                service,
+                incarnation,
+                shown,
+            },
+        ));
+        Ok(verdict)
+    }
+
+    /// Decides a call at a proxy, and has its keeper run the query where it is allowed. The call is marked
+    /// as a fault where the keeper failed. Where memory is refused, nothing is entered.
+    pub fn call<R: Wait, G: Gate>(
+        &mut self,
+        rt: &R,
+        gate: &G,
+        locks: &Locks<N, J, K, S>,
+        proxy: u16,
+        call: Call,
+    ) -> Result<Verdict, AllocError>
+        requires proxy { proxy < length N.site.proxies }
+        requires service { call.service < length N.site.services }
+        ensures ok { IfOk result (λ v. (before : List (Entry ProxyEvent)) × (mark : Mark) × Answered N.site N.tells N.steady proxy before call mark v × NotesProxy proxy (event.Call call mark) before self.old self.new) }
+        ensures narrow { IfOk result IsNarrow }
+        ensures err { OnErr result ((before : List (Entry ProxyEvent)) × SeesProxy proxy before self.old self.new) }
+    {
+        self.own.make_room(1)?;
+        let copy = copy_of_call(self.alloc, &call)?;
+        let turn = &locks.proxies[proxy as usize];
+        let seat = &mut self.proxies[proxy as usize];
+        let verdict = proxy_turn::call(rt, gate, proxy, turn, seat, call)?;
+        let called = ProxyEvent::Call(copy, mark_of(&verdict));
+        self.own.enter(Own::Proxy(proxy, called));
+        Ok(verdict)
+    }
+
+    /// The launcher installs an incarnation at a proxy, with its token there, and notes nothing here. Where
+    /// memory is refused, nothing is entered.
+    pub fn install_at_proxy<R: Wait>(
+        &mut self,
+        rt: &R,
+        locks: &Locks<N, J, K, S>,
+        proxy: u16,
+        service: u16,
+        incarnation: u32,
+        token: Token,
+    ) -> Result<(), AllocError>
+        requires launcher { self.old.number ≡ N.launcher }
+        requires proxy { proxy < length N.site.proxies }
+        requires service { service < length N.site.services }
+        requires later { last_by proxy_grant (proxy_past self.old.proxies proxy) service < incarnation }
+        requires token { token ≡ token_of N.run_seed service incarnation proxy }
+        ensures ok { OnOk result ((before : List (Entry ProxyEvent)) × Stays proxy_grant (proxy_past self.old.proxies proxy) before × EntersProxy proxy (event.Install service incarnation token) before self.old self.new) }
+        ensures err { OnErr result ((before : List (Entry ProxyEvent)) × Stays proxy_grant (proxy_past self.old.proxies proxy) before × SeesProxy proxy before self.old self.new) }
+    {
+        let turn = &locks.proxies[proxy as usize];
+        let seat = &mut self.proxies[proxy as usize];
+        proxy_turn::install(rt, turn, seat, service, incarnation, token)
+    }
+
+    /// The launcher revokes what stands of a service at a proxy, if anything does, and notes nothing here.
+    /// Takes no memory.
+    pub fn revoke_at_proxy<R: Wait>(
+        &mut self,
+        rt: &R,
+        locks: &Locks<N, J, K, S>,
+        proxy: u16,
+        service: u16,
+    ) -> Option<u32>
+        requires launcher { self.old.number ≡ N.launcher }
+        requires proxy { proxy < length N.site.proxies }
+        requires service { service < length N.site.services }
+        ensures { (before : List (Entry ProxyEvent)) × Stays proxy_grant (proxy_past self.old.proxies proxy) before × (result ≡ standing_by proxy_grant before service) × RevokesProxy proxy (λ k. event.Revoke service k) result before self.old self.new }
+    {
+        let turn = &locks.proxies[proxy as usize];
+        let seat = &mut self.proxies[proxy as usize];
+        proxy_turn::revoke(rt, turn, seat, service)
+    }
+}

@@ -1,0 +1,194 @@
+//! Closing the locks of a run with the seats of all its numbers.
+
+ghost use Rattle.std.specs.Prelude.{◌≡◌, ◌<◌, ◌≤◌, ◌+◌, ℕ, List, [], ◌∷◌, ◌++◌, length, map, reverse, vec_len, vec_capacity};
+ghost use Rattle.okws_base.specs.Turns.{of};
+ghost use Rattle.named_columns.specs.Held.{HeldProxy};
+ghost use Rattle.named_columns.specs.Launched.{by_entry};
+ghost use Rattle.live_board.specs.Board.{AllSaw as PartsSaw, AllDrew as PartsDrew};
+ghost use Rattle.live_board.specs.Seats.{parts};
+ghost use Rattle.turn_lock.specs.Rows.{NoneFrom, GrownRow};
+ghost use Rattle.turn_lock.specs.Seats.{AllGrow, sights};
+ghost use Rattle.site_locks.specs.Sat.{Sat, RiseFrom};
+ghost use Rattle.site_locks.specs.Closing.{AllGrown, RowsGrown, AllSaw, AllDrew, SomeIs, EndsAre, AreOf, RestAt, TakesIn, HasAll, Gathering};
+
+use crate::locks::{Locks, Seats};
+use crate::named::Site;
+use monitor_model::record::Own;
+use named_columns::log::SiteLog;
+use named_columns::named::Backed;
+use named_columns::okd::SiteOkd;
+use named_columns::proxy::SiteProxy;
+use named_columns::pubd::SitePubd;
+use okws_base::journal::Past;
+use okws_outer::keeper::Keeper;
+use okws_outer::stream::Sink;
+use std::marker::Model;
+use turn_lock::{Seat, end_row, join_row};
+
+// The seats into which those of all numbers are joined.
+#[derive(Drop)]
+struct Ends<N: Backed, K: Keeper, S: Sink> {
+    okd: Seat<SiteOkd<N>>,
+    proxies: Vec<Seat<SiteProxy<N, K>>>,
+    pubd: Seat<SitePubd<N>>,
+    oklogd: Seat<SiteLog<N, S>>,
+    board: live_board::Seat,
+}
+
+impl<N: Backed, K: Keeper, S: Sink> Model for Ends<N, K, S> {
+    ghost use Rattle.site_locks.specs.Closing.{EndsAre};
+
+    ghost Value = { EndsAre };
+
+    ghost view = { λ e. record { okd = e.okd; proxies = e.proxies.items; pubd = e.pubd; oklogd = e.oklogd; board = e.board } };
+}
+
+/// What the locks kept, but for the proxies' columns: okd's, pubd's and oklogd's, and how many connection
+/// numbers were drawn.
+#[derive(Drop)]
+pub struct Closed<N: Backed, S: Sink> {
+    pub okd: SiteOkd<N>,
+    pub pubd: SitePubd<N>,
+    pub oklogd: SiteLog<N, S>,
+    pub drawn: u64,
+}
+
+// A number's seats, apart from the names of their locks, and its own list.
+fn parted<N: Backed, J: Site, K: Keeper, S: Sink>(
+    locks: &Locks<N, J, K, S>,
+    seats: Seats<N, J, K, S>,
+) -> (Ends<N, K, S>, Past<Own>)
+    ensures ends { AreOf locks.now seats result.0 }
+    ensures rest { RestAt locks.now result.0 }
+    ensures own { result.1 ≡ seats.own }
+{
+    let _okd = &locks.okd;
+    let Seats {
+        alloc: _,
+        number: _,
+        okd,
+        proxies,
+        pubd,
+        oklogd,
+        board,
+        own,
+        of: _,
+    } = seats;
+    let ends = Ends {
+        okd,
+        proxies,
+        pubd,
+        oklogd,
+        board,
+    };
+    (ends, own.into_past())
+}
+
+// Joins a number's seats into these, and gives its own list.
+fn take_in<N: Backed, J: Site, K: Keeper, S: Sink>(
+    locks: &Locks<N, J, K, S>,
+    ends: &mut Ends<N, K, S>,
+    seats: Seats<N, J, K, S>,
+) -> Past<Own>
+    requires rest { RestAt locks.now ends.old }
+    ensures taken { (other : EndsAre) × AreOf locks.now seats other × TakesIn seats other ends.old ends.new }
+    ensures rest { RestAt locks.now ends.new }
+    ensures own { result ≡ seats.own }
+{
+    let (more, own) = parted(locks, seats);
+    let Ends {
+        okd,
+        proxies,
+        pubd,
+        oklogd,
+        board,
+    } = more;
+    locks.okd.join(&mut ends.okd, okd);
+    join_row(&locks.proxies, &mut ends.proxies, proxies);
+    locks.pubd.join(&mut ends.pubd, pubd);
+    locks.oklogd.join(&mut ends.oklogd, oklogd);
+    locks.board.join(&mut ends.board, board);
+    own
+}
+
+// Ends all locks by seats into which those of all numbers were joined.
+fn end<N: Backed, J: Site, K: Keeper, S: Sink>(
+    locks: Locks<N, J, K, S>,
+    ends: Ends<N, K, S>,
+    done: &mut Vec<SiteProxy<N, K>>,
+    count: u16,
+) -> Closed<N, S>
+    requires rest { RestAt locks ends }
+    requires count { count ≡ N.launcher + 1 }
+    requires all { (k : ℕ) → k < count → HasAll k ends }
+    requires room { (done.old.items ≡ []) × (length N.site.proxies ≤ vec_capacity done.old) }
+    ensures okd { AllGrow by_entry (sights ends.okd) result.okd.past × ((k : ℕ) → count ≤ k → of by_entry k result.okd.past ≡ []) }
+    ensures proxies { GrownRow by_entry ends.proxies (reverse (map (λ (x : HeldProxy). x.past) done.new.items)) × NoneFrom by_entry count (reverse (map (λ (x : HeldProxy). x.past) done.new.items)) }
+    ensures numbers { RiseFrom 0 (reverse (map (λ (x : HeldProxy). x.number) done.new.items)) }
+    ensures many { vec_len done.new ≡ length N.site.proxies }
+    ensures pubd { AllGrow by_entry (sights ends.pubd) result.pubd.past × ((k : ℕ) → count ≤ k → of by_entry k result.pubd.past ≡ []) }
+    ensures oklogd { AllGrow by_entry (sights ends.oklogd) result.oklogd.past × ((k : ℕ) → count ≤ k → of by_entry k result.oklogd.past ≡ []) }
+    ensures saw { (greatest : List ℕ) × PartsSaw count greatest (parts ends.board) }
+    ensures drew { (hand : ℕ → ℕ) × PartsDrew hand result.drawn (parts ends.board) × ((k : ℕ) → k < result.drawn → hand k < count) }
+{
+    let Locks {
+        okd,
+        proxies,
+        pubd,
+        oklogd,
+        board,
+        of: _,
+    } = locks;
+    let Ends {
+        okd: okd_seat,
+        proxies: row,
+        pubd: pubd_seat,
+        oklogd: log_seat,
+        board: board_seat,
+    } = ends;
+    end_row(proxies, row, done, count);
+    Closed {
+        okd: okd.end(okd_seat),
+        pubd: pubd.end(pubd_seat),
+        oklogd: oklogd.end(log_seat),
+        drawn: board.end(board_seat),
+    }
+}
+
+/// Ends the locks of a run by the seats of all its numbers. It takes no memory: the proxies' columns are put
+/// into `done`, the last first, and the own lists into `owns`, the last first. Each journal goes on from what
+/// each number had seen by entries of others alone, and no number beyond the launcher's made an entry. No
+/// number has seen on the board what the launcher didn't raise. Each connection number below the count that
+/// was drawn was drawn by one number, and by no other.
+pub fn close<N: Backed, J: Site, K: Keeper, S: Sink>(
+    locks: Locks<N, J, K, S>,
+    mut seats: Vec<Seats<N, J, K, S>>,
+    done: &mut Vec<SiteProxy<N, K>>,
+    owns: &mut Vec<Past<Own>>,
+    count: u16,
+) -> Closed<N, S>
+    requires count { count ≡ N.launcher + 1 }
+    requires all { (k : ℕ) → k < count → SomeIs k seats.items }
+    requires done { (done.old.items ≡ []) × (length N.site.proxies ≤ vec_capacity done.old) }
+    requires owns { (owns.old.items ≡ []) × (vec_len seats ≤ vec_capacity owns.old) }
+    ensures okd { AllGrown (λ s. s.okd) seats.items result.okd.past × ((k : ℕ) → count ≤ k → of by_entry k result.okd.past ≡ []) }
+    ensures proxies { RowsGrown seats.items (reverse (map (λ (x : HeldProxy). x.past) done.new.items)) × NoneFrom by_entry count (reverse (map (λ (x : HeldProxy). x.past) done.new.items)) }
+    ensures numbers { RiseFrom 0 (reverse (map (λ (x : HeldProxy). x.number) done.new.items)) }
+    ensures many { vec_len done.new ≡ length N.site.proxies }
+    ensures pubd { AllGrown (λ s. s.pubd) seats.items result.pubd.past × ((k : ℕ) → count ≤ k → of by_entry k result.pubd.past ≡ []) }
+    ensures oklogd { AllGrown (λ s. s.oklogd) seats.items result.oklogd.past × ((k : ℕ) → count ≤ k → of by_entry k result.oklogd.past ≡ []) }
+    ensures saw { (greatest : List ℕ) × AllSaw count greatest seats.items }
+    ensures drew { (hand : ℕ → ℕ) × AllDrew hand result.drawn seats.items × ((k : ℕ) → k < result.drawn → hand k < count) }
+    ensures owns { owns.new.items ≡ reverse (map (λ (s : Sat). s.own) seats.items) }
+{
+    let Some(first) = seats.pop() else {
+        unreachable!()
+    };
+    let (mut ends, own) = parted(&locks, first);
+    owns.push_reserved(own);
+    while let Some(more) = seats.pop() {
+        owns.push_reserved(take_in(&locks, &mut ends, more));
+    }
+    seats.destroy_empty();
+    end(locks, ends, done, count)
+}

@@ -121,11 +121,11 @@ fn serve_beside<D: Door>(rt: &impl Abort, first: &mut D, second: &mut D)
     let Ok(held) = second.accept() else {
         panic!(rt; "not as planned");
     };
-    assert_eq!(rt; serve_one(first), Some(3));
-    assert_eq!(rt; serve_one(first), Some(0));
-    assert_eq!(rt; serve_one(first), None);
+    assert!(rt; serve_one(first) == Some(3));
+    assert!(rt; serve_one(first) == Some(0));
+    assert!(rt; serve_one(first) == None);
     second.finish(held);
-    assert_eq!(rt; serve_one(second), None);
+    assert!(rt; serve_one(second) == None);
 }
 
 /// The first door finished the clients `two` and `three`.
@@ -135,7 +135,7 @@ fn tells_two(rt: &impl Abort, door: &MemoryDoor) {
     };
     assert!(rt; is_served(two, b"two", b"", b"o"));
     assert!(rt; is_served(three, b"three", b"three", b""));
-    assert_eq!(rt; (two.faults, three.faults), (1, 2));
+    assert!(rt; (two.faults, three.faults) == (1, 2));
 }
 
 /// The second door finished the client `one`.
@@ -148,11 +148,11 @@ fn tells_one(rt: &impl Abort, door: &MemoryDoor) {
 
 /// The network was asked twice, and took the two doors back.
 fn tells_doors(rt: &impl Abort, network: &MemoryNetwork) {
-    assert_eq!(rt; network.faults(), 1);
+    assert!(rt; network.faults() == 1);
     let Some([_, last]) = network.listened() else {
         panic!(rt; "not as planned");
     };
-    assert_eq!(rt; (last.port, last.count), (8080, 2));
+    assert!(rt; (last.port, last.count) == (8080, 2));
     let [first, second] = network.doors() else {
         panic!(rt; "not as planned");
     };
@@ -170,8 +170,8 @@ fn doors_take_from_one_line(rt: HostRuntime) -> Result<(), Fail> {
         mut second,
     } = two_doors(rt.alloc(), &mut network)?;
     serve_beside(&rt, &mut first, &mut second);
-    assert_eq!(rt; first.faults(), 4);
-    assert_eq!(rt; second.faults(), 1);
+    assert!(rt; first.faults() == 4);
+    assert!(rt; second.faults() == 1);
     let mut doors = Vec::with_capacity(rt.alloc(), 2)?;
     doors.push(first)?;
     doors.push(second)?;
@@ -188,7 +188,7 @@ fn doors_serve_in_two_threads(rt: HostRuntime) -> Result<(), Fail> {
         mut second,
     } = two_doors(rt.alloc(), &mut network)?;
     let (one, other) = thread::join(&rt, || serve_all(&mut first), || serve_all(&mut second));
-    assert_eq!(rt; one.saturating_add(other), 3);
+    assert!(rt; one.saturating_add(other) == 3);
     Ok(())
 }
 
@@ -204,24 +204,24 @@ const PLANS: [ChildPlan<'static>; 1] = [ChildPlan {
 /// The link says `hel`, fails once, and takes four bytes as soon as there is room.
 fn speaks(rt: &impl Abort, link: &mut MemoryLink) -> Result<(), Fail> {
     let mut piece = [0u8; 8];
-    assert_eq!(rt; link.pull(&mut piece), Pull::Took(3));
-    assert_eq!(rt; link.pull(&mut piece), Pull::Failed);
-    assert_eq!(rt; link.put(b"boot"), Put::Stopped(0));
+    assert!(rt; link.pull(&mut piece) == Pull::Took(3));
+    assert!(rt; link.pull(&mut piece) == Pull::Failed);
+    assert!(rt; link.put(b"boot") == Put::Stopped(0));
     link.make_room(4)?;
-    assert_eq!(rt; link.put(b"boot"), Put::Done);
+    assert!(rt; link.put(b"boot") == Put::Done);
     Ok(())
 }
 
 /// One start and one end are told.
 fn tells_a_child(rt: &impl Abort, children: &MemoryChildren) {
-    assert_eq!(rt; children.faults(), 1);
+    assert!(rt; children.faults() == 1);
     let (Some([start]), Some([end])) = (children.started(), children.finished()) else {
         panic!(rt; "not as planned");
     };
-    assert_eq!(rt; (start.service, start.incarnation), (1, 2));
+    assert!(rt; (start.service, start.incarnation) == (1, 2));
     assert!(rt; is(&start.says, b"hello"));
-    assert_eq!(rt; (end.service, end.incarnation, end.faults), (1, 2, 2));
-    assert_eq!(rt; end.ended, true);
+    assert!(rt; (end.service, end.incarnation, end.faults) == (1, 2, 2));
+    assert!(rt; end.ended);
     assert!(rt; is(&end.left, b"lo"));
     assert!(rt; is(&end.given, b"boot"));
 }
@@ -241,9 +241,9 @@ fn children_do_what_is_planned(rt: HostRuntime) -> Result<(), Fail> {
         panic!(rt; "not as planned");
     };
     speaks(&rt, &mut link)?;
-    assert_eq!(rt; child.ended(), Ended::No);
-    assert_eq!(rt; child.ended(), Ended::Failed);
-    assert_eq!(rt; child.ended(), Ended::Yes);
+    assert!(rt; child.ended() == Ended::No);
+    assert!(rt; child.ended() == Ended::Failed);
+    assert!(rt; child.ended() == Ended::Yes);
     child.stop();
     children.finish(1, 2, child, link);
     tells_a_child(&rt, &children);
@@ -262,22 +262,22 @@ fn child_without_a_plan_is_silent(rt: HostRuntime) -> Result<(), Fail> {
     else {
         panic!(rt; "not as planned");
     };
-    assert_eq!(rt; link.pull(&mut [0u8; 8]), Pull::End);
-    assert_eq!(rt; child.ended(), Ended::No);
+    assert!(rt; link.pull(&mut [0u8; 8]) == Pull::End);
+    assert!(rt; child.ended() == Ended::No);
     children.finish(1, 1, child, link);
     Ok(())
 }
 
 /// An opening, one that failed, and a sink that was closed are told.
 fn tells_a_sink(rt: &impl Abort, sinks: &MemorySinks) {
-    assert_eq!(rt; sinks.faults(), 3);
+    assert!(rt; sinks.faults() == 3);
     let (Some([first, second]), Some([closed])) = (sinks.opened(), sinks.closed()) else {
         panic!(rt; "not as planned");
     };
-    assert_eq!(rt; (first.is_open, second.is_open), (true, false));
-    assert_eq!(rt; second.path.as_slice(), b"audit".as_slice());
+    assert!(rt; (first.is_open, second.is_open) == (true, false));
+    assert!(rt; second.path.as_slice() == b"audit".as_slice());
     assert!(rt; is(&closed.given, b"abce"));
-    assert_eq!(rt; closed.faults, 2);
+    assert!(rt; closed.faults == 2);
 }
 
 #[test]
@@ -292,7 +292,7 @@ fn sinks_fail_in_turn(rt: HostRuntime) -> Result<(), Fail> {
         (Put::Stopped(0), b"d"),
         (Put::Stopped(1), b"ef"),
     ] {
-        assert_eq!(rt; log.put(bytes), put);
+        assert!(rt; log.put(bytes) == put);
     }
     sinks.close("log", log);
     tells_a_sink(&rt, &sinks);
@@ -306,7 +306,7 @@ fn absent_network_refuses_each_listen(rt: HostRuntime) -> Result<(), Fail> {
         let doors = network.listen(rt.alloc(), 8080, 1);
         assert!(rt; matches!(doors, Err(MakeError::Failed)));
     }
-    assert_eq!(rt; network.faults(), 2);
+    assert!(rt; network.faults() == 2);
     Ok(())
 }
 
@@ -317,7 +317,7 @@ fn absent_children_refuse_each_start(rt: HostRuntime) -> Result<(), Fail> {
         let child = children.start(rt.alloc(), 0, 1, &[]);
         assert!(rt; matches!(child, Err(MakeError::Failed)));
     }
-    assert_eq!(rt; children.faults(), 2);
+    assert!(rt; children.faults() == 2);
     Ok(())
 }
 
@@ -328,7 +328,7 @@ fn absent_stores_refuse_each_making(rt: HostRuntime) -> Result<(), Fail> {
         let keeper = stores.make(rt.alloc(), "rows", 0, &[]);
         assert!(rt; matches!(keeper, Err(MakeError::Failed)));
     }
-    assert_eq!(rt; stores.faults(), 2);
+    assert!(rt; stores.faults() == 2);
     Ok(())
 }
 
@@ -338,7 +338,7 @@ fn absent_sinks_refuse_each_opening(rt: HostRuntime) -> Result<(), Fail> {
     for _ in 0..2 {
         assert!(rt; sinks.open("log").is_err());
     }
-    assert_eq!(rt; sinks.faults(), 2);
+    assert!(rt; sinks.faults() == 2);
     Ok(())
 }
 
@@ -351,7 +351,7 @@ fn stores_fail_in_turn(rt: HostRuntime) -> Result<(), Fail> {
     let refused = stores.make(rt.alloc(), "rows", 1, &[]);
     assert!(rt; matches!(refused, Err(MakeError::Failed)));
     stores.finish(0, keeper);
-    assert_eq!(rt; stores.faults(), 1);
+    assert!(rt; stores.faults() == 1);
     Ok(())
 }
 
@@ -388,6 +388,6 @@ fn gate_may_wait(rt: HostRuntime) -> Result<(), Fail> {
         passed: Mutex::new(0),
     };
     pass_all(&gate);
-    assert_eq!(rt; *gate.passed.lock(&rt), 8);
+    assert!(rt; *gate.passed.lock(&rt) == 8);
     Ok(())
 }

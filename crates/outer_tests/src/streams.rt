@@ -43,10 +43,10 @@ fn source_comes_in_pieces(rt: HostRuntime) -> Result<(), Fail> {
         (Pull::Took(1), b"ol"),
         (Pull::End, b"ol"),
     ] {
-        assert_eq!(rt; source.pull(&mut piece), pull);
-        assert_eq!(rt; &piece[..2], bytes);
+        assert!(rt; source.pull(&mut piece) == pull);
+        assert!(rt; &piece[..2] == bytes);
     }
-    assert_eq!(rt; source.faults(), 1);
+    assert!(rt; source.faults() == 1);
     Ok(())
 }
 
@@ -75,10 +75,10 @@ fn put_past_the_room_stops(rt: HostRuntime) -> Result<(), Fail> {
         (Put::Stopped(0), b"g"),
         (Put::Done, b""),
     ] {
-        assert_eq!(rt; sink.put(bytes), put);
+        assert!(rt; sink.put(bytes) == put);
     }
-    assert_eq!(rt; sink.given(), b"abcde".as_slice());
-    assert_eq!(rt; sink.faults(), 3);
+    assert!(rt; sink.given() == b"abcde".as_slice());
+    assert!(rt; sink.faults() == 3);
     Ok(())
 }
 
@@ -87,26 +87,26 @@ fn link_is_cut_in_single_bytes(rt: HostRuntime) -> Result<(), Fail> {
     let mut link = MemoryLink::new(rt.alloc(), 1, &[2]);
     let mut piece = [0u8; 8];
     link.feed(b"ab")?;
-    assert_eq!(rt; link.pull(&mut piece), Pull::Took(1));
+    assert!(rt; link.pull(&mut piece) == Pull::Took(1));
     link.feed(b"c")?;
     link.feed_end();
-    assert_eq!(rt; link.left(), b"bc".as_slice());
+    assert!(rt; link.left() == b"bc".as_slice());
     for pull in [Pull::Took(1), Pull::Failed, Pull::Took(1), Pull::End] {
-        assert_eq!(rt; link.pull(&mut piece), pull);
+        assert!(rt; link.pull(&mut piece) == pull);
     }
-    assert_eq!(rt; piece[0], b'c');
-    assert_eq!(rt; link.is_ended(), true);
+    assert!(rt; piece[0] == b'c');
+    assert!(rt; link.is_ended());
     Ok(())
 }
 
 #[test]
 fn link_takes_what_room_was_made_for(rt: HostRuntime) -> Result<(), Fail> {
     let mut link = MemoryLink::new(rt.alloc(), 1, &[]);
-    assert_eq!(rt; link.put(b"a"), Put::Stopped(0));
+    assert!(rt; link.put(b"a") == Put::Stopped(0));
     link.make_room(2)?;
-    assert_eq!(rt; link.put(b"ab"), Put::Done);
-    assert_eq!(rt; link.given(), b"ab".as_slice());
-    assert_eq!(rt; link.faults(), 1);
+    assert!(rt; link.put(b"ab") == Put::Done);
+    assert!(rt; link.given() == b"ab".as_slice());
+    assert!(rt; link.faults() == 1);
     Ok(())
 }
 
@@ -121,11 +121,11 @@ fn passing_link_takes_all_that_is_put(rt: HostRuntime) -> Result<(), Fail> {
         (Pull::Took(1), b""),
         (Pull::End, b""),
     ] {
-        assert_eq!(rt; link.put(b"abc"), Put::Done);
-        assert_eq!(rt; link.pull(&mut piece), pull);
-        assert_eq!(rt; link.left(), left);
+        assert!(rt; link.put(b"abc") == Put::Done);
+        assert!(rt; link.pull(&mut piece) == pull);
+        assert!(rt; link.left() == left);
     }
-    assert_eq!(rt; link.is_ended(), true);
+    assert!(rt; link.is_ended());
     Ok(())
 }
 
@@ -163,8 +163,8 @@ fn printing_goes_on_after_a_fault(rt: HostRuntime) -> Result<(), Fail> {
     for bytes in [b"ab".as_slice(), b"cd", b"ef"] {
         print(&mut out, &mut stopped, bytes);
     }
-    assert_eq!(rt; stopped, true);
-    assert_eq!(rt; out.given(), b"ab".as_slice());
+    assert!(rt; stopped);
+    assert!(rt; out.given() == b"ab".as_slice());
     world.close(Outside { files, out, seed });
     Ok(())
 }

@@ -1,0 +1,9 @@
+pub mod Owns
+pub mod Recording
+pub mod Places
+pub mod Keeps
+pub mod Placing
+pub mod Begins
+pub mod Stating
+pub mod Told
+pub mod Adds

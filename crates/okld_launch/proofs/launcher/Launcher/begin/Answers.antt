@@ -1,0 +1,22 @@
+use Rattle.std.proofs.Common.{◌≡◌, ◌<◌, sym, subst, arith}
+use Rattle.monitor_model.specs.Launcher.{begun}
+use Rattle.okld_launch.specs.Crews.{Under, crew_of}
+use Rattle.okld_launch.specs.Recorded.{Recorded}
+use Rattle.okld_launch.proofs.Begins.{launcher_of, begun_kept, under_next}
+use Rattle.okld_launch.proofs.launcher.Launcher.begin.Goals as goal
+
+pub invariant_of-self : goal.invariant_of-self
+invariant_of-self g c = record {
+  site_is = c.self.invariant.site_is;
+  seed_is = c.self.invariant.seed_is;
+  few = c.self.invariant.few;
+  keeps = begun_kept g.N.Numbered.site c.args.service c.begin-incarnation.result (launcher_of c.self.inside.journal c.self.inside.crew.recorder c.self.inside.crew.staff c.self.inside.ups.items) (launcher_of c.begin-incarnation.new.self c.raise.new.self c.self.inside.crew.staff c.self.inside.ups.items)
+      (λ i. record { journal = c.begin-incarnation.ensures.entered i; crew = crew_of (c.raise.ensures.is i) c.self.inside.crew.staff; ups = c.self.inside.ups.items }) c.begin-incarnation.ensures.next c.raise.ensures.shown c.self.invariant.keeps;
+}
+
+pub raise-requires-clause-above : goal.raise-requires-clause-above
+raise-requires-clause-above g c = omega (arith, (c.self.invariant.keeps.each c.args.service).below.board, c.begin-incarnation.ensures.next)
+
+pub returns-clause-under : goal.returns-clause-under
+returns-clause-under g c = subst (λ (r : Recorded). Under c.args.service c.begin-incarnation.result (crew_of r c.self.inside.crew.staff)) (sym c.raise.ensures.is)
+    (under_next c.args.service (begun c.self.inside.journal.past c.args.service) c.begin-incarnation.result (crew_of c.self.inside.crew.recorder c.self.inside.crew.staff) c.begin-incarnation.ensures.next (c.self.invariant.keeps.each c.args.service).below)

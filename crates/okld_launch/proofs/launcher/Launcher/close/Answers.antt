@@ -1,0 +1,13 @@
+use Rattle.std.proofs.Common.{◌≡◌, ℕ, List, sym, subst}
+use Rattle.std.specs.Prelude.{slice_index}
+use Rattle.okws_base.specs.declared.journal.Entry.{Entry}
+use Rattle.okws_plan.specs.declared.event.LauncherEvent.{LauncherEvent}
+use Rattle.monitor_model.specs.Launcher.{begun}
+use Rattle.okld_launch.specs.Crews.{Below}
+use Rattle.okld_launch.proofs.launcher.Launcher.close.Goals as goal
+
+pub returns-clause-below : goal.returns-clause-below
+returns-clause-below g c = λ s. subst (λ (J : List (Entry LauncherEvent)). Below s (begun J s) c.self.inside.crew.recorder.sat c.self.inside.crew.recorder.watch) (sym c.close.ensures.past) (c.self.invariant.keeps.each s).below
+
+pub returns-clause-shown : goal.returns-clause-shown
+returns-clause-shown g c = λ s within. subst (λ (J : List (Entry LauncherEvent)). slice_index c.self.inside.crew.recorder.sat.board s ≡ begun J s) (sym c.close.ensures.past) ((c.self.invariant.keeps.each s).shown within)

@@ -1,0 +1,12 @@
+use Rattle.std.proofs.Common.{◌≡◌, refl}
+use Rattle.okld_launch.specs.Crews.{crew_of}
+use Rattle.okld_launch.proofs.Begins.{launcher_of, same_crew, asked}
+use Rattle.okld_launch.proofs.launcher.Launcher.ended.Goals as goal
+
+pub invariant_of-self : goal.invariant_of-self
+invariant_of-self g c = record {
+  site_is = c.self.invariant.site_is;
+  seed_is = c.self.invariant.seed_is;
+  few = c.self.invariant.few;
+  keeps = same_crew g.N.Numbered.site (launcher_of c.self.inside.journal c.self.inside.crew.recorder c.self.inside.crew.staff c.self.inside.ups.items) (crew_of c.self.inside.crew.recorder c.ended.new.self) (asked c.args.service c.in-Some.answer c.self.inside.crew.recorder c.self.inside.crew.staff c.ended.new.self c.in-Some.ensures) c.self.invariant.keeps;
+}

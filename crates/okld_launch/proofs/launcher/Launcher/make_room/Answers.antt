@@ -1,0 +1,12 @@
+use Rattle.std.proofs.Common.{◌≡◌, ap}
+use Rattle.launch_journal.specs.Launches.{Launches}
+use Rattle.okld_launch.proofs.Begins.{launcher_of, same_entries}
+use Rattle.okld_launch.proofs.launcher.Launcher.make_room.Goals as goal
+
+pub invariant_of-self : goal.invariant_of-self
+invariant_of-self g c = record {
+  site_is = c.self.invariant.site_is;
+  seed_is = c.self.invariant.seed_is;
+  few = c.self.invariant.few;
+  keeps = same_entries g.N.Numbered.site (launcher_of c.self.inside.journal c.self.inside.crew.recorder c.self.inside.crew.staff c.self.inside.ups.items) c.make_room.new.self (ap (λ (x : Launches). x.config) c.make_room.ensures.same) (ap (λ (x : Launches). x.past) c.make_room.ensures.same) c.self.invariant.keeps;
+}

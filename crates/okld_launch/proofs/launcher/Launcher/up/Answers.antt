@@ -1,0 +1,30 @@
+use Rattle.std.proofs.Common.{◌≡◌, ◌∙◌, ◌≤◌, refl, sym, ap, subst, arith}
+use Rattle.std.specs.Prelude.{slice_set}
+use Rattle.monitor_model.specs.Launcher.{begun}
+use Rattle.okld_launch.specs.Crews.{StandsAt, RunsAs, child_of, crew_of}
+use Rattle.okld_launch.specs.Launchers.{LauncherIs, up_in}
+use Rattle.okld_launch.proofs.Begins.{launcher_of}
+use Rattle.okld_launch.proofs.Placing.{upped_kept, looked_kept}
+use Rattle.okld_launch.proofs.launcher.Launcher.up.Goals as goal
+
+pub invariant_of-self : goal.invariant_of-self
+invariant_of-self g c = record {
+  site_is = c.self.invariant.site_is;
+  seed_is = c.self.invariant.seed_is;
+  few = c.self.invariant.few;
+  keeps = looked_kept g.N.Numbered.site c.args.service (launcher_of c.self.inside.journal c.self.inside.crew.recorder c.self.inside.crew.staff c.self.inside.ups.items) (launcher_of c.self.inside.journal c.up.new.self c.self.inside.crew.staff c.self.inside.ups.items) c.self.invariant.keeps refl refl
+      (record { watch_is = c.up.ensures.cells; running_is = refl; family_is = refl }) c.in_err-up.ensures.err (ap (λ (x : LauncherIs). up_in x c.args.service) c.self.view_is ∙ c.requires.down)
+      (omega (arith, ap (λ (x : LauncherIs). x.crew.room) c.self.view_is, c.requires.room, c.up.ensures.room));
+}
+
+pub invariant_of-self-2 : goal.invariant_of-self-2
+invariant_of-self-2 g c = record {
+  site_is = c.self.invariant.site_is;
+  seed_is = c.self.invariant.seed_is;
+  few = c.self.invariant.few;
+  keeps = upped_kept g.N.Numbered.site c.args.service c.args.incarnation (launcher_of c.self.inside.journal c.self.inside.crew.recorder c.self.inside.crew.staff c.self.inside.ups.items) (launcher_of c.self.inside.journal c.up.new.self c.self.inside.crew.staff (slice_set c.self.inside.ups.items c.args.service c.args.incarnation)) c.self.invariant.keeps refl refl c.requires.service
+      (record { watch_is = c.up.ensures.cells; running_is = refl; family_is = refl }) c.in_ok-up.ensures.ok c.requires.counted (subst (λ (x : LauncherIs). c.args.incarnation ≤ begun x.journal.past c.args.service) (sym c.self.view_is) c.requires.begun)
+      (subst (λ (x : LauncherIs). StandsAt g.N.Numbered.site c.args.service c.args.incarnation x.crew.sat) (sym c.self.view_is) c.requires.stands)
+      (subst (λ (x : LauncherIs). RunsAs c.args.incarnation (child_of x.crew c.args.service)) (sym c.self.view_is) c.requires.child)
+      (omega (arith, ap (λ (x : LauncherIs). x.crew.room) c.self.view_is, c.requires.room, c.up.ensures.room));
+}

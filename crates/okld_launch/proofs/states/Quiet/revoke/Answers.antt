@@ -1,0 +1,13 @@
+use Rattle.std.proofs.Common.{◌≡◌, ◌+◌, ◌≤◌, arith}
+use Rattle.okws_base.specs.declared.limit.TheConstants.{MOST_PROXIES}
+use Rattle.okld_launch.proofs.Stating.{begins_on}
+use Rattle.okld_launch.proofs.states.Quiet.revoke.Goals as goal
+
+pub invariant_of-result : goal.invariant_of-result
+invariant_of-result g c = record {
+  begins = begins_on g.N.Numbered.site (MOST_PROXIES + 4 + (MOST_PROXIES + 2 + (MOST_PROXIES + 4))) (MOST_PROXIES + 2 + (MOST_PROXIES + 4)) c.self.inside.launcher c.clear.new.self c.self.inside.service c.self.inside.incarnation c.self.invariant.begins c.clear.ensures.journal
+      (omega (arith, c.clear.ensures.room));
+  under = c.clear.ensures.under c.self.inside.incarnation c.self.invariant.under;
+  quiet = c.clear.ensures.quiet;
+  down = c.clear.ensures.down;
+}

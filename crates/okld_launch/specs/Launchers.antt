@@ -1,0 +1,44 @@
+-- The launcher as contracts see it.
+use Rattle.std.specs.Prelude.{◌≡◌, ◌<◌, ◌≤◌, ℕ, List, None, length, slice_index}
+use Rattle.okws_base.specs.declared.limit.TheConstants.{MOST_PROXIES}
+use Rattle.okws_plan.specs.declared.configuration.Config.{Config}
+use Rattle.monitor_model.specs.Launcher.{begun}
+use Rattle.launch_journal.specs.Launches.{Launches}
+use Rattle.okld_launch.specs.Crews.{CrewIs, Below, IsUp, NoneStands, up_of}
+
+-- Its journal, its crew, and the incarnation of each service that is up, 0 for none.
+pub record LauncherIs : Type 0 where
+  pub journal : Launches
+  pub crew : CrewIs
+  pub ups : List ℕ
+
+-- The incarnation of s that is up, 0 for none.
+abbrev pub up_in : LauncherIs → ℕ → ℕ
+up_in l s = slice_index l.ups s
+
+-- What the launcher keeps of s: nothing was installed or booted that was not begun, the board shows the greatest begun, and what is up was begun and stands.
+pub record IsKept (C : Config) (l : LauncherIs) (s : ℕ) : Type 0 where
+  pub below : Below s (begun l.journal.past s) l.crew.sat l.crew.watch
+  pub shown : s < length C.services → slice_index l.crew.sat.board s ≡ begun l.journal.past s
+  pub begun_is : up_in l s ≤ begun l.journal.past s
+  pub up : 0 < up_in l s → IsUp C s (up_in l s) l.crew
+  pub down : up_in l s ≡ 0 → up_of l.crew.sat s ≡ None
+
+-- The launcher of a site. There is room for the items of the run's end, at most one for each service.
+pub record IsLauncher (C : Config) (l : LauncherIs) : Type 0 where
+  pub config_is : l.journal.config ≡ C
+  pub ups_are : length l.ups ≡ length C.services
+  pub spare : length C.services ≤ l.crew.room
+  pub each : (s : ℕ) → IsKept C l s
+
+-- It is the launcher of a run with this site and this seed.
+pub record IsPlaced (C : Config) (run_seed : List ℕ) (l : LauncherIs) (site : Config) (seed : List ℕ) : Type 0 where
+  pub site_is : site ≡ C
+  pub seed_is : seed ≡ run_seed
+  pub few : length C.proxies ≤ MOST_PROXIES
+  pub keeps : IsLauncher C l
+
+-- Nothing of s is up or stands at a column.
+pub record IsOut (C : Config) (s : ℕ) (l : LauncherIs) : Type 0 where
+  pub down : up_in l s ≡ 0
+  pub none : NoneStands C s l.crew.sat

@@ -1,0 +1,159 @@
+//! What the launcher enters in its journal, and what it knows by it.
+
+ghost use Rattle.std.specs.Prelude.{◌≡◌, ◌<◌, ◌≤◌, ◌+◌, OnOk, IfNone, IfSome, length};
+ghost use Rattle.okws_base.specs.declared.limit.TheConstants.{MOST_INCARNATIONS, MOST_PROXIES};
+ghost use Rattle.okws_plan.specs.declared.event.LauncherEvent.TheVariants as event;
+ghost use Rattle.monitor_model.specs.Cell.{last_booted};
+ghost use Rattle.monitor_model.specs.Launcher.{begun};
+ghost use Rattle.launch_journal.specs.Launches.{Allows, entered, given_up};
+ghost use Rattle.launch_journal.specs.declared.next.Next.TheVariants as next;
+ghost use Rattle.okld_launch.specs.Launchers.{IsLauncher, up_in};
+ghost use Rattle.okld_launch.specs.Going.{AsksUp, Ends};
+
+use crate::answer::Launched;
+use crate::launcher::Launcher;
+use cell_locks::locks::CellLocks;
+use cell_locks::named::CellNames;
+use cell_locks::note::CellNote;
+use launch_journal::Next;
+use named_columns::named::Backed;
+use okws_base::limit::MOST_PROXIES;
+use okws_outer::child::Ended;
+use okws_outer::children::Children;
+use okws_outer::keeper::Keeper;
+use okws_outer::stream::Sink;
+use site_locks::named::Site;
+use std::alloc::AllocError;
+
+// Items of the launcher's list that one attempt at a launch makes at most: what stood is ended, the
+// incarnation is installed, booted and up, or what was installed is revoked.
+const LONGEST_PIECE: usize = (MOST_PROXIES + 4) + (MOST_PROXIES + 2) + (MOST_PROXIES + 4);
+
+impl<N: Backed, J: Site, C: CellNames, K: Keeper, S: Sink, F: Children> Launcher<N, J, C, K, S, F> {
+    /// Makes room for n more entries. Where memory is refused, the entries are as before.
+    pub(crate) fn make_room(&mut self, n: usize) -> Result<(), AllocError>
+        ensures same { self.new ≡ record self.old { journal = record self.old.journal { room = self.new.journal.room } } }
+        ensures ok { OnOk result (n ≤ self.new.journal.room) }
+    {
+        self.journal.make_room(n)
+    }
+
+    /// Makes room for the entries and the items of one attempt at a launch. Where memory is refused, both are
+    /// as before.
+    pub(crate) fn reserve(&mut self) -> Result<(), AllocError>
+        ensures same { self.new ≡ record self.old { journal = record self.old.journal { room = self.new.journal.room }; crew = record self.old.crew { room = self.new.crew.room } } }
+        ensures entries { OnOk result (2 ≤ self.new.journal.room) }
+        ensures items { OnOk result (MOST_PROXIES + 4 + (MOST_PROXIES + 2 + (MOST_PROXIES + 4)) + length N.site.services ≤ self.new.crew.room) }
+    {
+        self.journal.make_room(2)?;
+        let services = self.crew.recorder.services();
+        self.crew.recorder.make_room(LONGEST_PIECE + services)
+    }
+
+    /// The greatest incarnation of the service that was begun, 0 for none.
+    pub(crate) fn greatest(&self, service: u16) -> u32
+        ensures is { result ≡ begun self.now.journal.past service }
+        ensures most { result ≤ MOST_INCARNATIONS }
+    {
+        self.journal.greatest(service)
+    }
+
+    /// What may come next of the service.
+    pub(crate) fn next(&self, service: u16) -> Next
+        ensures { Allows N.site self.now.journal.past service result }
+    {
+        self.journal.next(service)
+    }
+
+    /// Enters that the operator asked for the service.
+    pub(crate) fn ask(&mut self, service: u16)
+        requires service { service < length N.site.services }
+        requires room { 0 < self.old.journal.room }
+        ensures { self.new ≡ record self.old { journal = entered self.old.journal (event.Asked service) } }
+    {
+        self.journal.asked(service);
+    }
+
+    /// Enters that an incarnation of the service has crashed, which was begun.
+    pub(crate) fn crash(&mut self, service: u16, incarnation: u32)
+        requires service { service < length N.site.services }
+        requires counted { 0 < incarnation }
+        requires begun { incarnation ≤ begun self.old.journal.past service }
+        requires room { 0 < self.old.journal.room }
+        ensures { self.new ≡ record self.old { journal = entered self.old.journal (event.Crashed service incarnation) } }
+    {
+        self.journal.crashed(service, incarnation);
+    }
+
+    /// Enters that the greatest incarnation of the service failed.
+    pub(crate) fn fail(&mut self, service: u16, incarnation: u32)
+        requires service { service < length N.site.services }
+        requires counted { 0 < incarnation }
+        requires begun { incarnation ≡ begun self.old.journal.past service }
+        requires room { 0 < self.old.journal.room }
+        ensures { self.new ≡ record self.old { journal = entered self.old.journal (event.Failed service incarnation) } }
+    {
+        self.journal.failed(service, incarnation);
+    }
+
+    /// Gives the service up.
+    pub(crate) fn give_up(&mut self, service: u16) -> Launched
+        requires service { service < length N.site.services }
+        requires may { Allows N.site self.old.journal.past service next.GiveUp }
+        ensures ends { Ends N.site self.old.journal.holder service self.old.journal.past result self.new }
+        ensures same { self.new ≡ record self.old { journal = self.new.journal } }
+        ensures holder { self.new.journal.holder ≡ self.old.journal.holder }
+    {
+        if self.make_room(1).is_err() {
+            return Launched::NoMemory;
+        }
+        Launched::Dead(self.journal.give_up(service))
+    }
+
+    /// After how many tries the service was given up, where nobody has asked for it since.
+    pub(crate) fn given_up(&self, service: u16) -> Option<u32>
+        ensures { result ≡ given_up self.now.journal.past service }
+    {
+        self.journal.given_up(service)
+    }
+
+    /// The incarnation of the service that is up, which was begun.
+    pub fn up_now(&self, service: u16) -> Option<u32>
+        requires service { service < length N.site.services }
+        ensures none { IfNone result (up_in self.now service ≡ 0) }
+        ensures some { IfSome result (λ k. (k ≡ up_in self.now service) × (0 < k) × (k ≤ begun self.now.journal.past service)) }
+    {
+        match self.ups[service as usize] {
+            0 => None,
+            incarnation => Some(incarnation),
+        }
+    }
+
+    /// Asks the child of the service, which is up, whether it has ended.
+    pub(crate) fn ended(&mut self, service: u16) -> Ended
+        requires service { service < length N.site.services }
+        requires up { 0 < up_in self.old service }
+        ensures asks { AsksUp service self.old result self.new }
+        ensures same { self.new ≡ record self.old { crew = record self.old.crew { running = self.new.crew.running } } }
+    {
+        match self.crew.staff.ended(service) {
+            Some(answer) => answer,
+            None => unreachable!(),
+        }
+    }
+
+    /// What a launcher's type tells of it.
+    pub(crate) fn keeps(&self)
+        ensures { IsLauncher N.site self.now }
+    {
+        let _site = &self.site;
+    }
+
+    /// Takes in what another number has seen at a cell: what was booted there was begun.
+    pub(crate) fn meet(&mut self, cells: &CellLocks<N, C, F::Link>, note: CellNote<N, C, F::Link>)
+        ensures begun { last_booted note.seen ≤ begun self.new.journal.past note.service }
+        ensures same { self.new ≡ record self.old { crew = record self.old.crew { watch = self.new.crew.watch } } }
+    {
+        self.crew.recorder.meet(cells, note);
+    }
+}

@@ -1,0 +1,148 @@
+//! The launcher's value, as it stands behind its lock.
+
+ghost use Rattle.std.specs.Prelude.{◌≡◌, ◌<◌, ◌≤◌, ℕ, [], length, slice_index, IfOk, IfErr};
+ghost use Rattle.std.specs.Arc.{arc_value};
+ghost use Rattle.okws_base.specs.declared.limit.TheConstants.{MOST_PROXIES};
+ghost use Rattle.monitor_model.specs.Launcher.{LauncherLaw, begun};
+ghost use Rattle.okld_launch.specs.Crews.{Below, crew_of};
+ghost use Rattle.okld_launch.specs.Recorded.{IsUnused};
+
+use crate::crew::Crew;
+use cell_locks::named::CellNames;
+use launch_journal::LaunchJournal;
+use named_columns::named::Backed;
+use okws_base::journal::{Entry, Past};
+use okws_outer::children::Children;
+use okws_outer::keeper::Keeper;
+use okws_outer::stream::Sink;
+use okws_plan::configuration::Config;
+use okws_plan::event::LauncherEvent;
+use site_locks::named::Site;
+use std::alloc::Global;
+use std::marker::Model;
+use std::sync::Arc;
+use token_core::Seed;
+use turn_lock::Journaled;
+
+/// The launcher of a site: its journal, its crew, and which incarnation of each service is up. By its type
+/// the journal keeps the launcher's law, nothing was launched that was not begun, and what is up stands.
+#[derive(Drop)]
+pub struct Launcher<N: Backed, J: Site, C: CellNames, K: Keeper, S: Sink, F: Children> {
+    pub(crate) alloc: Global,
+    pub(crate) journal: LaunchJournal,
+    pub(crate) crew: Crew<N, J, C, K, S, F>,
+    // The incarnation of each service that is up, 0 for none.
+    pub(crate) ups: Vec<u32>,
+    pub(crate) site: Arc<Config, Global>,
+    pub(crate) seed: Seed,
+}
+
+impl<N: Backed, J: Site, C: CellNames, K: Keeper, S: Sink, F: Children> Model
+    for Launcher<N, J, C, K, S, F> {
+    ghost use Rattle.std.specs.Arc.{arc_value};
+    ghost use Rattle.okld_launch.specs.Crews.{crew_of};
+    ghost use Rattle.okld_launch.specs.Launchers.{LauncherIs, IsPlaced};
+
+    ghost Value = { LauncherIs };
+
+    ghost view = { λ l. record { journal = l.journal; crew = crew_of l.crew.recorder l.crew.staff; ups = l.ups.items } };
+
+    ghost invariant = { λ l. IsPlaced N.site N.run_seed (record { journal = l.journal; crew = crew_of l.crew.recorder l.crew.staff; ups = l.ups.items }) (arc_value l.site) l.seed };
+}
+
+impl<N: Backed, J: Site, C: CellNames, K: Keeper, S: Sink, F: Children + Drop> Launcher<
+    N,
+    J,
+    C,
+    K,
+    S,
+    F,
+> {
+    /// The launcher of a site at which nothing was launched. Where memory is refused, the crew comes back.
+    pub fn new(
+        alloc: Global,
+        journal: LaunchJournal,
+        crew: Crew<N, J, C, K, S, F>,
+        site: Arc<Config, Global>,
+        seed: Seed,
+    ) -> Result<Self, Crew<N, J, C, K, S, F>>
+        requires config { journal.config ≡ N.site }
+        requires none { journal.past ≡ [] }
+        requires unused { IsUnused N.site N.launcher crew.recorder }
+        requires spare { length N.site.services ≤ crew.recorder.room }
+        requires few { length N.site.proxies ≤ MOST_PROXIES }
+        requires site { arc_value site ≡ N.site }
+        requires seed { seed ≡ N.run_seed }
+        ensures ok { IfOk result (λ l. (l.journal ≡ journal) × (l.crew ≡ crew_of crew.recorder crew.staff)) }
+        ensures err { IfErr result (λ c. c ≡ crew) }
+    {
+        let services = crew.recorder.services();
+        let Ok(ups) = vec![in alloc; 0; services] else {
+            return Err(crew);
+        };
+        Ok(Launcher {
+            alloc,
+            journal,
+            crew,
+            ups,
+            site,
+            seed,
+        })
+    }
+}
+
+impl<N: Backed, J: Site, C: CellNames, K: Keeper, S: Sink, F: Children> Launcher<N, J, C, K, S, F> {
+    /// What was entered, which keeps the launcher's law, and the crew, by which nothing was launched that
+    /// was not begun.
+    pub fn close(self) -> (Past<Entry<LauncherEvent>>, Crew<N, J, C, K, S, F>)
+        ensures past { result.0 ≡ self.journal.past }
+        ensures law { LauncherLaw N.site result.0 }
+        ensures crew { crew_of result.1.recorder result.1.staff ≡ self.crew }
+        ensures below { (s : ℕ) → Below s (begun result.0 s) result.1.recorder.sat result.1.recorder.watch }
+        ensures shown { (s : ℕ) → s < length N.site.services → slice_index result.1.recorder.sat.board s ≡ begun result.0 s }
+        ensures spare { length N.site.services ≤ result.1.recorder.room }
+    {
+        let Launcher {
+            alloc: _,
+            journal,
+            crew,
+            ups: _,
+            site: _,
+            seed: _,
+        } = self;
+        (journal.close(), crew)
+    }
+}
+
+impl<N: Backed, J: Site, C: CellNames, K: Keeper, S: Sink, F: Children> Journaled
+    for Launcher<N, J, C, K, S, F> {
+    ghost use Rattle.named_columns.specs.Launched.{by_entry};
+
+    type Entry = Entry<LauncherEvent>;
+
+    ghost journal = { λ l. l.journal.past };
+
+    ghost by = { by_entry };
+
+    ghost holder = { λ l. l.journal.holder };
+
+    ghost label = { λ _. 0 };
+
+    ghost held = { λ l n. record l { journal = record l.journal { holder = n } } };
+
+    fn hold(&mut self, number: u16)
+        ensures same { self.new.journal.past ≡ self.old.journal.past }
+        ensures holder { self.new.journal.holder ≡ number }
+        ensures all { self.new ≡ record self.old { journal = record self.old.journal { holder = number } } }
+    {
+        self.journal.hold(number);
+    }
+
+    fn label(&self) -> u16 {
+        0
+    }
+
+    fn holder(&self) -> u16 {
+        self.journal.holder()
+    }
+}

@@ -1,0 +1,276 @@
+//! How the launcher launches.
+
+ghost use Rattle.std.specs.Prelude.{◌≡◌, ◌≢◌, ◌<◌, ◌≤◌, length};
+ghost use Rattle.okws_base.specs.Turns.{AddsBy};
+ghost use Rattle.monitor_model.specs.Launcher.{begun};
+ghost use Rattle.named_columns.specs.Launched.{by_entry};
+ghost use Rattle.launch_journal.specs.Launches.{Allows};
+ghost use Rattle.launch_journal.specs.declared.next.Next.TheVariants as next;
+ghost use Rattle.okld_launch.specs.Launchers.{up_in};
+ghost use Rattle.okld_launch.specs.Going.{Attempts, Closes, Goes, GoesAsked, GoesCrashed, Ends, crashed_as, tended_as};
+
+use crate::answer::{Attempt, Crashed, Launched, Missed, Tended};
+use crate::launcher::Launcher;
+use crate::states::{Booted, Installed, Quiet, Revoked};
+use cell_locks::locks::CellLocks;
+use cell_locks::named::CellNames;
+use launch_journal::Next;
+use named_columns::named::Backed;
+use okws_base::limit::MOST_INCARNATIONS;
+use okws_outer::child::Ended;
+use okws_outer::children::Children;
+use okws_outer::gate::Gate;
+use okws_outer::keeper::Keeper;
+use okws_outer::stream::Sink;
+use site_locks::locks::Locks;
+use site_locks::named::Site;
+use std::sync::Wait;
+
+impl<N: Backed, J: Site, C: CellNames, K: Keeper, S: Sink, F: Children> Booted<N, J, C, K, S, F> {
+    // The rest of an attempt.
+    fn close<R: Wait>(
+        self,
+        rt: &R,
+        locks: &Locks<N, J, K, S>,
+    ) -> (Launcher<N, J, C, K, S, F>, Attempt)
+        ensures closes { Closes N.site self.launcher.journal.holder self result.1 result.0 }
+        ensures holder { result.0.journal.holder ≡ self.launcher.journal.holder }
+    {
+        let incarnation = self.incarnation;
+        match self.up(rt, locks) {
+            Ok(launcher) => (launcher, Attempt::Up(incarnation)),
+            Err(broken) => (broken.revoke(rt, locks), Attempt::NoMemory),
+        }
+    }
+}
+
+impl<N: Backed, J: Site, C: CellNames, K: Keeper, S: Sink, F: Children> Installed<
+    N,
+    J,
+    C,
+    K,
+    S,
+    F,
+> {
+    // The rest of an attempt.
+    fn close<R: Wait>(
+        self,
+        rt: &R,
+        locks: &Locks<N, J, K, S>,
+        cells: &CellLocks<N, C, F::Link>,
+    ) -> (Launcher<N, J, C, K, S, F>, Attempt)
+        ensures closes { Closes N.site self.launcher.journal.holder self result.1 result.0 }
+        ensures holder { result.0.journal.holder ≡ self.launcher.journal.holder }
+    {
+        match self.boot(rt, cells) {
+            Ok(booted) => booted.close(rt, locks),
+            Err((Missed::Failed, broken)) => (broken.fail(), Attempt::Failed),
+            Err((Missed::NoMemory, broken)) => (broken.revoke(rt, locks), Attempt::NoMemory),
+        }
+    }
+}
+
+impl<N: Backed, J: Site, C: CellNames, K: Keeper, S: Sink, F: Children> Revoked<N, J, C, K, S, F> {
+    // The rest of an attempt.
+    fn close<R: Wait>(
+        self,
+        rt: &R,
+        locks: &Locks<N, J, K, S>,
+        cells: &CellLocks<N, C, F::Link>,
+    ) -> (Launcher<N, J, C, K, S, F>, Attempt)
+        ensures closes { Closes N.site self.launcher.journal.holder self result.1 result.0 }
+        ensures holder { result.0.journal.holder ≡ self.launcher.journal.holder }
+    {
+        match self.install(rt, locks) {
+            Ok(installed) => installed.close(rt, locks, cells),
+            Err(broken) => (broken.revoke(rt, locks), Attempt::NoMemory),
+        }
+    }
+}
+
+impl<N: Backed, J: Site, C: CellNames, K: Keeper, S: Sink, F: Children> Quiet<N, J, C, K, S, F> {
+    // The rest of an attempt.
+    fn close<R: Wait>(
+        self,
+        rt: &R,
+        locks: &Locks<N, J, K, S>,
+        cells: &CellLocks<N, C, F::Link>,
+    ) -> (Launcher<N, J, C, K, S, F>, Attempt)
+        ensures closes { Closes N.site self.launcher.journal.holder self result.1 result.0 }
+        ensures holder { result.0.journal.holder ≡ self.launcher.journal.holder }
+    {
+        self.revoke(rt, locks, cells).close(rt, locks, cells)
+    }
+}
+
+// What is answered as a launch is.
+fn crashed_as(launched: Launched) -> Crashed
+    ensures { result ≡ crashed_as launched }
+{
+    match launched {
+        Launched::Up(incarnation) => Crashed::Up(incarnation),
+        Launched::Dead(tries) => Crashed::Dead(tries),
+        Launched::Spent => Crashed::Spent,
+        Launched::NoMemory => Crashed::NoMemory,
+    }
+}
+
+pub(crate) fn tended_as(launched: Launched) -> Tended
+    ensures { result ≡ tended_as launched }
+{
+    match launched {
+        Launched::Up(incarnation) => Tended::Up(incarnation),
+        Launched::Dead(tries) => Tended::Dead(tries),
+        Launched::Spent => Tended::Spent,
+        Launched::NoMemory => Tended::NoMemory,
+    }
+}
+
+impl<N: Backed, J: Site, C: CellNames, K: Keeper, S: Sink, F: Children> Launcher<N, J, C, K, S, F> {
+    // One attempt at a launch of the service, whose next incarnation may begin.
+    fn attempt<R: Wait, G: Gate>(
+        self,
+        rt: &R,
+        gate: &G,
+        locks: &Locks<N, J, K, S>,
+        cells: &CellLocks<N, C, F::Link>,
+        service: u16,
+    ) -> (Self, Attempt)
+        requires service { service < length N.site.services }
+        requires may { Allows N.site self.journal.past service next.Begin }
+        ensures attempts { Attempts N.site self.journal.holder service self.journal.past self.crew.family result.1 result.0 }
+        ensures holder { result.0.journal.holder ≡ self.journal.holder }
+    {
+        let mut launcher = self;
+        let Ok(()) = launcher.reserve() else {
+            return (launcher, Attempt::NoMemory);
+        };
+        let incarnation = launcher.begin(gate, locks, service);
+        let quiet = Quiet {
+            launcher,
+            service,
+            incarnation,
+        };
+        quiet.close(rt, locks, cells)
+    }
+
+    // The end of a launch, where no other incarnation may begin.
+    fn end(self, service: u16, what: Next) -> (Self, Launched)
+        requires service { service < length N.site.services }
+        requires allows { Allows N.site self.journal.past service what }
+        requires no_more { what ≢ next.Begin }
+        ensures ends { Ends N.site self.journal.holder service self.journal.past result.1 result.0 }
+        ensures holder { result.0.journal.holder ≡ self.journal.holder }
+    {
+        let mut launcher = self;
+        match what {
+            Next::Begin => unreachable!(),
+            Next::GiveUp => {
+                let answer = launcher.give_up(service);
+                (launcher, answer)
+            }
+            Next::Dead(tries) => (launcher, Launched::Dead(tries)),
+            Next::Spent => (launcher, Launched::Spent),
+        }
+    }
+
+    // Begins one incarnation after the other, until one is up or none may begin.
+    pub(crate) fn go_on<R: Wait, G: Gate>(
+        self,
+        rt: &R,
+        gate: &G,
+        locks: &Locks<N, J, K, S>,
+        cells: &CellLocks<N, C, F::Link>,
+        service: u16,
+    ) -> (Self, Launched)
+        requires { service < length N.site.services }
+        ensures goes { Goes N.site self.journal.holder service self.journal.past self.crew.family result.1 result.0 }
+        ensures holder { result.0.journal.holder ≡ self.journal.holder }
+    {
+        let mut launcher = self;
+        let mut what = launcher.next(service);
+        while what == Next::Begin {
+            let (after, attempt) = launcher.attempt(rt, gate, locks, cells, service);
+            launcher = after;
+            match attempt {
+                Attempt::Up(incarnation) => return (launcher, Launched::Up(incarnation)),
+                Attempt::NoMemory => return (launcher, Launched::NoMemory),
+                Attempt::Failed => {}
+            }
+            what = launcher.next(service);
+        }
+        launcher.end(service, what)
+    }
+
+    /// Launches a service that isn't up.
+    pub fn launch<R: Wait, G: Gate>(
+        self,
+        rt: &R,
+        gate: &G,
+        locks: &Locks<N, J, K, S>,
+        cells: &CellLocks<N, C, F::Link>,
+        service: u16,
+    ) -> (Self, Launched)
+        requires service { service < length N.site.services }
+        requires down { up_in self service ≡ 0 }
+        ensures goes { Goes N.site self.journal.holder service self.journal.past self.crew.family result.1 result.0 }
+        ensures holder { result.0.journal.holder ≡ self.journal.holder }
+    {
+        self.go_on(rt, gate, locks, cells, service)
+    }
+
+    /// Launches a service that the operator asks for, whether it is up or was given up. Where its last
+    /// incarnation was begun before, nothing is entered.
+    pub fn relaunch<R: Wait, G: Gate>(
+        self,
+        rt: &R,
+        gate: &G,
+        locks: &Locks<N, J, K, S>,
+        cells: &CellLocks<N, C, F::Link>,
+        service: u16,
+    ) -> (Self, Launched)
+        requires { service < length N.site.services }
+        ensures goes { GoesAsked N.site self.journal.holder service self.journal.past self.crew.family result.1 result.0 }
+        ensures holder { result.0.journal.holder ≡ self.journal.holder }
+    {
+        let mut launcher = self;
+        if launcher.greatest(service) == MOST_INCARNATIONS {
+            return (launcher, Launched::Spent);
+        }
+        if launcher.make_room(1).is_err() {
+            return (launcher, Launched::NoMemory);
+        }
+        launcher.ask(service);
+        launcher.go_on(rt, gate, locks, cells, service)
+    }
+
+    /// Enters that an incarnation of a service has crashed, which was begun, and launches the service
+    /// where it was the greatest.
+    pub fn crashed<R: Wait, G: Gate>(
+        self,
+        rt: &R,
+        gate: &G,
+        locks: &Locks<N, J, K, S>,
+        cells: &CellLocks<N, C, F::Link>,
+        service: u16,
+        incarnation: u32,
+    ) -> (Self, Crashed)
+        requires service { service < length N.site.services }
+        requires counted { 0 < incarnation }
+        requires begun { incarnation ≤ begun self.journal.past service }
+        ensures goes { GoesCrashed N.site self.journal.holder service incarnation self.journal.past self.crew.family result.1 result.0 }
+        ensures holder { result.0.journal.holder ≡ self.journal.holder }
+    {
+        let mut launcher = self;
+        if launcher.make_room(1).is_err() {
+            return (launcher, Crashed::NoMemory);
+        }
+        launcher.crash(service, incarnation);
+        let greatest = launcher.greatest(service);
+        if incarnation < greatest {
+            return (launcher, Crashed::Later(greatest));
+        }
+        let (launcher, launched) = launcher.go_on(rt, gate, locks, cells, service);
+        (launcher, crashed_as(launched))
+    }
+}

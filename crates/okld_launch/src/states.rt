@@ -1,0 +1,269 @@
+//! The states of a launch. Each owns the launcher, and the next step consumes it; a step that is refused
+//! hands back the state from which what was installed is revoked.
+
+ghost use Rattle.std.specs.Prelude.{◌≡◌, ◌<◌, ◌≤◌, IfOk, IfErr, OnOk, OnErr, length};
+ghost use Rattle.okws_base.specs.declared.limit.TheConstants.{MOST_INCARNATIONS};
+ghost use Rattle.okws_plan.specs.declared.event.LauncherEvent.TheVariants as event;
+ghost use Rattle.launch_journal.specs.Launches.{entered};
+ghost use Rattle.okld_launch.specs.Launchers.{IsOut, up_in};
+ghost use Rattle.okld_launch.specs.States.{GoesOn};
+ghost use Rattle.okld_launch.specs.Steps.{FailsBy};
+
+use crate::answer::Missed;
+use crate::launcher::Launcher;
+use cell_locks::locks::CellLocks;
+use cell_locks::named::CellNames;
+use named_columns::named::Backed;
+use okws_outer::children::Children;
+use okws_outer::keeper::Keeper;
+use okws_outer::stream::Sink;
+use site_locks::locks::Locks;
+use site_locks::named::Site;
+use std::marker::Model;
+use std::sync::Wait;
+
+/// An incarnation was begun, and nothing of it was installed or booted.
+pub(crate) struct Quiet<N: Backed, J: Site, C: CellNames, K: Keeper, S: Sink, F: Children> {
+    pub(crate) launcher: Launcher<N, J, C, K, S, F>,
+    pub(crate) service: u16,
+    pub(crate) incarnation: u32,
+}
+
+impl<N: Backed, J: Site, C: CellNames, K: Keeper, S: Sink, F: Children> Model
+    for Quiet<N, J, C, K, S, F> {
+    ghost use Rattle.okld_launch.specs.States.{LaunchIs, IsStill};
+
+    ghost Value = { LaunchIs };
+
+    ghost view = { λ a. record { launcher = a.launcher; service = a.service; incarnation = a.incarnation } };
+
+    ghost invariant = { λ a. IsStill N.site (record { launcher = a.launcher; service = a.service; incarnation = a.incarnation }) };
+}
+
+/// What was there before the incarnation is ended everywhere.
+pub(crate) struct Revoked<N: Backed, J: Site, C: CellNames, K: Keeper, S: Sink, F: Children> {
+    pub(crate) launcher: Launcher<N, J, C, K, S, F>,
+    pub(crate) service: u16,
+    pub(crate) incarnation: u32,
+}
+
+impl<N: Backed, J: Site, C: CellNames, K: Keeper, S: Sink, F: Children> Model
+    for Revoked<N, J, C, K, S, F> {
+    ghost use Rattle.okld_launch.specs.States.{LaunchIs, IsRevoked};
+
+    ghost Value = { LaunchIs };
+
+    ghost view = { λ a. record { launcher = a.launcher; service = a.service; incarnation = a.incarnation } };
+
+    ghost invariant = { λ a. IsRevoked N.site (record { launcher = a.launcher; service = a.service; incarnation = a.incarnation }) };
+}
+
+/// The incarnation stands at each column of the service.
+pub(crate) struct Installed<N: Backed, J: Site, C: CellNames, K: Keeper, S: Sink, F: Children> {
+    pub(crate) launcher: Launcher<N, J, C, K, S, F>,
+    pub(crate) service: u16,
+    pub(crate) incarnation: u32,
+}
+
+impl<N: Backed, J: Site, C: CellNames, K: Keeper, S: Sink, F: Children> Model
+    for Installed<N, J, C, K, S, F> {
+    ghost use Rattle.okld_launch.specs.States.{LaunchIs, IsInstalled};
+
+    ghost Value = { LaunchIs };
+
+    ghost view = { λ a. record { launcher = a.launcher; service = a.service; incarnation = a.incarnation } };
+
+    ghost invariant = { λ a. IsInstalled N.site (record { launcher = a.launcher; service = a.service; incarnation = a.incarnation }) };
+}
+
+/// The child of the incarnation was started, and its cell was booted.
+pub(crate) struct Booted<N: Backed, J: Site, C: CellNames, K: Keeper, S: Sink, F: Children> {
+    pub(crate) launcher: Launcher<N, J, C, K, S, F>,
+    pub(crate) service: u16,
+    pub(crate) incarnation: u32,
+}
+
+impl<N: Backed, J: Site, C: CellNames, K: Keeper, S: Sink, F: Children> Model
+    for Booted<N, J, C, K, S, F> {
+    ghost use Rattle.okld_launch.specs.States.{LaunchIs, IsBooted};
+
+    ghost Value = { LaunchIs };
+
+    ghost view = { λ a. record { launcher = a.launcher; service = a.service; incarnation = a.incarnation } };
+
+    ghost invariant = { λ a. IsBooted N.site (record { launcher = a.launcher; service = a.service; incarnation = a.incarnation }) };
+}
+
+/// A step was refused. What was installed of the incarnation may stand.
+pub(crate) struct Broken<N: Backed, J: Site, C: CellNames, K: Keeper, S: Sink, F: Children> {
+    pub(crate) launcher: Launcher<N, J, C, K, S, F>,
+    pub(crate) service: u16,
+    pub(crate) incarnation: u32,
+}
+
+impl<N: Backed, J: Site, C: CellNames, K: Keeper, S: Sink, F: Children> Model
+    for Broken<N, J, C, K, S, F> {
+    ghost use Rattle.okld_launch.specs.States.{LaunchIs, IsBroken};
+
+    ghost Value = { LaunchIs };
+
+    ghost view = { λ a. record { launcher = a.launcher; service = a.service; incarnation = a.incarnation } };
+
+    ghost invariant = { λ a. IsBroken N.site (record { launcher = a.launcher; service = a.service; incarnation = a.incarnation }) };
+}
+
+impl<N: Backed, J: Site, C: CellNames, K: Keeper, S: Sink, F: Children> Quiet<N, J, C, K, S, F> {
+    /// Ends what was there before the incarnation.
+    pub(crate) fn revoke<R: Wait>(
+        self,
+        rt: &R,
+        locks: &Locks<N, J, K, S>,
+        cells: &CellLocks<N, C, F::Link>,
+    ) -> Revoked<N, J, C, K, S, F>
+        ensures { GoesOn self result }
+    {
+        let Quiet {
+            mut launcher,
+            service,
+            incarnation,
+        } = self;
+        launcher.clear(rt, locks, cells, service);
+        Revoked {
+            launcher,
+            service,
+            incarnation,
+        }
+    }
+}
+
+impl<N: Backed, J: Site, C: CellNames, K: Keeper, S: Sink, F: Children> Revoked<N, J, C, K, S, F> {
+    /// Installs the incarnation at each column of the service.
+    pub(crate) fn install<R: Wait>(
+        self,
+        rt: &R,
+        locks: &Locks<N, J, K, S>,
+    ) -> Result<Installed<N, J, C, K, S, F>, Broken<N, J, C, K, S, F>>
+        ensures ok { IfOk result (λ a. GoesOn self a) }
+        ensures err { IfErr result (λ a. GoesOn self a) }
+    {
+        let Revoked {
+            mut launcher,
+            service,
+            incarnation,
+        } = self;
+        match launcher.install(rt, locks, service, incarnation) {
+            Ok(()) => Ok(Installed {
+                launcher,
+                service,
+                incarnation,
+            }),
+            Err(_) => Err(Broken {
+                launcher,
+                service,
+                incarnation,
+            }),
+        }
+    }
+}
+
+impl<N: Backed, J: Site, C: CellNames, K: Keeper, S: Sink, F: Children> Installed<
+    N,
+    J,
+    C,
+    K,
+    S,
+    F,
+> {
+    /// Starts the child of the incarnation, and boots its cell.
+    pub(crate) fn boot<R: Wait>(
+        self,
+        rt: &R,
+        cells: &CellLocks<N, C, F::Link>,
+    ) -> Result<Booted<N, J, C, K, S, F>, (Missed, Broken<N, J, C, K, S, F>)>
+        ensures ok { IfOk result (λ a. GoesOn self a) }
+        ensures err { IfErr result (λ e. GoesOn self e.1) }
+        ensures cause { IfErr result (λ e. e.0 ≡ Missed.Failed → FailsBy self.service self.incarnation self.launcher.crew.family e.1.launcher.crew.family) }
+    {
+        let Installed {
+            mut launcher,
+            service,
+            incarnation,
+        } = self;
+        match launcher.start(rt, cells, service, incarnation) {
+            Ok(()) => Ok(Booted {
+                launcher,
+                service,
+                incarnation,
+            }),
+            Err(missed) => Err((
+                missed,
+                Broken {
+                    launcher,
+                    service,
+                    incarnation,
+                },
+            )),
+        }
+    }
+}
+
+impl<N: Backed, J: Site, C: CellNames, K: Keeper, S: Sink, F: Children> Booted<N, J, C, K, S, F> {
+    /// Has the incarnation be up.
+    pub(crate) fn up<R: Wait>(
+        self,
+        rt: &R,
+        locks: &Locks<N, J, K, S>,
+    ) -> Result<Launcher<N, J, C, K, S, F>, Broken<N, J, C, K, S, F>>
+        ensures ok { IfOk result (λ l. (l.journal ≡ self.launcher.journal) × (up_in l self.service ≡ self.incarnation)) }
+        ensures err { IfErr result (λ a. GoesOn self a) }
+    {
+        let Booted {
+            mut launcher,
+            service,
+            incarnation,
+        } = self;
+        match launcher.up(rt, locks, service, incarnation) {
+            Ok(()) => Ok(launcher),
+            Err(_) => Err(Broken {
+                launcher,
+                service,
+                incarnation,
+            }),
+        }
+    }
+}
+
+impl<N: Backed, J: Site, C: CellNames, K: Keeper, S: Sink, F: Children> Broken<N, J, C, K, S, F> {
+    /// Enters that the incarnation failed. What was installed of it is revoked at the next launch.
+    pub(crate) fn fail(self) -> Launcher<N, J, C, K, S, F>
+        ensures journal { result.journal ≡ entered self.launcher.journal (event.Failed self.service self.incarnation) }
+        ensures family { result.crew.family ≡ self.launcher.crew.family }
+        ensures down { up_in result self.service ≡ 0 }
+    {
+        let Broken {
+            mut launcher,
+            service,
+            incarnation,
+        } = self;
+        launcher.fail(service, incarnation);
+        launcher
+    }
+
+    /// Revokes what was installed of the incarnation.
+    pub(crate) fn revoke<R: Wait>(
+        self,
+        rt: &R,
+        locks: &Locks<N, J, K, S>,
+    ) -> Launcher<N, J, C, K, S, F>
+        ensures journal { result.journal ≡ self.launcher.journal }
+        ensures out { IsOut N.site self.service result }
+    {
+        let Broken {
+            mut launcher,
+            service,
+            incarnation: _,
+        } = self;
+        launcher.revoke(rt, locks, service);
+        launcher
+    }
+}

@@ -1,0 +1,187 @@
+//! The steps of a launch.
+
+ghost use Rattle.std.specs.Prelude.{◌≡◌, ◌<◌, ◌≤◌, ◌+◌, ℕ, length, OnOk, OnErr, IfOk, IsErrOf};
+ghost use Rattle.okws_base.specs.declared.limit.TheConstants.{MOST_INCARNATIONS, MOST_PROXIES};
+ghost use Rattle.okws_plan.specs.declared.event.LauncherEvent.TheVariants as event;
+ghost use Rattle.monitor_model.specs.Cell.{incarnation as incarnation_of, last_booted, boot_frame};
+ghost use Rattle.monitor_model.specs.Launcher.{begun};
+ghost use Rattle.cell_locks.specs.Row.{seen_at};
+ghost use Rattle.launch_journal.specs.Launches.{Allows, entered};
+ghost use Rattle.launch_journal.specs.declared.next.Next.TheVariants as next;
+ghost use Rattle.okld_launch.specs.Crews.{Under, IsQuiet, StandsAt, RunsAs, NoneStands, child_of};
+ghost use Rattle.okld_launch.specs.Launchers.{up_in};
+ghost use Rattle.okld_launch.specs.Steps.{SameHands, FailsBy};
+
+use crate::answer::Missed;
+use crate::launcher::Launcher;
+use cell_locks::locks::CellLocks;
+use cell_locks::named::CellNames;
+use frame_codec::frame::{Issued, ServerFrame};
+use named_columns::named::Backed;
+use okws_base::items::Items;
+use okws_outer::children::Children;
+use okws_outer::gate::{Gate, Point};
+use okws_outer::keeper::Keeper;
+use okws_outer::stream::Sink;
+use service_cell::tokens::tokens_of;
+use site_locks::locks::Locks;
+use site_locks::named::Site;
+use std::alloc::AllocError;
+use std::sync::Wait;
+
+impl<N: Backed, J: Site, C: CellNames, K: Keeper, S: Sink, F: Children> Launcher<N, J, C, K, S, F> {
+    /// Begins the next incarnation of the service, and shows it on the board.
+    pub(crate) fn begin<G: Gate>(
+        &mut self,
+        gate: &G,
+        locks: &Locks<N, J, K, S>,
+        service: u16,
+    ) -> u32
+        requires service { service < length N.site.services }
+        requires may { Allows N.site self.old.journal.past service next.Begin }
+        requires room { 0 < self.old.journal.room }
+        ensures is { result ≡ begun self.old.journal.past service + 1 }
+        ensures journal { self.new.journal ≡ entered self.old.journal (event.Begun service result) }
+        ensures under { Under service result self.new.crew }
+        ensures family { self.new.crew.family ≡ self.old.crew.family }
+        ensures room { self.new.crew.room ≡ self.old.crew.room }
+    {
+        let incarnation = self.journal.begin(service);
+        self.crew.recorder.raise(locks, service, incarnation);
+        gate.pass(Point::Raised, u64::from(service));
+        incarnation
+    }
+
+    /// Ends what stands of the service everywhere, stops and finishes its child, and empties its cell.
+    pub(crate) fn clear<R: Wait>(
+        &mut self,
+        rt: &R,
+        locks: &Locks<N, J, K, S>,
+        cells: &CellLocks<N, C, F::Link>,
+        service: u16,
+    )
+        requires service { service < length N.site.services }
+        requires room { MOST_PROXIES + 4 + length N.site.services ≤ self.old.crew.room }
+        ensures journal { self.new.journal ≡ self.old.journal }
+        ensures quiet { IsQuiet N.site service self.new.crew }
+        ensures down { up_in self.new service ≡ 0 }
+        ensures under { (k : ℕ) → Under service k self.old.crew → Under service k self.new.crew }
+        ensures faults { self.new.crew.family.faults ≡ self.old.crew.family.faults }
+        ensures room { self.old.crew.room ≤ self.new.crew.room + (MOST_PROXIES + 4) }
+    {
+        self.crew.recorder.down(rt, locks, service);
+        self.ups[service as usize] = 0;
+        self.crew.recorder.revoke(rt, locks, service);
+        self.crew.empty(rt, cells, service);
+    }
+
+    /// Installs the incarnation, which was begun, at each column of the service.
+    pub(crate) fn install<R: Wait>(
+        &mut self,
+        rt: &R,
+        locks: &Locks<N, J, K, S>,
+        service: u16,
+        incarnation: u32,
+    ) -> Result<(), AllocError>
+        requires service { service < length N.site.services }
+        requires most { incarnation ≤ MOST_INCARNATIONS }
+        requires begun { incarnation ≤ begun self.old.journal.past service }
+        requires under { Under service incarnation self.old.crew }
+        requires down { up_in self.old service ≡ 0 }
+        requires room { MOST_PROXIES + 2 + length N.site.services ≤ self.old.crew.room }
+        ensures journal { self.new.journal ≡ self.old.journal }
+        ensures ups { self.new.ups ≡ self.old.ups }
+        ensures hands { SameHands self.old.crew self.new.crew }
+        ensures stands { OnOk result (StandsAt N.site service incarnation self.new.crew.sat) }
+        ensures room { self.old.crew.room ≤ self.new.crew.room + (MOST_PROXIES + 2) }
+    {
+        let site = &self.site;
+        let seed = &self.seed;
+        self.crew
+            .recorder
+            .install(rt, locks, site, seed, service, incarnation)
+    }
+
+    /// Revokes what stands of the service, which isn't up, at each column.
+    pub(crate) fn revoke<R: Wait>(&mut self, rt: &R, locks: &Locks<N, J, K, S>, service: u16)
+        requires service { service < length N.site.services }
+        requires down { up_in self.old service ≡ 0 }
+        requires room { MOST_PROXIES + 2 + length N.site.services ≤ self.old.crew.room }
+        ensures journal { self.new.journal ≡ self.old.journal }
+        ensures ups { self.new.ups ≡ self.old.ups }
+        ensures none { NoneStands N.site service self.new.crew.sat }
+    {
+        self.crew.recorder.revoke(rt, locks, service);
+    }
+
+    // The tokens of the incarnation, which its Boot frame carries.
+    fn tokens(&self, service: u16, incarnation: u32) -> Result<Items<Issued>, AllocError>
+        requires counted { 0 < incarnation }
+        requires most { incarnation ≤ MOST_INCARNATIONS }
+        ensures tokens { IfOk result (λ v. ServerFrame.Boot service incarnation v ≡ boot_frame N.site N.run_seed service incarnation) }
+        ensures few { IfOk result (λ v. length v ≤ MOST_PROXIES) }
+    {
+        let tokens = tokens_of(self.alloc, &self.site, &self.seed, service, incarnation)?;
+        Ok(Items::of(tokens))
+    }
+
+    /// Starts a child of the service as the incarnation, and boots its cell.
+    pub(crate) fn start<R: Wait>(
+        &mut self,
+        rt: &R,
+        cells: &CellLocks<N, C, F::Link>,
+        service: u16,
+        incarnation: u32,
+    ) -> Result<(), Missed>
+        requires service { service < length N.site.services }
+        requires counted { 0 < incarnation }
+        requires most { incarnation ≤ MOST_INCARNATIONS }
+        requires begun { incarnation ≤ begun self.old.journal.past service }
+        requires empty { incarnation_of (seen_at self.old.crew.watch service) ≡ 0 }
+        requires later { last_booted (seen_at self.old.crew.watch service) < incarnation }
+        requires down { up_in self.old service ≡ 0 }
+        requires room { 1 + length N.site.services ≤ self.old.crew.room }
+        ensures journal { self.new.journal ≡ self.old.journal }
+        ensures ups { self.new.ups ≡ self.old.ups }
+        ensures columns { self.new.crew.sat ≡ self.old.crew.sat }
+        ensures child { OnOk result (RunsAs incarnation (child_of self.new.crew service)) }
+        ensures cause { IsErrOf result Missed.Failed → FailsBy service incarnation self.old.crew.family self.new.crew.family }
+        ensures faults { self.old.crew.family.faults ≤ self.new.crew.family.faults }
+        ensures room { self.old.crew.room ≤ self.new.crew.room + 1 }
+    {
+        let Ok(tokens) = self.tokens(service, incarnation) else {
+            return Err(Missed::NoMemory);
+        };
+        let words = self.site.services.as_slice()[service as usize]
+            .words
+            .as_slice();
+        self.crew
+            .start(rt, cells, words, service, incarnation, tokens)
+    }
+
+    /// Has the incarnation be up.
+    pub(crate) fn up<R: Wait>(
+        &mut self,
+        rt: &R,
+        locks: &Locks<N, J, K, S>,
+        service: u16,
+        incarnation: u32,
+    ) -> Result<(), AllocError>
+        requires service { service < length N.site.services }
+        requires counted { 0 < incarnation }
+        requires begun { incarnation ≤ begun self.old.journal.past service }
+        requires stands { StandsAt N.site service incarnation self.old.crew.sat }
+        requires child { RunsAs incarnation (child_of self.old.crew service) }
+        requires down { up_in self.old service ≡ 0 }
+        requires room { 1 + length N.site.services ≤ self.old.crew.room }
+        ensures journal { self.new.journal ≡ self.old.journal }
+        ensures family { self.new.crew.family ≡ self.old.crew.family }
+        ensures ok { OnOk result (up_in self.new service ≡ incarnation) }
+        ensures err { OnErr result (up_in self.new service ≡ 0) }
+        ensures room { self.old.crew.room ≤ self.new.crew.room + 1 }
+    {
+        self.crew.recorder.up(rt, locks, service, incarnation)?;
+        self.ups[service as usize] = incarnation;
+        Ok(())
+    }
+}

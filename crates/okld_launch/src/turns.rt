@@ -1,0 +1,172 @@
+//! The launcher's turns, which any worker takes. Nobody takes one while it holds a cell's: the seats at the
+//! cells hold none but inside their own calls.
+
+ghost use Rattle.std.specs.Prelude.{◌≡◌, ◌<◌, ◌≤◌, length};
+ghost use Rattle.monitor_model.specs.Cell.{last_booted};
+ghost use Rattle.turn_lock.specs.Rows.{RestsAt};
+ghost use Rattle.okld_launch.specs.Turns.{GoesIf, LaunchesBy, RelaunchesBy, ReportsBy, TendsBy};
+
+use crate::answer::{Crashed, Launched, Tended};
+use crate::launcher::Launcher;
+use cell_locks::locks::CellLocks;
+use cell_locks::named::CellNames;
+use cell_locks::note::CellNote;
+use named_columns::named::Backed;
+use okws_outer::children::Children;
+use okws_outer::gate::Gate;
+use okws_outer::keeper::Keeper;
+use okws_outer::stream::Sink;
+use site_locks::locks::Locks;
+use site_locks::named::Site;
+use std::sync::Wait;
+use turn_lock::{Seat, Turn};
+
+impl<N: Backed, J: Site, C: CellNames, K: Keeper, S: Sink, F: Children> Launcher<N, J, C, K, S, F> {
+    // Launches a service, unless it is up already.
+    fn launch_if_down<R: Wait, G: Gate>(
+        self,
+        rt: &R,
+        gate: &G,
+        locks: &Locks<N, J, K, S>,
+        cells: &CellLocks<N, C, F::Link>,
+        service: u16,
+    ) -> (Self, Option<Launched>)
+        requires { service < length N.site.services }
+        ensures goes { GoesIf N.site self.journal.holder service self result.1 result.0 }
+        ensures holder { result.0.journal.holder ≡ self.journal.holder }
+    {
+        match self.up_now(service) {
+            Some(_) => (self, None),
+            None => {
+                let (launcher, answer) = self.launch(rt, gate, locks, cells, service);
+                (launcher, Some(answer))
+            }
+        }
+    }
+}
+
+/// Launches a service in a turn. Where it is up already, nothing is entered, and the answer is none.
+pub fn launch_by<
+    R: Wait,
+    G: Gate,
+    N: Backed,
+    J: Site,
+    C: CellNames,
+    K: Keeper,
+    S: Sink,
+    F: Children,
+>(
+    rt: &R,
+    gate: &G,
+    turn: &Turn<Launcher<N, J, C, K, S, F>>,
+    seat: &mut Seat<Launcher<N, J, C, K, S, F>>,
+    locks: &Locks<N, J, K, S>,
+    cells: &CellLocks<N, C, F::Link>,
+    service: u16,
+) -> Option<Launched>
+    requires rest { RestsAt turn.now seat.old }
+    requires service { service < length N.site.services }
+    ensures goes { LaunchesBy N.site service seat.old result seat.new }
+    ensures seat { seat.new ≡ record seat.old { seen = seat.new.seen } }
+{
+    let launcher = turn.take(rt, seat);
+    launcher.keeps();
+    let (launcher, answer) = launcher.launch_if_down(rt, gate, locks, cells, service);
+    launcher.keeps();
+    turn.give(seat, launcher);
+    answer
+}
+
+/// Launches a service that the operator asks for, in a turn.
+pub fn relaunch_by<
+    R: Wait,
+    G: Gate,
+    N: Backed,
+    J: Site,
+    C: CellNames,
+    K: Keeper,
+    S: Sink,
+    F: Children,
+>(
+    rt: &R,
+    gate: &G,
+    turn: &Turn<Launcher<N, J, C, K, S, F>>,
+    seat: &mut Seat<Launcher<N, J, C, K, S, F>>,
+    locks: &Locks<N, J, K, S>,
+    cells: &CellLocks<N, C, F::Link>,
+    service: u16,
+) -> Launched
+    requires rest { RestsAt turn.now seat.old }
+    requires service { service < length N.site.services }
+    ensures goes { RelaunchesBy N.site service seat.old result seat.new }
+    ensures seat { seat.new ≡ record seat.old { seen = seat.new.seen } }
+{
+    let launcher = turn.take(rt, seat);
+    launcher.keeps();
+    let (launcher, answer) = launcher.relaunch(rt, gate, locks, cells, service);
+    launcher.keeps();
+    turn.give(seat, launcher);
+    answer
+}
+
+/// Enters that an incarnation of a service has crashed, in a turn, and launches the service where it was the
+/// greatest. That it was begun is known by a note of the service's cell, at which it was booted.
+pub fn report_by<
+    R: Wait,
+    G: Gate,
+    N: Backed,
+    J: Site,
+    C: CellNames,
+    K: Keeper,
+    S: Sink,
+    F: Children,
+>(
+    rt: &R,
+    gate: &G,
+    turn: &Turn<Launcher<N, J, C, K, S, F>>,
+    seat: &mut Seat<Launcher<N, J, C, K, S, F>>,
+    locks: &Locks<N, J, K, S>,
+    cells: &CellLocks<N, C, F::Link>,
+    note: CellNote<N, C, F::Link>,
+    service: u16,
+    incarnation: u32,
+) -> Crashed
+    requires rest { RestsAt turn.now seat.old }
+    requires service { service < length N.site.services }
+    requires here { note.service ≡ service }
+    requires counted { 0 < incarnation }
+    requires booted { incarnation ≤ last_booted note.seen }
+    ensures goes { ReportsBy N.site service incarnation seat.old result seat.new }
+    ensures seat { seat.new ≡ record seat.old { seen = seat.new.seen } }
+{
+    let mut launcher = turn.take(rt, seat);
+    launcher.keeps();
+    launcher.meet(cells, note);
+    let (launcher, answer) = launcher.crashed(rt, gate, locks, cells, service, incarnation);
+    launcher.keeps();
+    turn.give(seat, launcher);
+    answer
+}
+
+/// Looks after a service in a turn.
+pub fn tend_by<R: Wait, G: Gate, N: Backed, J: Site, C: CellNames, K: Keeper, S: Sink, F: Children>(
+    rt: &R,
+    gate: &G,
+    turn: &Turn<Launcher<N, J, C, K, S, F>>,
+    seat: &mut Seat<Launcher<N, J, C, K, S, F>>,
+    locks: &Locks<N, J, K, S>,
+    cells: &CellLocks<N, C, F::Link>,
+    service: u16,
+) -> Tended
+    requires rest { RestsAt turn.now seat.old }
+    requires service { service < length N.site.services }
+    ensures goes { TendsBy N.site service seat.old result seat.new }
+    ensures seat { seat.new ≡ record seat.old { seen = seat.new.seen } }
+{
+    let launcher = turn.take(rt, seat);
+    launcher.keeps();
+    let (launcher, answer) = launcher.tend(rt, gate, locks, cells, service);
+    launcher.keeps();
+    turn.give(seat, launcher);
+    answer
+}

@@ -1,0 +1,6 @@
+mod Booted
+mod Lives
+mod Turns
+mod Same
+mod Rounds
+mod Commands

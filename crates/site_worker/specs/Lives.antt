@@ -1,0 +1,54 @@
+-- What a worker has seen and done.
+use Rattle.std.specs.Prelude.{◌≡◌, ◌⊎◌, ◌≤◌, ℕ, Bool, true, false, List, length, slice_index}
+use Rattle.okws_base.specs.declared.journal.Entry.{Entry}
+use Rattle.okws_plan.specs.declared.configuration.Config.{Config}
+use Rattle.okws_plan.specs.declared.event.LauncherEvent.{LauncherEvent}
+use Rattle.monitor_model.specs.declared.record.Own.TheVariants as own
+use Rattle.monitor_model.specs.Seen.{Seen, noted}
+use Rattle.turn_lock.specs.Seats.{TurnIs, SeatIs}
+use Rattle.turn_lock.specs.Rows.{RestsAt}
+use Rattle.cell_locks.specs.Row.{CellsSeen}
+
+-- What it has seen of each column at its own last entry there, with its own items; what it has seen of each cell and of each service on the board; and its seat at the launcher's lock.
+pub record Life : Type 0 where
+  pub seen : Seen
+  pub cells : CellsSeen
+  pub board : List ℕ
+  pub launcher : SeatIs (Entry LauncherEvent)
+
+-- The number that its entries name.
+abbrev pub number_of : Life → ℕ
+number_of J = J.cells.number
+
+-- As much was seen of each service on the board, or more.
+abbrev pub Rises : List ℕ → List ℕ → Type 0
+Rises old new = (s k : ℕ) → k ≤ slice_index old s → k ≤ slice_index new s
+
+-- The worker has seen this of the columns, and may have seen more of the board; everything else is the same.
+pub record Sees (now : Seen) (J K : Life) : Type 0 where
+  pub seen_is : K.seen ≡ now
+  pub cells_is : K.cells ≡ J.cells
+  pub launcher_is : K.launcher ≡ J.launcher
+  pub board : Rises J.board K.board
+
+-- Want of memory was noted, unless memory for that was refused, too.
+abbrev pub Starves : Life → Life → Type 0
+Starves J K = Sees (noted J.seen own.NoMemory) J K ⊎ Sees J.seen J K
+
+-- Want of memory was noted so, where there was any.
+abbrev pub StarvesWhere : Bool → Life → Life → Type 0
+StarvesWhere true J K = Starves J K
+StarvesWhere false J K = K ≡ J
+
+-- A worker of this number at a site, at this lock of the launcher.
+pub record IsWorker (C : Config) (services number : ℕ) (turn : TurnIs) (J : Life) : Type 0 where
+  pub services_is : services ≡ length C.services
+  pub number_is : number_of J ≡ number
+  pub cells_are : length J.cells.cells ≡ length C.services
+  pub rests : RestsAt turn J.launcher
+  pub launcher_number : J.launcher.number ≡ number_of J
+
+-- The same worker: its number is the same, and its seat at the launcher, which may have seen more.
+pub record SameWorker (J K : Life) : Type 0 where
+  pub number_is : number_of K ≡ number_of J
+  pub launcher_is : K.launcher ≡ record J.launcher { seen = K.launcher.seen }

@@ -1,0 +1,71 @@
+//! A worker at the console.
+
+ghost use Rattle.std.specs.Prelude.{◌≡◌};
+ghost use Rattle.site_worker.specs.Steering.{told_of};
+
+use crate::worker::Worker;
+use admin_console::controls::{Controls, Publishing, Relaunching};
+use cell_locks::named::CellNames;
+use monitor_model::verdict::Published;
+use named_columns::named::Backed;
+use okld_launch::answer::Launched;
+use okws_base::items::Items;
+use okws_outer::children::Children;
+use okws_outer::gate::Gate;
+use okws_outer::keeper::Keeper;
+use okws_outer::stream::Sink;
+use site_locks::named::Site;
+use std::sync::Wait;
+
+// What an operator is told of a launch.
+fn told_of(answer: Launched) -> Relaunching
+    ensures { result ≡ told_of answer }
+{
+    match answer {
+        Launched::Up(incarnation) => Relaunching::Up(incarnation),
+        Launched::Dead(tries) => Relaunching::Dead(tries),
+        Launched::Spent => Relaunching::Spent,
+        Launched::NoMemory => Relaunching::NoMemory,
+    }
+}
+
+impl<
+    'a,
+    R: Wait,
+    G: Gate,
+    N: Backed,
+    J: Site,
+    C: CellNames,
+    K: Keeper,
+    S: Sink,
+    F: Children,
+> Controls for Worker<'a, R, G, N, J, C, K, S, F> {
+    ghost use Rattle.site_worker.specs.Lives.{Life};
+    ghost use Rattle.site_worker.specs.Steering.{Publishes, Relaunches};
+
+    ghost State = { Life };
+
+    ghost state = { λ w. w };
+
+    ghost config = { λ _. N.site };
+
+    ghost publishes = { Publishes };
+
+    ghost relaunches = { Relaunches N.site };
+
+    fn publish(&mut self, template: u16, content: Items<u8>) -> Publishing {
+        match self.hands.publish(template, content) {
+            Ok(Published::Edition(number)) => Publishing::Edition(number),
+            Ok(Published::EditionsSpent) => Publishing::EditionsSpent,
+            Ok(Published::NoSuchTemplate | Published::TooLong) => unreachable!(),
+            Err(_) => {
+                self.note_starved();
+                Publishing::NoMemory
+            }
+        }
+    }
+
+    fn relaunch(&mut self, service: u16) -> Relaunching {
+        told_of(self.ask(service))
+    }
+}

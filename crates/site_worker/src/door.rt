@@ -1,0 +1,148 @@
+//! A worker at its door.
+
+ghost use Rattle.std.specs.Prelude.{◌≡◌, ◌≤◌, ◌+◌, IsNone, length};
+ghost use Rattle.site_worker.specs.Lives.{SameWorker};
+ghost use Rattle.live_board.specs.Board.{most_drawn};
+ghost use Rattle.live_board.specs.Seats.{MayDraw};
+ghost use Rattle.site_worker.specs.Rounds.{Attends, Round, TendsAfter, TendsNext, is_starved, taken};
+
+use crate::worker::Worker;
+use cell_locks::named::CellNames;
+use door_worker::reply::Reply;
+use door_worker::serving::{Serving, serve_one};
+use http_front::kept::Kept;
+use live_board::Board;
+use named_columns::named::Backed;
+use okws_outer::children::Children;
+use okws_outer::door::Door;
+use okws_outer::gate::{Gate, Point};
+use okws_outer::keeper::Keeper;
+use okws_outer::stream::Sink;
+use site_locks::named::Site;
+use std::sync::Wait;
+
+/// What a worker did at a door.
+#[derive(Clone, Copy, Debug, PartialEq, Eq)]
+pub struct Attended {
+    /// The connections that it took, whole or cut.
+    pub connections: u64,
+    /// Whether it ended for want of memory, before it took a connection of its last number.
+    pub starved: bool,
+}
+
+// Whether memory was refused before a connection was accepted.
+fn is_starved(serving: &Serving) -> bool
+    ensures { result ≡ is_starved serving.now }
+{
+    match serving {
+        Serving::Served(_) | Serving::ConnFault(_) | Serving::NoConn => false,
+        Serving::NoMemory => true,
+    }
+}
+
+// How many connections were taken, whole or cut.
+fn taken(serving: &Serving) -> u64
+    ensures { result ≡ taken serving.now }
+{
+    match serving {
+        Serving::Served(_) | Serving::ConnFault(_) => 1,
+        Serving::NoConn | Serving::NoMemory => 0,
+    }
+}
+
+impl<
+    'a,
+    R: Wait,
+    G: Gate,
+    N: Backed,
+    J: Site,
+    C: CellNames,
+    K: Keeper,
+    S: Sink,
+    F: Children,
+> Worker<'a, R, G, N, J, C, K, S, F> {
+    // Looks after a service, and writes the log out.
+    fn look_round(&mut self, number: u64)
+        ensures { TendsNext N.site number self.old self.new }
+    {
+        self.tend_next(number);
+        self.hands.write_out();
+    }
+
+    // What follows when the door was served so under a connection's number.
+    fn follow(&mut self, serving: &Serving, number: u64)
+        ensures { TendsAfter N.site number serving.now self.old self.new }
+    {
+        match serving {
+            Serving::Served(_) => {
+                self.gate.pass(Point::Answered, number);
+                self.look_round(number)
+            }
+            Serving::ConnFault(_) => {
+                self.gate.pass(Point::Answered, number);
+                self.look_round(number)
+            }
+            Serving::NoConn => self.look_round(number),
+            Serving::NoMemory => {}
+        }
+    }
+
+    // Serves the door once under a connection's number.
+    fn go_round<D: Door>(
+        &mut self,
+        door: &mut D,
+        kept: &mut Kept,
+        reply: &mut Reply,
+        number: u64,
+    ) -> Serving
+        requires { IsNone (D.entrance door.old).out }
+        ensures idle { IsNone (D.entrance door.new).out }
+        ensures round { Round D.Conn.wire N.site N.launcher number (D.entrance door.old) (D.entrance door.new) self.old self.new result }
+    {
+        let serving = serve_one(self.alloc, door, self, kept, reply);
+        self.follow(&serving, number);
+        serving
+    }
+
+    /// Serves the door, one connection after the other, each under a number that it draws of those below the
+    /// limit. An accept that fails is counted at the door, and uses its number up.
+    pub fn attend<D: Door>(
+        &mut self,
+        door: &mut D,
+        kept: &mut Kept,
+        reply: &mut Reply,
+        numbers: &Board,
+        place: &mut live_board::Seat,
+        limit: u64,
+    ) -> Attended
+        requires limit { limit ≤ most_drawn }
+        requires board { place.old.board ≡ numbers.now.id }
+        requires may { MayDraw place.old.drawn }
+        requires idle { IsNone (D.entrance door.old).out }
+        ensures idle { IsNone (D.entrance door.new).out }
+        ensures place { place.new ≡ record place.old { drawn = place.new.drawn } }
+        ensures attends { Attends D.Conn.wire N.site N.launcher limit (D.entrance door.old) (D.entrance door.new) self.old self.new place.old.drawn place.new.drawn result }
+        ensures same { SameWorker self.old self.new }
+    {
+        let rt = self.rt;
+        let mut connections = 0;
+        for _ in rt.forever() {
+            let number = numbers.draw(place);
+            if number >= limit {
+                return Attended {
+                    connections,
+                    starved: false,
+                };
+            }
+            let serving = self.go_round(door, kept, reply, number);
+            if is_starved(&serving) {
+                return Attended {
+                    connections,
+                    starved: true,
+                };
+            }
+            connections += taken(&serving);
+        }
+        unreachable!()
+    }
+}

@@ -1,0 +1,199 @@
+//! A worker behind a door.
+
+ghost use Rattle.std.specs.Prelude.{◌≡◌, ◌<◌, ◌≤◌, ◌+◌, ◌↔◌, ℕ, IfOk, IfSome, IsTrue, OnErr, length};
+ghost use Rattle.okws_base.specs.declared.limit.TheConstants.{LONGEST_FRAME};
+ghost use Rattle.http_front.specs.Requests.{HasTarget, path_text};
+ghost use Rattle.monitor_model.specs.Script.{goes_of};
+ghost use Rattle.cell_locks.specs.Row.{seen_at};
+ghost use Rattle.door_worker.specs.Asking.{Asked, asked_by};
+ghost use Rattle.door_worker.specs.declared.handler.Outcome.TheVariants as outcome;
+ghost use Rattle.site_worker.specs.Lives.{Sees, Starves};
+ghost use Rattle.site_worker.specs.Handling.{Accepts, Talks, WasBooted, Follows, Goes};
+
+use crate::replying::{end_of, take_reply};
+use crate::worker::Worker;
+use cell_locks::answer::Talked;
+use cell_locks::named::CellNames;
+use door_worker::handler::{Handler, Outcome};
+use door_worker::reply::Reply;
+use http_front::reading::Request;
+use monitor_model::record::End;
+use monitor_model::verdict::Way;
+use named_columns::named::Backed;
+use okws_base::items::{Items, copies};
+use okws_base::limit::LONGEST_FRAME;
+use okws_outer::children::Children;
+use okws_outer::gate::Gate;
+use okws_outer::keeper::Keeper;
+use okws_outer::stream::Sink;
+use site_locks::named::Site;
+use std::alloc::AllocError;
+use std::sync::Wait;
+
+// Whether a frame may carry the request.
+fn fits_frame(request: &Request) -> bool
+    ensures { IsTrue result ↔ length request.now.head + length request.now.content + 9 ≤ LONGEST_FRAME }
+{
+    let head = request.head.as_slice().len();
+    let content = request.content.as_slice().len();
+    head <= LONGEST_FRAME - 9 && content <= LONGEST_FRAME - 9 - head
+}
+
+impl<
+    'a,
+    R: Wait,
+    G: Gate,
+    N: Backed,
+    J: Site,
+    C: CellNames,
+    K: Keeper,
+    S: Sink,
+    F: Children,
+> Worker<'a, R, G, N, J, C, K, S, F> {
+    // Asks okd where a request goes. Where memory is refused, nothing is entered.
+    fn accept(&mut self, request: &Request) -> Result<Way, AllocError>
+        requires { HasTarget request.now }
+        ensures ok { IfOk result (λ way. Accepts N.site (path_text request.now) way self.old self.new) }
+        ensures goes { IfOk result (λ way. IfSome (goes_of way) (λ (at : ℕ × ℕ). (at.0 < length N.site.services) × (0 < at.1))) }
+        ensures err { OnErr result (Sees self.old.seen self.old self.new) }
+    {
+        let path = copies(self.alloc, request.path())?;
+        self.hands.accept(Items::of(path))
+    }
+
+    // Notes want of memory, which is what became of a request.
+    fn no_memory(&mut self) -> Outcome
+        ensures outcome { result ≡ outcome.NoMemory }
+        ensures notes { Starves self.old self.new }
+    {
+        self.note_starved();
+        Outcome::NoMemory
+    }
+
+    // A whole dialog with an incarnation, in one turn at its cell.
+    fn dialog(
+        &mut self,
+        service: u16,
+        incarnation: u32,
+        head: Items<u8>,
+        content: Items<u8>,
+    ) -> Talked
+        requires service { service < length N.site.services }
+        requires counted { 0 < incarnation }
+        requires short { length head + length content + 9 ≤ LONGEST_FRAME }
+        ensures talks { (asked : Asked) → asked.head ≡ head → asked.content ≡ content → Talks N.site N.launcher asked service incarnation result self.old self.new }
+        ensures booted { WasBooted result incarnation (seen_at self.new.cells service) }
+    {
+        let rt = self.rt;
+        let cells = self.cells;
+        self.at_cells.dialog(
+            rt,
+            cells,
+            service,
+            head,
+            content,
+            incarnation,
+            &mut self.hands,
+        )
+    }
+
+    // What became of a request whose dialog was answered so. The cell's turn was given back.
+    fn conclude(
+        &mut self,
+        service: u16,
+        incarnation: u32,
+        talked: Talked,
+        reply: &mut Reply,
+    ) -> Outcome
+        requires service { service < length N.site.services }
+        requires counted { 0 < incarnation }
+        requires booted { WasBooted talked incarnation (seen_at self.old.cells service) }
+        ensures { Follows N.site service incarnation talked result reply.new self.old self.new }
+    {
+        match talked {
+            Talked::Replied(copy) => {
+                if take_reply(reply, &copy) {
+                    Outcome::Ended(End::Reply)
+                } else {
+                    self.no_memory()
+                }
+            }
+            Talked::Uncopied | Talked::NoMemory => self.no_memory(),
+            Talked::Crashed(cause) => {
+                self.report(service, incarnation);
+                Outcome::Ended(end_of(cause))
+            }
+            Talked::Missed { .. } => Outcome::Missed,
+            Talked::Superseded { shown, .. } => Outcome::Ended(End::Superseded(shown)),
+        }
+    }
+
+    // Has a dialog about a request that okd sent to an incarnation.
+    fn talk(
+        &mut self,
+        service: u16,
+        incarnation: u32,
+        request: Request,
+        reply: &mut Reply,
+    ) -> Outcome
+        requires service { service < length N.site.services }
+        requires counted { 0 < incarnation }
+        requires short { length request.head + length request.content + 9 ≤ LONGEST_FRAME }
+        ensures { Goes N.site N.launcher (asked_by request) (Way.To service incarnation) result reply.new self.old self.new }
+    {
+        let Request { head, content, .. } = request;
+        let talked = self.dialog(service, incarnation, head, content);
+        self.conclude(service, incarnation, talked, reply)
+    }
+}
+
+impl<
+    'a,
+    R: Wait,
+    G: Gate,
+    N: Backed,
+    J: Site,
+    C: CellNames,
+    K: Keeper,
+    S: Sink,
+    F: Children,
+> Handler for Worker<'a, R, G, N, J, C, K, S, F> {
+    ghost use Rattle.std.specs.Prelude.{⊤};
+    ghost use Rattle.site_worker.specs.Lives.{Life, Starves};
+    ghost use Rattle.site_worker.specs.Handling.{Handles};
+
+    ghost State = { Life };
+
+    ghost state = { λ w. w };
+
+    ghost has_room = { λ _. ⊤ };
+
+    ghost handles = { Handles N.site N.launcher };
+
+    ghost starves = { Starves };
+
+    fn make_room(&mut self) -> Result<(), AllocError> {
+        Ok(())
+    }
+
+    fn handle(&mut self, request: Request, reply: &mut Reply) -> Outcome {
+        if !fits_frame(&request) {
+            return self.no_memory();
+        }
+        match self.accept(&request) {
+            Err(_) => self.no_memory(),
+            Ok(Way::NotOwned) => Outcome::NotOwned,
+            Ok(Way::Down(_)) => Outcome::Down,
+            Ok(
+                Way::To {
+                    service,
+                    incarnation,
+                },
+            ) => self.talk(service, incarnation, request, reply),
+        }
+    }
+
+    fn starve(&mut self) {
+        self.note_starved();
+    }
+}

@@ -1,6 +1,5 @@
 //! Tests of the real objects, over the loopback address, real files and real children, and over streams
-//! that fail as a system does; and of worlds that have a server's objects. Not tested here: standard input
-//! and output, and want of memory.
+//! that fail as a system does. Not tested here: standard input and output, and want of memory.
 #![tactic(auto)]
 
 #[cfg(test)]
@@ -13,5 +12,3 @@ mod network;
 mod stores;
 #[cfg(test)]
 mod streams;
-#[cfg(test)]
-mod world;

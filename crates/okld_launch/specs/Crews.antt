@@ -36,6 +36,7 @@ crew_of r t = record { sat = r.sat; watch = r.watch; running = t.running; family
 abbrev pub running_at : List (Option Life) → ℕ → Option Life
 running_at lives s = slice_index_or lives s None
 
+-- The child that a crew runs for s.
 abbrev pub child_of : CrewIs → ℕ → Option Life
 child_of c s = running_at c.running s
 

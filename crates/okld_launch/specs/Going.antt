@@ -97,6 +97,7 @@ crashed_as (launched.Dead n) = crashed.Dead n
 crashed_as launched.Spent = crashed.Spent
 crashed_as launched.NoMemory = crashed.NoMemory
 
+-- What is answered as a launch is, to who tends.
 abbrev pub tended_as : Launched → Tended
 tended_as (launched.Up k) = tended.Up k
 tended_as (launched.Dead n) = tended.Dead n

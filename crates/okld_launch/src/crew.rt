@@ -81,6 +81,14 @@ impl<N: Backed, J: Site, C: CellNames, K: Keeper, S: Sink, F: Children + Drop> C
         let staff = Staff::new(alloc, services, children)?;
         Ok(Crew { recorder, staff })
     }
+
+    /// The children of a crew that isn't wanted.
+    pub fn into_children(self) -> F
+        ensures { F.family result ≡ self.staff.family }
+    {
+        let Crew { recorder: _, staff } = self;
+        staff.into_children()
+    }
 }
 
 impl<N: Backed, J: Site, C: CellNames, K: Keeper, S: Sink, F: Children> Crew<N, J, C, K, S, F> {

@@ -2,6 +2,7 @@
 
 use okws_outer::children::Children;
 use okws_outer::conn::Conn;
+use okws_outer::door::Door;
 use okws_outer::gate::Gate;
 use okws_outer::network::Network;
 use okws_outer::sinks::Sinks;
@@ -10,10 +11,10 @@ use okws_outer::stores::Stores;
 /// Of which types the further objects of a server are. What threads take or share is Send or Sync.
 pub trait Equipment {
     /// The network, which opens the doors.
-    type Network: Network + Drop;
+    type Network: Network<Door: Door<Conn: Send>> + Drop;
 
     /// The children, which stand behind a lock.
-    type Children: Children + Send + Drop;
+    type Children: Children<Child: Send, Link: Send> + Send + Drop;
 
     /// The operator's console: lines come in, and answers go out.
     type Console: Conn + Send + Drop;
@@ -57,8 +58,8 @@ pub type ObjectsOf<E> = Objects<
 >;
 
 impl<
-    N: Network + Drop,
-    H: Children + Send + Drop,
+    N: Network<Door: Door<Conn: Send>> + Drop,
+    H: Children<Child: Send, Link: Send> + Send + Drop,
     C: Conn + Send + Drop,
     S: Stores + Drop,
     K: Sinks + Drop,

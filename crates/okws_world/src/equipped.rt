@@ -7,6 +7,7 @@ ghost use Rattle.okws_world.specs.declared.equipment.Objects.{Objects};
 use crate::equipment::{Equipment, Objects, ObjectsOf};
 use okws_outer::children::Children;
 use okws_outer::conn::Conn;
+use okws_outer::door::Door;
 use okws_outer::files::Files;
 use okws_outer::gate::Gate;
 use okws_outer::network::Network;
@@ -48,8 +49,8 @@ pub struct Fitted<F, O, N, H, C, S, K, G> {
 impl<
     F: Files + Drop,
     O: Sink + Send + Drop,
-    N: Network + Drop,
-    H: Children + Send + Drop,
+    N: Network<Door: Door<Conn: Send>> + Drop,
+    H: Children<Child: Send, Link: Send> + Send + Drop,
     C: Conn + Send + Drop,
     S: Stores + Drop,
     K: Sinks + Drop,
@@ -78,8 +79,8 @@ impl<
 impl<
     F: Files + Drop,
     O: Sink + Send + Drop,
-    N: Network + Drop,
-    H: Children + Send + Drop,
+    N: Network<Door: Door<Conn: Send>> + Drop,
+    H: Children<Child: Send, Link: Send> + Send + Drop,
     C: Conn + Send + Drop,
     S: Stores + Drop,
     K: Sinks + Drop,

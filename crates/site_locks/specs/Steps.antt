@@ -31,6 +31,7 @@ pub record EntersProxy (p : ℕ) (event : ProxyEvent) (before : List (Entry Prox
   pub grows : GrowsBy by_entry s.number (proxy_past s.proxies p) before
   pub is : now ≡ record s { proxies = slice_set s.proxies p (record { worker = s.number; event = event } ∷ before) }
 
+-- The number entered nothing at proxy p, and saw what others had entered.
 pub record SeesProxy (p : ℕ) (before : List (Entry ProxyEvent)) (s now : Sat) : Type 0 where
   pub grows : GrowsBy by_entry s.number (proxy_past s.proxies p) before
   pub is : now ≡ record s { proxies = slice_set s.proxies p before }
@@ -40,6 +41,7 @@ pub record EntersPubd (event : PubdEvent) (before : List (Entry PubdEvent)) (s n
   pub grows : GrowsBy by_entry s.number s.pubd before
   pub is : now ≡ record s { pubd = record { worker = s.number; event = event } ∷ before }
 
+-- The number entered nothing at pubd, and saw what others had entered.
 pub record SeesPubd (before : List (Entry PubdEvent)) (s now : Sat) : Type 0 where
   pub grows : GrowsBy by_entry s.number s.pubd before
   pub is : now ≡ record s { pubd = before }
@@ -49,6 +51,7 @@ pub record EntersLog (event : LogEvent) (before : List (Entry LogEvent)) (s now 
   pub grows : GrowsBy by_entry s.number s.oklogd before
   pub is : now ≡ record s { oklogd = record { worker = s.number; event = event } ∷ before }
 
+-- The number entered nothing at oklogd, and saw what others had entered.
 pub record SeesLog (before : List (Entry LogEvent)) (s now : Sat) : Type 0 where
   pub grows : GrowsBy by_entry s.number s.oklogd before
   pub is : now ≡ record s { oklogd = before }

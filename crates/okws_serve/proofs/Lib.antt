@@ -1,0 +1,16 @@
+pub mod Counting
+pub mod Seating
+pub mod Manning
+pub mod Posting
+pub mod Attending
+pub mod Leaving
+pub mod Running
+pub mod Finishing
+pub mod Stationing
+pub mod Serving
+pub mod Lists
+pub mod Holding
+pub mod Backing
+pub mod Surviving
+pub mod Making
+pub mod Ended

@@ -1,0 +1,97 @@
+-- What was done at the doors of a run and at its console.
+use Rattle.std.specs.Prelude.{◌≡◌, ◌≤◌, ℕ, ◌+◌, Bool, true, false, ◌||◌, List, [], ◌∷◌, length, IsNone}
+use Rattle.okws_outer.specs.Conns.{ConnWire}
+use Rattle.okws_outer.specs.Doors.{Entrance}
+use Rattle.okws_outer.specs.Streams.{counted}
+use Rattle.okws_plan.specs.declared.configuration.Config.{Config}
+use Rattle.named_columns.specs.Counts.{capped}
+use Rattle.site_worker.specs.Commands.{Oversees}
+use Rattle.site_worker.specs.Lives.{Life}
+use Rattle.site_worker.specs.Rounds.{Attends}
+use Rattle.site_worker.specs.declared.console.Overseen.{Overseen}
+use Rattle.site_worker.specs.declared.console.Overseen.TheVariants as overseen
+use Rattle.site_worker.specs.declared.door.Attended.{Attended}
+
+-- No connection is out at any of these doors.
+abbrev pub AllIdle : List Entrance → Type 0
+AllIdle [] = Unit {0}
+AllIdle (e ∷ es) = IsNone e.out × AllIdle es
+
+-- What was done at a door: so many connections were served whole, so many were cut, and so many did not come.
+pub record Tally : Type 0 where
+  pub whole : ℕ
+  pub cut : ℕ
+  pub missed : ℕ
+
+-- The connections of a door.
+abbrev pub connections_of : Tally → ℕ
+connections_of t = t.whole + t.cut
+
+-- All that was begun at a door.
+abbrev pub begun_of : Tally → ℕ
+begun_of t = t.whole + t.cut + t.missed
+
+-- The sum over all doors.
+abbrev pub total : (Tally → ℕ) → List Tally → ℕ
+total f [] = 0
+total f (t ∷ ts) = f t + total f ts
+
+-- A door finished as many connections as were served there, and counted each that was cut and each that did not come.
+pub record TalliesAt (t : Tally) (old new : Entrance) : Type 0 where
+  pub finished : length new.finished ≡ connections_of t + length old.finished
+  pub faults : counted old.faults (t.cut + t.missed) ≤ new.faults
+
+-- The same at each door.
+abbrev pub AllTally : List Tally → List Entrance → List Entrance → Type 0
+AllTally [] [] [] = Unit {0}
+AllTally [] [] (f ∷ fs) = ⊥
+AllTally [] (e ∷ es) fs = ⊥
+AllTally (t ∷ ts) [] fs = ⊥
+AllTally (t ∷ ts) (e ∷ es) [] = ⊥
+AllTally (t ∷ ts) (e ∷ es) (f ∷ fs) = TalliesAt t e f × AllTally ts es fs
+
+-- A worker attended a door of a site, where number n launches: one connection after the other, as its rounds say.
+pub record AttendsAt {X : Type 0} (wire : X → ConnWire) (C : Config) (n most : ℕ) (old new : Entrance) (a : Attended) : Type 0 where
+  pub before : Life
+  pub after : Life
+  pub drawn : List ℕ
+  pub attends : Attends wire C n most old new before after [] drawn a
+
+-- The same at each door.
+abbrev pub AllAttend : {X : Type 0} → (X → ConnWire) → Config → ℕ → ℕ → List Entrance → List Entrance → List Attended → Type 0
+AllAttend wire C n most [] [] [] = Unit {0}
+AllAttend wire C n most [] [] (a ∷ as') = ⊥
+AllAttend wire C n most [] (f ∷ fs) as' = ⊥
+AllAttend wire C n most (e ∷ es) [] as' = ⊥
+AllAttend wire C n most (e ∷ es) (f ∷ fs) [] = ⊥
+AllAttend wire C n most (e ∷ es) (f ∷ fs) (a ∷ as') = AttendsAt wire C n most e f a × AllAttend wire C n most es fs as'
+
+-- Memory was refused to one of the workers, before it took a connection.
+abbrev pub any_starved : List Attended → Bool
+any_starved [] = false
+any_starved (a ∷ as') = a.starved || any_starved as'
+
+-- The doors of a run were attended: at most `most` connections were begun in all; and just so many, unless memory was refused to a worker, where those that were cut or did not come are among them and were counted at their doors.
+pub record ServesDoors {X : Type 0} (wire : X → ConnWire) (C : Config) (n most : ℕ) (old new : List Entrance) (connections : ℕ) (starved : Bool) : Type 0 where
+  pub attended : List Attended
+  pub attend : AllAttend wire C n most old new attended
+  pub starved_is : starved ≡ any_starved attended
+  pub tallies : List Tally
+  pub tallied : AllTally tallies old new
+  pub at_most : total begun_of tallies ≤ most
+  pub at_least : starved ≡ false → most ≤ total begun_of tallies
+  pub connections_are : connections ≡ total connections_of tallies
+
+-- The console failed.
+abbrev pub is_fault : Overseen → Bool
+is_fault overseen.Finished = false
+is_fault overseen.ConsoleFault = true
+
+-- A console of a site was overseen from its first line: its commands were carried out and answered one after the other, to `end` or its end, or until a call of it failed.
+pub record ServesConsole (C : Config) (old new : ConnWire) (failed : Bool) : Type 0 where
+  pub lines : ℕ
+  pub before : Life
+  pub after : Life
+  pub how : Overseen
+  pub oversees : Oversees C old new 0 lines before after how
+  pub failed_is : failed ≡ is_fault how

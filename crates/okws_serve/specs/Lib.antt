@@ -1,0 +1,9 @@
+pub mod Keepers
+pub mod Making
+pub mod Rooms
+pub mod Posts
+pub mod Rows
+pub mod Doors
+pub mod Journals
+pub mod Runs
+pub mod Whole

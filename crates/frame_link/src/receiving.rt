@@ -39,7 +39,7 @@ enum Filled {
 }
 
 /// Bytes that are asked for at a time.
-const PIECE: usize = 4096;
+const PIECE: usize = 256;
 
 /// Takes bytes from the link until there are so many in all.
 fn fill<L: Link>(link: &mut L, bytes: &mut Vec<u8>, total: usize) -> Filled
@@ -82,7 +82,9 @@ pub fn next_frame<F: FrameRead, L: Link>(alloc: Global, link: &mut L) -> NextFra
     ensures bad { result ≡ NextFrame.BadFrame → IsBadFrontBy F.parts F.fits (L.wire link.old).left (L.wire link.new).left }
     ensures link { Receives (L.wire link.old) (L.wire link.new) (result ≡ NextFrame.LinkFault) }
 {
-    let mut bytes = Vec::new(alloc);
+    let Ok(mut bytes) = Vec::with_capacity(alloc, PIECE) else {
+        return NextFrame::NoMemory;
+    };
     match fill(link, &mut bytes, 4) {
         Filled::Whole => {}
         Filled::Ended if bytes.is_empty() => return NextFrame::Ended,

@@ -1,19 +1,25 @@
-//! The program: the real files and standard output, and the run over them.
+//! The program: the run over the objects of the system.
 #![tactic(auto)]
 
-mod files;
-mod output;
-
-use files::RealFiles;
-use okws_outer::world::{Held, Outside};
-use okws_server::{answer_no_memory, answer_usage, okws};
-use output::Writing;
+use okws_outer::gate::NoGate;
+use okws_outer::world::Outside;
+use okws_server::status::Status;
+use okws_server::{answer_no_memory, answer_read_fault, answer_words, okws};
+use okws_system::children::RealChildren;
+use okws_system::console::RealConsole;
+use okws_system::files::RealFiles;
+use okws_system::network::RealNetwork;
+use okws_system::output::Writing;
+use okws_system::sinks::RealSinks;
+use okws_system::system::random_seed;
+use okws_world::equipment::Objects;
+use okws_world::equipped::Fitted;
+use outer_memory::stores::{Breaking, MemoryStores};
+use std::alloc::Global;
+use std::io::Write;
 use std::process::ExitCode;
 use std::rt::Env;
 use std::{env, io};
-
-/// The seed of the tokens of a run whose interleaving is listed.
-const SEED: [u8; 32] = [0; 32];
 
 /// The words after the program's name; a word that is no UTF-8 is an error.
 fn words_of<R: Env + AllocGlobal>(rt: &R) -> io::Result<Vec<String>> {
@@ -24,21 +30,40 @@ fn words_of<R: Env + AllocGlobal>(rt: &R) -> io::Result<Vec<String>> {
     Ok(words)
 }
 
+/// Says why a run didn't begin.
+fn answer_error<W: Write>(alloc: Global, out: &mut Writing<W>, error: &io::Error) -> Status {
+    match error.kind() {
+        io::ErrorKind::OutOfMemory => answer_no_memory(out),
+        io::ErrorKind::InvalidData => answer_words(alloc, &[], out),
+        _ => answer_read_fault(out),
+    }
+}
+
 fn main(rt: HostRuntime) -> ExitCode {
+    let alloc = rt.alloc();
     let mut out = Writing::new(io::writer(&rt));
-    let status = match words_of(&rt) {
-        Ok(words) => {
-            let mut world = Held {
-                objects: Some(Outside {
-                    files: RealFiles::new(&rt),
-                    out,
-                    seed: SEED,
-                }),
-            };
-            okws(&rt, rt.alloc(), &words, &mut world).0
+    let (words, seed) = match (words_of(&rt), random_seed(&rt)) {
+        (Ok(words), Ok(seed)) => (words, seed),
+        (Err(error), _) | (_, Err(error)) => {
+            return ExitCode::from(answer_error(alloc, &mut out, &error).number());
         }
-        Err(error) if error.kind() == io::ErrorKind::OutOfMemory => answer_no_memory(&mut out),
-        Err(_) => answer_usage(&mut out),
     };
+    let Ok(console) = RealConsole::new(alloc, rt.reader(), io::writer(&rt)) else {
+        return ExitCode::from(answer_no_memory(&mut out).number());
+    };
+    let things = Objects {
+        network: RealNetwork::new(&rt, alloc),
+        children: RealChildren::new(&rt),
+        console,
+        stores: MemoryStores::absent(Breaking),
+        sinks: RealSinks::new(&rt),
+        gate: NoGate,
+    };
+    let files = RealFiles::new(&rt);
+    let mut world = Fitted {
+        outside: Some(Outside { files, out, seed }),
+        further: Some(things),
+    };
+    let (status, _record) = okws(&rt, alloc, &words, &mut world);
     ExitCode::from(status.number())
 }

@@ -1,13 +1,12 @@
 -- How the lines of a drill follow one another, and what its run leaves.
-use Rattle.std.proofs.Common.{◌≡◌, ◌∙◌, ℕ, zero, suc, ◌+◌, ◌-◌, ◌%◌, ◌<◌, ◌≤◌, Bool, true, false, List, [], ◌∷◌, ◌++◌, length, map, refl, sym, ap, subst, arith, append_assoc, append-nil, reverse, inl, inr, Option, Some, None, ◌⊎◌}
-use Rattle.std.specs.Prelude.{◌&&◌, ◌==◌, if◌then◌else◌, codes, Result, Ok, Err}
+use Rattle.std.proofs.Common.{◌≡◌, ◌∙◌, ℕ, zero, suc, ◌+◌, ◌<◌, ◌≤◌, Bool, true, false, List, [], ◌∷◌, ◌++◌, length, map, refl, sym, ap, subst, arith, append_assoc, append-nil, reverse, inl, inr, Option, Some, None}
+use Rattle.std.specs.Prelude.{◌==◌, if◌then◌else◌, codes, Ok}
 use Rattle.std.specs.List.{list_all}
 use Rattle.std.proofs.lemmas.Bool.{cases_lt}
 use Rattle.std.proofs.lemmas.List.{reverse-append}
 use Rattle.okws_base.specs.Names.{is_name}
 use Rattle.okws_base.specs.Runs.{Each, Runs}
-use Rattle.okws_base.specs.declared.limit.TheConstants.{LONGEST_PATH}
-use Rattle.okws_outer.specs.Printing.{Printer, Printed, Counted, PrintsOn, printer}
+use Rattle.okws_outer.specs.Printing.{Printer, Printed, Counted, PrintsOn}
 use Rattle.okws_outer.proofs.Printed.{printed_first, counted_first}
 use Rattle.okws_plan.specs.Lines.{LineFits, service_names}
 use Rattle.okws_plan.specs.declared.configuration.Config.{Config}
@@ -15,16 +14,13 @@ use Rattle.okws_plan.specs.declared.script.Line.{Line}
 use Rattle.okws_plan.specs.declared.script.Line.TheVariants as line
 use Rattle.okws_plan.specs.declared.script.Method.TheVariants as method
 use Rattle.frame_codec.specs.declared.frame.ServiceFrame.{ServiceFrame}
-use Rattle.http_text.specs.Target.{path_of}
 use Rattle.monitor_model.specs.Script.{Plays, refusal}
 use Rattle.monitor_model.specs.Stage.{Stage, first_stage}
-use Rattle.play_script.specs.Reading.{LineKeeps, target_path}
 use Rattle.play_script.specs.Rule.{script_rule_number}
 use Rattle.play_script.specs.declared.rule.ScriptRule.{ScriptRule}
 use Rattle.okws_drill.specs.Course.{Taken, course, incarnation_of}
 use Rattle.okws_drill.specs.Refusal.{NeverRefused}
 use Rattle.okws_drill.specs.Script.{act_lines, asks, dialog_lines, drill_script, first_lines, group, groups, reply_frame, says, token_seed}
-use Rattle.okws_drill.specs.Script as script
 use Rattle.okws_drill.specs.Site.{is_drilled_site}
 use Rattle.okws_drill.specs.Words.{act_of, drill_word, number_of, service_of}
 use Rattle.okws_drill.specs.declared.words.TheConstants.{MOST_EVENTS}
@@ -32,7 +28,7 @@ use Rattle.okws_drill.specs.declared.course.Course.{Course}
 use Rattle.okws_drill.specs.declared.words.Act.{Act}
 use Rattle.okws_drill.specs.declared.words.Act.TheVariants.{Publish, Relaunch, Select, Insert, Delete, OpenAsFirst, Get, Log}
 use Rattle.okws_play.specs.Played.{PlayedLine}
-use Rattle.okws_play.specs.Run.{Run, IsShortLine, at_stage}
+use Rattle.okws_play.specs.Run.{Run, at_stage}
 use Rattle.okws_server.specs.Drill.{CanBePlayed, GoesThrough, Leads}
 
 -- ---- lines one after another

@@ -1,9 +1,7 @@
 -- What a drill leaves, and how it ends.
-use Rattle.std.proofs.Common.{◌≡◌, ◌∙◌, ℕ, Bool, true, false, List, [], ◌++◌, refl, sym, ap, subst, reverse, Option, Some, None}
+use Rattle.std.proofs.Common.{◌≡◌, ◌∙◌, ℕ, Bool, true, false, List, [], refl, sym, ap, subst, Option}
 use Rattle.std.specs.Prelude.{Ok}
 use Rattle.std.specs.List.{list_all}
-use Rattle.std.specs.declared.alloc.Global.{Global}
-use Rattle.std.specs.declared.string.String.{String}
 use Rattle.okws_base.specs.Names.{is_name}
 use Rattle.okws_outer.specs.Printing.{Printed, Counted, Printer, PrintsOn}
 use Rattle.okws_outer.specs.Streams.{Rose}
@@ -13,23 +11,19 @@ use Rattle.okws_plan.specs.declared.configuration.Config.{Config}
 use Rattle.okws_plan.specs.declared.script.Line.{Line}
 use Rattle.config_reader.specs.Meaning.{meaning}
 use Rattle.monitor_model.specs.Played.{IsFaultless}
-use Rattle.monitor_model.specs.Stage.{Stage, first_stage}
+use Rattle.monitor_model.specs.Stage.{first_stage}
 use Rattle.monitor_model.specs.declared.record.Record.{Record}
 use Rattle.okws_drill.specs.Script.{drill_script}
 use Rattle.okws_drill.specs.Site.{is_drilled_site}
 use Rattle.okws_drill.specs.Summary.{TalliesCount, frames_in, kinds_of, rules_of, summary, summary_of}
 use Rattle.okws_drill.specs.Tally.{tally_of}
 use Rattle.okws_drill.specs.declared.site.TheConstants.{SITE}
-use Rattle.okws_play.specs.Run.{Run, at_stage}
-use Rattle.okws_server.specs.Command.{IsDrill}
+use Rattle.okws_play.specs.Run.{Run}
 use Rattle.okws_server.specs.Drill.{Drilled, IsDrilled, Leads}
 use Rattle.okws_server.specs.Headline.{IsMonitored}
 use Rattle.okws_server.specs.Ran.{out_status, zero_seed}
-use Rattle.okws_server.specs.declared.status.Status.{Status}
-use Rattle.okws_server.specs.declared.status.Status.TheVariants as status
 use Rattle.okws_server.proofs.DrillLines.{Declares, declares, script_fits}
 use Rattle.okws_server.proofs.Ended.{at_start}
-use Rattle.okws_server.proofs.Numbers.{one_drill}
 use Rattle.okws_server.proofs.Monitored.{Laws, Links, left_of, of_stage}
 
 -- the run of a drill before its first line
@@ -78,10 +72,3 @@ pub drill_ends : (number events : ℕ) (R : Record) (text : List ℕ) (old : Opt
     PrintsOn (at_start old f) c text → Drilled number events old c.given (Rose f c.faults) R (out_status c.stopped)
 drill_ends number events R text old f c h on =
     ends_at number events R text old c.given f c.faults c.stopped h (printed_first old c.given text c.stopped on.prints) (counted_first f c.faults c.stopped on.counts)
-
--- the words are those of one drill
-pub drilled_as : (words : List (String Global)) (a b m n : ℕ) (old new : Option (List ℕ)) (rose : Type 0) (R : Record) (how : Status) → IsDrill words a m → IsDrill words b n → Drilled a m old new rose R how →
-    Drilled b n old new rose R how
-drilled_as words a b m n old new rose R how h k drilled =
-    let same : (a ≡ b) × (m ≡ n) = one_drill words a b m n h k in
-    subst (λ (x : ℕ). Drilled x n old new rose R how) same.0 (subst (λ (x : ℕ). Drilled a x old new rose R how) same.1 drilled)

@@ -1,20 +1,18 @@
 -- Isolation between two runs of `play`.
-use Rattle.std.proofs.Common.{◌≡◌, ◌<◌, ℕ, List, [], ◌∷◌, length, Option, Some, None, map, refl, sym, ap, ◌∙◌, Ok}
+use Rattle.std.proofs.Common.{◌≡◌, ℕ, List, [], ◌∷◌, Option, Some, map, refl, sym, ap, ◌∙◌, Ok}
 use Rattle.okws_base.specs.Runs.{Each}
 use Rattle.okws_plan.specs.declared.configuration.Config.{Config}
-use Rattle.okws_plan.specs.declared.script.Line.{Line}
 use Rattle.config_reader.proofs.SoundMeaning.{sound_read, ruled_read}
 use Rattle.monitor_model.specs.Cell.{heard}
 use Rattle.monitor_model.specs.Merged.{cell_past}
-use Rattle.monitor_model.specs.Sent.{sents_of, all_booted, AreGivenAll, IsGivenAll}
+use Rattle.monitor_model.specs.Sent.{sents_of, all_booted, AreGivenAll}
 use Rattle.monitor_model.specs.declared.record.CellEvent.{CellEvent}
 use Rattle.monitor_model.specs.declared.record.CellEvent.TheVariants as cell
 use Rattle.monitor_model.specs.declared.record.Record.{Record}
 use Rattle.monitor_model.specs.declared.sent.Sent.{Sent}
 use Rattle.two_worlds.specs.Agreement.{LawfulConfig}
 use Rattle.two_worlds.specs.Laws.{HearsTheSame}
-use Rattle.two_worlds.specs.Story.{RecordsAgree, StoryEvent, Boots, Talks, IsStory}
-use Rattle.okws_server.specs.Headline.{IsMonitored}
+use Rattle.two_worlds.specs.Story.{StoryEvent, Boots, Talks, IsStory}
 use Rattle.okws_server.specs.Isolation.{AgreeingRunsGiveTheSame}
 use Rattle.okws_server.specs.Ran.{GivesConfig, zero_seed}
 

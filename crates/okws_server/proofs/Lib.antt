@@ -10,5 +10,10 @@ pub mod Sents
 pub mod Isolation
 pub mod DrillLines
 pub mod Drilled
-pub mod Numbers
+pub mod Commands
 pub mod Sited
+pub mod Answered
+pub mod Ends
+pub mod Grounds
+pub mod Over
+pub mod Obeyed

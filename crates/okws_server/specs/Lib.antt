@@ -1,9 +1,12 @@
-pub mod Command
+pub mod Commands
+pub mod Counting
 pub mod Drill
 pub mod Ending
 pub mod Headline
 pub mod Listing
 pub mod Ran
 pub mod Script
+pub mod Served
 pub mod Status
+pub mod Views
 pub mod Isolation

@@ -1,27 +1,35 @@
 //! A run of the program.
 
-ghost use Rattle.std.specs.Prelude.{◌≡◌, ◌⊎◌, Some, IsSome, List, ℕ};
+ghost use Rattle.std.specs.Prelude.{◌≡◌, Some, None, IsSome, map, string_bytes};
+ghost use Rattle.command_line.specs.Asked.{asked};
+ghost use Rattle.command_line.specs.Meant.{meant};
 ghost use Rattle.okws_outer.specs.Streams.{Rose};
 ghost use Rattle.okws_outer.specs.declared.world.Outside.{Outside};
-ghost use Rattle.okws_server.specs.Command.{IsCheck, IsDrill, IsPlay};
-ghost use Rattle.okws_server.specs.Drill.{Drilled};
-ghost use Rattle.okws_server.specs.Ending.{Told, no_memory_line};
-ghost use Rattle.okws_server.specs.Headline.{IsEmptyRecord};
-ghost use Rattle.okws_server.specs.Ran.{Checked, Played};
-ghost use Rattle.okws_server.specs.declared.top.TheConstants.{USAGE};
+ghost use Rattle.okws_world.specs.declared.equipment.Objects.{Objects};
+ghost use Rattle.okws_server.specs.Commands.{Does, Obeys, Says, IsWithin};
+ghost use Rattle.okws_server.specs.Ending.{Told, no_memory_line, read_fault_line};
+ghost use Rattle.okws_server.specs.Ran.{Played};
+ghost use Rattle.okws_server.specs.Views.{gear_of, view_of};
 
 use crate::checking::check;
-use crate::command::{check_of, drill_of, play_of};
 use crate::drilling::drill;
 use crate::ending::{print_config_refusal, print_last, print_no_memory, print_read_fault};
 use crate::preparing::{Stop, prepare};
 use crate::script_run::{empty_record, play_prepared};
+use crate::server::serve;
 use crate::status::Status;
+use command_line::answer::answer;
+use command_line::command::{Command, command_of};
 use monitor_model::record::Record;
 use okws_outer::files::Files;
 use okws_outer::stream::Sink;
 use okws_outer::world::{Outside, World};
+use okws_world::equipment::{Equipment, ObjectsOf};
+use okws_world::equipped::Equipped;
 use std::alloc::Global;
+use std::sync::Wait;
+use std::thread::Threads;
+use token_core::Seed;
 
 /// Reads a configuration and a script, and plays the script.
 fn play<F: Files, O: Sink>(
@@ -31,7 +39,8 @@ fn play<F: Files, O: Sink>(
     config: &str,
     script: &str,
 ) -> (Status, Record)
-    ensures { Played (F.shelf files.old) (F.shelf files.new) config.now script.now (O.given out.old) (O.given out.new) (Rose (O.faults out.old) (O.faults out.new)) result.1 result.0 }
+    ensures { Played (F.shelf files.old) (F.shelf files.new) config.now script.now
+        (O.given out.old) (O.given out.new) (Rose (O.faults out.old) (O.faults out.new)) result.1 result.0 }
 {
     match prepare(alloc, files, config, script) {
         Ok(prepared) => play_prepared(alloc, prepared, out),
@@ -50,19 +59,6 @@ fn play<F: Files, O: Sink>(
     }
 }
 
-/// How the program is called.
-pub const USAGE: &[u8] =
-    b"usage: okws check CONFIG\n       okws play CONFIG SCRIPT\n       okws drill SEED EVENTS\n\ncheck  reads a configuration, and lists its queries\nplay   plays a script of a site by its configuration\ndrill  plays a script that SEED gives, 0 to 18446744073709551615, with\n       EVENTS events, 0 to 100000, and prints what was heard, by kind\n";
-
-/// Prints how the program is called, as for words that are no command. Takes no memory.
-pub fn answer_usage<O: Sink>(out: &mut O) -> Status
-    ensures status { result ≡ Status.Usage }
-    ensures told { Told (O.given out.old) (O.given out.new) USAGE.now (Rose (O.faults out.old) (O.faults out.new)) }
-{
-    print_last(out, USAGE);
-    Status::Usage
-}
-
 /// Prints that memory was refused, as where it was refused before the words were there. Takes no memory.
 pub fn answer_no_memory<O: Sink>(out: &mut O) -> Status
     ensures status { result ≡ Status.NoMemory }
@@ -72,34 +68,92 @@ pub fn answer_no_memory<O: Sink>(out: &mut O) -> Status
     Status::NoMemory
 }
 
-/// What the words say is done with the objects of a run.
-fn run<F: Files, O: Sink>(
+/// Prints that a file could not be read, as where the system has no random bytes for the seed. Takes no
+/// memory.
+pub fn answer_read_fault<O: Sink>(out: &mut O) -> Status
+    ensures status { result ≡ Status.ReadFault }
+    ensures told { Told (O.given out.old) (O.given out.new) read_fault_line (Rose (O.faults out.old) (O.faults out.new)) }
+{
+    print_read_fault(out);
+    Status::ReadFault
+}
+
+/// Says of words that are no command how the program is called.
+pub fn answer_words<O: Sink>(alloc: Global, words: &[String], out: &mut O) -> Status
+    ensures { Says (O.given out.old) (O.given out.new) (Rose (O.faults out.old) (O.faults out.new)) result }
+{
+    match answer(alloc, words) {
+        Ok(text) => {
+            print_last(out, text.as_bytes());
+            Status::Usage
+        }
+        Err(_) => answer_no_memory(out),
+    }
+}
+
+// Does what a command asks for.
+fn obey<R, F, O, E>(
+    rt: &R,
     alloc: Global,
-    words: &[String],
+    command: Command<'_>,
+    seed: Seed,
     files: &mut F,
     out: &mut O,
-) -> (Status, Record)
-    ensures usage { result.0 ≡ Status.Usage → ((config script : List ℕ) → IsPlay words.now config script → ⊥) × ((config : List ℕ) → IsCheck words.now config → ⊥) × ((number events : ℕ) → IsDrill words.now number events → ⊥) }
-    ensures told { result.0 ≡ Status.Usage → IsEmptyRecord result.1 × (F.shelf files.new ≡ F.shelf files.old) × Told (O.given out.old) (O.given out.new) USAGE.now (Rose (O.faults out.old) (O.faults out.new)) }
-    ensures command { (result.0 ≡ Status.Usage) ⊎ ((config : List ℕ) × (script : List ℕ) × IsPlay words.now config script) ⊎ ((config : List ℕ) × IsCheck words.now config) ⊎ ((number : ℕ) × (events : ℕ) × IsDrill words.now number events) }
-    ensures play { (config script : List ℕ) → IsPlay words.now config script →
-        Played (F.shelf files.old) (F.shelf files.new) config script (O.given out.old) (O.given out.new) (Rose (O.faults out.old) (O.faults out.new)) result.1 result.0 }
-    ensures check { (config : List ℕ) → IsCheck words.now config → IsEmptyRecord result.1 ×
-        Checked (F.shelf files.old) (F.shelf files.new) config (O.given out.old) (O.given out.new) (Rose (O.faults out.old) (O.faults out.new)) result.0 }
-    ensures drill { (number events : ℕ) → IsDrill words.now number events → (F.shelf files.new ≡ F.shelf files.old) ×
-        Drilled number events (O.given out.old) (O.given out.new) (Rose (O.faults out.old) (O.faults out.new)) result.1 result.0 }
+    things: ObjectsOf<E>,
+) -> (Status, Record, ObjectsOf<E>)
+where
+    R: Wait + Threads + Sync,
+    F: Files,
+    O: Sink,
+    E: Equipment,
+    requires { IsWithin (meant command) }
+    ensures { Does E.Network.Door.Conn.wire (Some (meant command.entry))
+        (view_of F.shelf O.given O.faults files.old out.old (gear_of E.Network.net E.Children.family E.Console.wire E.Stores.depot E.Sinks.rack things) seed)
+        (view_of F.shelf O.given O.faults files.new out.new (gear_of E.Network.net E.Children.family E.Console.wire E.Stores.depot E.Sinks.rack result.2) seed)
+        result.1 result.0 }
 {
-    if let Some((config, script)) = play_of(words) {
-        return play(alloc, files, out, config, script);
+    match command {
+        Command::Check { config } => {
+            let status = check(alloc, files, out, config);
+            (status, empty_record(alloc), things)
+        }
+        Command::Play { config, script } => {
+            let (status, record) = play(alloc, files, out, config, script);
+            (status, record, things)
+        }
+        Command::Drill { seed, events } => {
+            let (status, record) = drill(alloc, out, seed, events);
+            (status, record, things)
+        }
+        Command::Serve(server) => serve::<R, F, O, E>(rt, alloc, &server, seed, files, out, things),
     }
-    if let Some(config) = check_of(words) {
-        let status = check(alloc, files, out, config);
-        return (status, empty_record(alloc));
+}
+
+// Does what the words ask for.
+fn run<R, F, O, E>(
+    rt: &R,
+    alloc: Global,
+    words: &[String],
+    seed: Seed,
+    files: &mut F,
+    out: &mut O,
+    things: ObjectsOf<E>,
+) -> (Status, Record, ObjectsOf<E>)
+where
+    R: Wait + Threads + Sync,
+    F: Files,
+    O: Sink,
+    E: Equipment,
+    ensures { Obeys E.Network.Door.Conn.wire (asked (map string_bytes words.now))
+        (view_of F.shelf O.given O.faults files.old out.old (gear_of E.Network.net E.Children.family E.Console.wire E.Stores.depot E.Sinks.rack things) seed)
+        (view_of F.shelf O.given O.faults files.new out.new (gear_of E.Network.net E.Children.family E.Console.wire E.Stores.depot E.Sinks.rack result.2) seed)
+        result.1 result.0 }
+{
+    match command_of(alloc, words) {
+        Ok(Some(command)) => obey::<R, F, O, E>(rt, alloc, command, seed, files, out, things),
+        Ok(None) => (answer_words(alloc, words, out), empty_record(alloc), things),
+        Err(_) => (answer_no_memory(out), empty_record(alloc), things),
     }
-    if let Some((number, events)) = drill_of(words) {
-        return drill(alloc, out, number, events);
-    }
-    (answer_usage(out), empty_record(alloc))
 }
 
 /// A run of the program by its words, over the objects of its world: how it ended, and what it left.
@@ -108,37 +162,35 @@ fn run<F: Files, O: Sink>(
 /// canonical. `play CONFIG SCRIPT` plays the script's lines one after another, prints
 /// `heard SERVICE K HEX` for each frame that a service hears and `answer N TEXT` for each response,
 /// and leaves its record. `drill SEED EVENTS` plays a script that the two numbers give over a site of
-/// the program's own, prints how many frames of each kind were heard, and leaves its record. Other
-/// words are answered with how the program is called.
-pub fn okws<R, W: World>(
-    _rt: &R,
-    alloc: Global,
-    words: &[String],
-    world: &mut W,
-) -> (Status, Record)
-    requires { IsSome (W.objects world.old) }
+/// the program's own, prints how many frames of each kind were heard, and leaves its record.
+/// `serve CONFIG --port P --serve N` serves a site whose services are programs, at P of the loopback
+/// address, to N connections. Other words are answered with how the program is called.
+pub fn okws<R, W>(rt: &R, alloc: Global, words: &[String], world: &mut W) -> (Status, Record)
+where
+    R: Wait + Threads + Sync,
+    W: Equipped,
+    requires objects { IsSome (W.objects world.old) }
+    requires equipment { IsSome (W.equipment world.old) }
     ensures whole { IsSome (W.objects world.new) }
-    ensures usage { result.0 ≡ Status.Usage → ((config script : List ℕ) → IsPlay words.now config script → ⊥) × ((config : List ℕ) → IsCheck words.now config → ⊥) × ((number events : ℕ) → IsDrill words.now number events → ⊥) }
-    ensures empty { result.0 ≡ Status.Usage → IsEmptyRecord result.1 }
-    ensures told { (before after : Outside W.Files W.Out) → result.0 ≡ Status.Usage → W.objects world.old ≡ Some before → W.objects world.new ≡ Some after →
-        (W.Files.shelf after.files ≡ W.Files.shelf before.files) × Told (W.Out.given before.out) (W.Out.given after.out) USAGE.now (Rose (W.Out.faults before.out) (W.Out.faults after.out)) }
-    ensures command { (result.0 ≡ Status.Usage) ⊎ ((config : List ℕ) × (script : List ℕ) × IsPlay words.now config script) ⊎ ((config : List ℕ) × IsCheck words.now config) ⊎ ((number : ℕ) × (events : ℕ) × IsDrill words.now number events) }
-    ensures play { (config script : List ℕ) (before after : Outside W.Files W.Out) → IsPlay words.now config script →
-        W.objects world.old ≡ Some before → W.objects world.new ≡ Some after →
-        Played (W.Files.shelf before.files) (W.Files.shelf after.files) config script (W.Out.given before.out) (W.Out.given after.out) (Rose (W.Out.faults before.out) (W.Out.faults after.out)) result.1 result.0 }
-    ensures check { (config : List ℕ) (before after : Outside W.Files W.Out) → IsCheck words.now config →
-        W.objects world.old ≡ Some before → W.objects world.new ≡ Some after → IsEmptyRecord result.1 ×
-        Checked (W.Files.shelf before.files) (W.Files.shelf after.files) config (W.Out.given before.out) (W.Out.given after.out) (Rose (W.Out.faults before.out) (W.Out.faults after.out)) result.0 }
-    ensures drill { (number events : ℕ) (before after : Outside W.Files W.Out) → IsDrill words.now number events →
-        W.objects world.old ≡ Some before → W.objects world.new ≡ Some after → (W.Files.shelf after.files ≡ W.Files.shelf before.files) ×
-        Drilled number events (W.Out.given before.out) (W.Out.given after.out) (Rose (W.Out.faults before.out) (W.Out.faults after.out)) result.1 result.0 }
+    ensures equipped { IsSome (W.equipment world.new) }
+    ensures runs { (a b : Outside W.Files W.Out) (s t : Objects W.Equipment.Network W.Equipment.Children W.Equipment.Console W.Equipment.Stores W.Equipment.Sinks W.Equipment.Gate) →
+        W.objects world.old ≡ Some a → W.equipment world.old ≡ Some s → W.objects world.new ≡ Some b → W.equipment world.new ≡ Some t →
+        Obeys W.Equipment.Network.Door.Conn.wire (asked (map string_bytes words.now))
+        (view_of W.Files.shelf W.Out.given W.Out.faults a.files a.out (gear_of W.Equipment.Network.net W.Equipment.Children.family W.Equipment.Console.wire W.Equipment.Stores.depot W.Equipment.Sinks.rack s) a.seed)
+        (view_of W.Files.shelf W.Out.given W.Out.faults b.files b.out (gear_of W.Equipment.Network.net W.Equipment.Children.family W.Equipment.Console.wire W.Equipment.Stores.depot W.Equipment.Sinks.rack t) b.seed)
+        result.1 result.0 }
 {
+    let things = world.equip();
     let Outside {
         mut files,
         mut out,
         seed,
     } = world.open();
-    let ended = run(alloc, words, &mut files, &mut out);
+    let ended = run::<R, W::Files, W::Out, W::Equipment>(
+        rt, alloc, words, seed, &mut files, &mut out, things,
+    );
     world.close(Outside { files, out, seed });
-    ended
+    let (status, record, things) = ended;
+    world.unequip(things);
+    (status, record)
 }

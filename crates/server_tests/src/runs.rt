@@ -3,11 +3,15 @@
 
 use okws_outer::memory::files::{Entry, MemoryFiles};
 use okws_outer::memory::sink::MemorySink;
-use okws_outer::world::{Held, Outside};
+use okws_outer::world::Outside;
 use okws_server::okws;
 use okws_server::status::Status;
+use okws_world::equipped::Fitted;
+use okws_world::memory::absent;
 use std::alloc::{AllocError, Global};
+use std::sync::Wait;
 use std::test::Fail;
+use std::thread::Threads;
 
 const SITE: &str = "okws 1\n\
     proxy main\n\
@@ -54,7 +58,8 @@ struct Ended {
 
 /// Runs these words over files in memory, whose pulls of the numbers in `pulls` fail, and an out with
 /// so much room, whose puts of the numbers in `puts` fail.
-fn run(
+fn run<R: Wait + Threads + Sync>(
+    rt: &R,
     alloc: Global,
     words: &[&str],
     entries: &[Entry<'_>],
@@ -66,17 +71,18 @@ fn run(
     for word in words {
         owned.push(String::from_str(alloc, word)?)?;
     }
-    let mut world = Held {
-        objects: Some(Outside {
+    let mut world = Fitted {
+        outside: Some(Outside {
             files: MemoryFiles::new(entries, 4096, pulls),
             out: MemorySink::new(alloc, room, puts)?,
             seed: [0; 32],
         }),
+        further: Some(absent(alloc)?),
     };
-    let (status, record) = okws(&(), alloc, &owned, &mut world);
+    let (status, record) = okws(rt, alloc, &owned, &mut world);
     drop(record);
     let mut printed = Vec::new(alloc);
-    if let Some(all) = &world.objects {
+    if let Some(all) = &world.outside {
         printed.extend_from_slice(all.out.given())?;
     }
     Ok(Ended { status, printed })
@@ -101,7 +107,7 @@ const PLAY: [&str; 3] = ["play", "site", "script"];
 #[test]
 fn a_dialog_is_printed(rt: HostRuntime) -> Result<(), Fail> {
     let entries = files(SITE, ONE_DIALOG);
-    let ended = run(rt.alloc(), &PLAY, &entries, &[], 4096, &[])?;
+    let ended = run(&rt, rt.alloc(), &PLAY, &entries, &[], 4096, &[])?;
     assert_eq!(rt; ended.status, Status::Ok);
     assert_eq!(rt; ended.printed.as_slice(), ONE_DIALOG_PRINTED.as_bytes());
     Ok(())
@@ -110,7 +116,7 @@ fn a_dialog_is_printed(rt: HostRuntime) -> Result<(), Fail> {
 #[test]
 fn two_sessions_are_opened(rt: HostRuntime) -> Result<(), Fail> {
     let entries = files(SITE, TWO_SESSIONS);
-    let ended = run(rt.alloc(), &PLAY, &entries, &[], 4096, &[])?;
+    let ended = run(&rt, rt.alloc(), &PLAY, &entries, &[], 4096, &[])?;
     assert_eq!(rt; ended.status, Status::Ok);
     assert_eq!(rt; ended.printed.as_slice(), TWO_SESSIONS_PRINTED.as_bytes());
     Ok(())
@@ -121,7 +127,7 @@ fn out_may_be_full_at_any_byte(rt: HostRuntime) -> Result<(), Fail> {
     let whole = ONE_DIALOG_PRINTED.as_bytes();
     let entries = files(SITE, ONE_DIALOG);
     for room in 0..whole.len() {
-        let ended = run(rt.alloc(), &PLAY, &entries, &[], room, &[])?;
+        let ended = run(&rt, rt.alloc(), &PLAY, &entries, &[], room, &[])?;
         assert_eq!(rt; ended.status, Status::OutFault);
         assert!(rt; ended.printed.len() <= room);
         assert!(rt; whole.starts_with(&ended.printed));
@@ -133,7 +139,7 @@ fn out_may_be_full_at_any_byte(rt: HostRuntime) -> Result<(), Fail> {
 fn a_put_that_fails_is_the_last(rt: HostRuntime) -> Result<(), Fail> {
     let entries = files(SITE, ONE_DIALOG);
     for put in [0, 2, 4] {
-        let ended = run(rt.alloc(), &PLAY, &entries, &[], 4096, &[put as u64])?;
+        let ended = run(&rt, rt.alloc(), &PLAY, &entries, &[], 4096, &[put as u64])?;
         assert_eq!(rt; ended.status, Status::OutFault);
         assert_eq!(rt;
             ended.printed.iter().filter(|byte| **byte == b'\n').count(),
@@ -172,7 +178,7 @@ fn broken_files_are_told(rt: HostRuntime) -> Result<(), Fail> {
             "answer 0 HTTP/1.1 404 Not Found\\x0d\\x0aContent-Type: text/plain\\x0d\\x0aContent-Length: 14\\x0d\\x0aConnection: close\\x0d\\x0a\\x0d\\x0a404 Not Found\\x0a\nrefused: script line 2 rule 2\n",
         ),
     ] {
-        let ended = run(rt.alloc(), &PLAY, &files(site, script), &[], 4096, &[])?;
+        let ended = run(&rt, rt.alloc(), &PLAY, &files(site, script), &[], 4096, &[])?;
         assert_eq!(rt; ended.status, status);
         assert_eq!(rt; ended.printed.as_slice(), printed.as_bytes());
     }
@@ -190,7 +196,7 @@ fn files_that_fail_are_told(rt: HostRuntime) -> Result<(), Fail> {
         (&["check", "site"], &[1]),
         (&["play", "site", "script"], &[2]),
     ] {
-        let ended = run(rt.alloc(), words, &entries, pulls, 4096, &[])?;
+        let ended = run(&rt, rt.alloc(), words, &entries, pulls, 4096, &[])?;
         assert_eq!(rt; ended.status, Status::ReadFault);
         assert_eq!(rt; ended.printed.as_slice(), b"read fault\n".as_slice());
     }
@@ -205,11 +211,29 @@ fn queries_are_listed(rt: HostRuntime) -> Result<(), Fail> {
         (&[0], Status::OutFault, b""),
     ] {
         let entries = files(SITE, "");
-        let ended = run(rt.alloc(), &["check", "site"], &entries, &[], 4096, puts)?;
+        let ended = run(
+            &rt,
+            rt.alloc(),
+            &["check", "site"],
+            &entries,
+            &[],
+            4096,
+            puts,
+        )?;
         assert_eq!(rt; ended.status, status);
         assert_eq!(rt; ended.printed.as_slice(), printed);
     }
     Ok(())
+}
+
+// The text says how the program is called, or how to be told.
+fn tells_how_to_call(printed: &[u8]) -> bool {
+    printed
+        .windows(11)
+        .any(|part| part == b"Usage: okws".as_slice())
+        || printed
+            .windows(12)
+            .any(|part| part == b"try '--help'".as_slice())
 }
 
 #[test]
@@ -228,9 +252,9 @@ fn other_words_are_told_how_to_call(rt: HostRuntime) -> Result<(), Fail> {
         &["drill", "00", "0"],
         &["drill", "0", "+5"],
     ] {
-        let ended = run(rt.alloc(), words, &[], &[], 4096, &[])?;
+        let ended = run(&rt, rt.alloc(), words, &[], &[], 4096, &[])?;
         assert_eq!(rt; ended.status, Status::Usage);
-        assert!(rt; ended.printed.starts_with(b"usage: okws "));
+        assert!(rt; tells_how_to_call(&ended.printed));
     }
     Ok(())
 }
@@ -252,7 +276,7 @@ fn drills_are_summed(rt: HostRuntime) -> Result<(), Fail> {
             "boots 8\nrequests 31\npushes 1\nopened 17\nrows 3\nchanged 5\nduplicates 1\ntemplates 0\nlogged 2\nfailed 0\nnomemory 0\ndenied 12 3\ndenied 14 4\ndenied 21 6\ndenied 22 1\ndenied 31 2\n",
         ),
     ] {
-        let ended = run(rt.alloc(), words, &[], &[], 4096, &[])?;
+        let ended = run(&rt, rt.alloc(), words, &[], &[], 4096, &[])?;
         assert_eq!(rt; ended.status, Status::Ok);
         assert_eq!(rt; ended.printed.as_slice(), printed.as_bytes());
     }
@@ -261,7 +285,7 @@ fn drills_are_summed(rt: HostRuntime) -> Result<(), Fail> {
 
 #[test]
 fn a_drill_over_an_out_that_fails(rt: HostRuntime) -> Result<(), Fail> {
-    let ended = run(rt.alloc(), &["drill", "0", "5"], &[], &[], 4096, &[0])?;
+    let ended = run(&rt, rt.alloc(), &["drill", "0", "5"], &[], &[], 4096, &[0])?;
     assert_eq!(rt; ended.status, Status::OutFault);
     assert!(rt; ended.printed.is_empty());
     Ok(())

@@ -1,31 +1,24 @@
-use Rattle.std.proofs.Common.{◌≡◌}
-use Rattle.okws_outer.specs.Streams.{Rose}
+use Rattle.std.proofs.Common.{◌≡◌, ◌∙◌, Some, map, sym}
+use Rattle.std.specs.Prelude.{string_bytes}
+use Rattle.std.specs.declared.option.Option.{Option}
+use Rattle.command_line.specs.Asked.{asked}
 use Rattle.okws_outer.specs.declared.world.Outside.{Outside}
-use Rattle.okws_server.specs.Drill.{Drilled}
-use Rattle.okws_server.specs.Ending.{Told}
-use Rattle.okws_server.specs.Ran.{Played}
-use Rattle.okws_server.specs.declared.top.TheConstants.{USAGE}
+use Rattle.okws_world.specs.declared.equipment.Objects.{Objects}
+use Rattle.okws_server.specs.Commands.{Obeys}
+use Rattle.okws_server.specs.Views.{gear_of, view_of}
 use Rattle.okws_server.proofs.Ended.{over_objects}
 use Rattle.okws_server.proofs.top.okws.Goals as goal
 
-pub returns-clause-play : goal.returns-clause-play
-returns-clause-play g c config script before after words at now =
-    over_objects
-    (λ (a b : Outside g.row.W-Files.Denot g.row.W-Out.Denot). Played (g.W.Files.Files.shelf a.files) (g.W.Files.Files.shelf b.files) config script (g.W.Out.Sink.given a.out) (g.W.Out.Sink.given b.out) (Rose (g.W.Out.Sink.faults a.out) (g.W.Out.Sink.faults b.out)) c.run-ended.result.1 c.run-ended.result.0)
-    _ _ _ _ before after c.open-files.ensures c.close.ensures at now (c.run-ended.ensures.play config script words)
+-- both kinds of objects that a run was given and gave back
+over_both : {A B : Type 0} (P : A → A → B → B → Type 0) (o p : Option A) (q r : Option B) (a b x y : A) (s t u v : B) → o ≡ Some a → p ≡ Some b → q ≡ Some s → r ≡ Some t → o ≡ Some x → p ≡ Some y → q ≡ Some u → r ≡ Some v →
+    P a b s t → P x y u v
+over_both {A} {B} P o p q r a b x y s t u v oa pb qs rt ox py qu rv h =
+    over_objects (λ (k l : A). P k l u v) o p a b x y oa pb ox py (over_objects (λ (k l : B). P a b k l) q r s t u v qs rt qu rv h)
 
-pub returns-clause-drill : goal.returns-clause-drill
-returns-clause-drill g c number events before after words at now =
-    over_objects
-    (λ (a b : Outside g.row.W-Files.Denot g.row.W-Out.Denot).
-    (g.W.Files.Files.shelf b.files ≡ g.W.Files.Files.shelf a.files)
-    × Drilled number events (g.W.Out.Sink.given a.out) (g.W.Out.Sink.given b.out) (Rose (g.W.Out.Sink.faults a.out) (g.W.Out.Sink.faults b.out)) c.run-ended.result.1 c.run-ended.result.0)
-    _ _ _ _ before after c.open-files.ensures c.close.ensures at now (c.run-ended.ensures.drill number events words)
-
-pub returns-clause-told : goal.returns-clause-told
-returns-clause-told g c before after usage at now =
-    over_objects
-    (λ (a b : Outside g.row.W-Files.Denot g.row.W-Out.Denot).
-    (g.W.Files.Files.shelf b.files ≡ g.W.Files.Files.shelf a.files)
-    × Told (g.W.Out.Sink.given a.out) (g.W.Out.Sink.given b.out) USAGE.now (Rose (g.W.Out.Sink.faults a.out) (g.W.Out.Sink.faults b.out)))
-    _ _ _ _ before after c.open-files.ensures c.close.ensures at now ((c.run-ended.ensures.told usage).1, (c.run-ended.ensures.told usage).2)
+pub returns-clause-runs : goal.returns-clause-runs
+returns-clause-runs g c a b s t old fitted new kept =
+    over_both
+    (λ (k l : Outside g.row.W-Files.Denot g.row.W-Out.Denot)
+    (m n : Objects g.row.W-Equipment-Network.Denot g.row.W-Equipment-Children.Denot g.row.W-Equipment-Console.Denot g.row.W-Equipment-Stores.Denot g.row.W-Equipment-Sinks.Denot g.row.W-Equipment-Gate.Denot).
+    Obeys g.W.Equipment.Network.Door.Conn.Conn.wire (asked (map string_bytes c.args.words.now)) (view_of g.W.Files.Files.shelf g.W.Out.Sink.given g.W.Out.Sink.faults k.files k.out (gear_of g.W.Equipment.Network.Network.net g.W.Equipment.Children.Children.family g.W.Equipment.Console.Conn.wire g.W.Equipment.Stores.Stores.depot g.W.Equipment.Sinks.Sinks.rack m) k.seed) (view_of g.W.Files.Files.shelf g.W.Out.Sink.given g.W.Out.Sink.faults l.files l.out (gear_of g.W.Equipment.Network.Network.net g.W.Equipment.Children.Children.family g.W.Equipment.Console.Conn.wire g.W.Equipment.Stores.Stores.depot g.W.Equipment.Sinks.Sinks.rack n) l.seed) c.run-ended.result.1 c.run-ended.result.0)
+    _ _ _ _ _ _ a b _ _ s t (sym c.equip-things.ensures.others ∙ c.open-files.ensures) (c.unequip.ensures.others ∙ c.close.ensures) c.equip-things.ensures.given c.unequip.ensures.taken old new fitted kept c.run-ended.ensures

@@ -1,0 +1,48 @@
+-- What is done of the words of a run.
+use Rattle.std.specs.Prelude.{◌≡◌, ◌⊎◌, ◌≤◌, ⊤, ℕ, List, None, Some}
+use Rattle.std.specs.declared.option.Option.{Option}
+use Rattle.command_line.specs.Asked.{Asked, Checks, Drills, Plays, Serves}
+use Rattle.okws_outer.specs.Conns.{ConnWire}
+use Rattle.okws_outer.specs.Streams.{Rose}
+use Rattle.monitor_model.specs.declared.record.Record.{Record}
+use Rattle.okws_drill.specs.declared.words.TheConstants.{MOST_EVENTS}
+use Rattle.okws_server.specs.Drill.{Drilled}
+use Rattle.okws_server.specs.Ending.{Told, no_memory_line}
+use Rattle.okws_server.specs.Headline.{IsEmptyRecord}
+use Rattle.okws_server.specs.Ran.{Checked, Played}
+use Rattle.okws_server.specs.Served.{IsServing, Served}
+use Rattle.okws_server.specs.Views.{View}
+use Rattle.okws_server.specs.declared.status.Status.{Status}
+use Rattle.okws_server.specs.declared.status.Status.TheVariants as status
+
+-- Memory was refused before anything was read.
+abbrev pub IsStarved : View → View → Record → Status → Type 0
+IsStarved a b R how = (how ≡ status.NoMemory) × IsEmptyRecord R × (b.shelf ≡ a.shelf) × (b.gear ≡ a.gear) × Told a.given b.given no_memory_line (Rose a.faults b.faults)
+
+-- The words are no command: some text says how the program is called, and nothing was opened or started.
+abbrev pub IsAnswered : View → View → Record → Status → Type 0
+IsAnswered a b R how = (how ≡ status.Usage) × IsEmptyRecord R × (b.shelf ≡ a.shelf) × (b.gear ≡ a.gear) × (text : List ℕ) × Told a.given b.given text (Rose a.faults b.faults)
+
+-- The words are no command, and some text says how the program is called; unless memory was refused.
+abbrev pub Says : Option (List ℕ) → Option (List ℕ) → Type 0 → Status → Type 0
+Says old new rose status.Usage = (text : List ℕ) × Told old new text rose
+Says old new rose status.NoMemory = Told old new no_memory_line rose
+Says old new rose _ = ⊥
+
+-- What is done of the words that ask for this, and how the run ends. Nothing but a server has the further objects do anything.
+abbrev pub Does : {X : Type 0} → (X → ConnWire) → Option Asked → View → View → Record → Status → Type 0
+Does wire None a b R how = IsAnswered a b R how
+Does wire (Some (Checks config)) a b R how = IsEmptyRecord R × (b.gear ≡ a.gear) × Checked a.shelf b.shelf config a.given b.given (Rose a.faults b.faults) how
+Does wire (Some (Plays config script)) a b R how = (b.gear ≡ a.gear) × Played a.shelf b.shelf config script a.given b.given (Rose a.faults b.faults) R how
+Does wire (Some (Drills number events)) a b R how = (b.shelf ≡ a.shelf) × (b.gear ≡ a.gear) × Drilled number events a.given b.given (Rose a.faults b.faults) R how
+Does wire (Some (Serves server)) a b R how = Served wire server a b R how
+
+-- What a run does that these words ask for: memory may be refused before anything is read.
+abbrev pub Obeys : {X : Type 0} → (X → ConnWire) → Option Asked → View → View → Record → Status → Type 0
+Obeys wire asked a b R how = IsStarved a b R how ⊎ Does wire asked a b R how
+
+-- What is asked for is within what may be: a drill's events, a server's doors and connections.
+abbrev pub IsWithin : Asked → Type 0
+IsWithin (Drills number events) = events ≤ MOST_EVENTS
+IsWithin (Serves server) = IsServing server
+IsWithin _ = ⊤

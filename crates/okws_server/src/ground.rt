@@ -1,0 +1,74 @@
+//! What a server's run is over: its site, the keepers of its rows, its tokens' seed and its doors.
+
+ghost use Rattle.std.specs.Prelude.{◌≡◌, ◌≤◌, true, IfOk, length, map, vec_len};
+ghost use Rattle.std.specs.Arc.{arc_value};
+ghost use Rattle.okws_base.specs.declared.limit.TheConstants.{MOST_PROXIES};
+ghost use Rattle.okws_plan.specs.Sound.{IsSound};
+ghost use Rattle.config_reader.specs.Ruled.{AreRuled};
+ghost use Rattle.okws_serve.specs.Keepers.{AreKeepers, IsKeeper, are_steady, keeper_of};
+ghost use Rattle.okws_server.specs.Served.{IsStock};
+
+use index_keeper::IndexKeeper;
+use okws_outer::keeper::Keeper;
+use okws_plan::configuration::Config;
+use site_columns::opening::{queries_at, read_names, tables_at};
+use std::alloc::{AllocError, Global};
+use std::sync::Arc;
+use token_core::Seed;
+
+/// A site, and the keepers of its rows.
+#[derive(Drop)]
+pub struct Stock {
+    /// The site.
+    pub site: Arc<Config, Global>,
+    /// The keeper of each proxy's rows, by the proxies' numbers.
+    pub keepers: Vec<IndexKeeper>,
+}
+
+/// What a server's run is over, where its doors are `D`.
+#[derive(Drop)]
+pub struct Ground<D> {
+    /// The site, and the keepers of its rows.
+    pub stock: Stock,
+    /// The seed of its tokens.
+    pub seed: Seed,
+    /// Its doors.
+    pub doors: Vec<D>,
+}
+
+// The keeper of the rows of a proxy, in memory.
+fn memory_keeper(alloc: Global, config: &Config, proxy: u16) -> Result<IndexKeeper, AllocError>
+    ensures is { IfOk result (λ k. IsKeeper config.now proxy (keeper_of ⟦<IndexKeeper as Keeper>⟧.tables ⟦<IndexKeeper as Keeper>⟧.told ⟦<IndexKeeper as Keeper>⟧.faults ⟦<IndexKeeper as Keeper>⟧.steady k)) }
+    ensures steady { IfOk result (λ k. (keeper_of ⟦<IndexKeeper as Keeper>⟧.tables ⟦<IndexKeeper as Keeper>⟧.told ⟦<IndexKeeper as Keeper>⟧.faults ⟦<IndexKeeper as Keeper>⟧.steady k).steady ≡ true) }
+{
+    IndexKeeper::new(alloc, tables_at(config, proxy), queries_at(config, proxy))
+}
+
+// The keeper of the rows of each proxy, in memory, by the numbers of the proxies.
+fn memory_keepers(alloc: Global, config: &Config) -> Result<Vec<IndexKeeper>, AllocError>
+    requires { length config.now.proxies ≤ MOST_PROXIES }
+    ensures many { IfOk result (λ v. vec_len v ≡ length config.now.proxies) }
+    ensures keepers { IfOk result (λ v. AreKeepers config.now 0 (map (keeper_of ⟦<IndexKeeper as Keeper>⟧.tables ⟦<IndexKeeper as Keeper>⟧.told ⟦<IndexKeeper as Keeper>⟧.faults ⟦<IndexKeeper as Keeper>⟧.steady) v.items)) }
+    ensures steady { IfOk result (λ v. are_steady (map (keeper_of ⟦<IndexKeeper as Keeper>⟧.tables ⟦<IndexKeeper as Keeper>⟧.told ⟦<IndexKeeper as Keeper>⟧.faults ⟦<IndexKeeper as Keeper>⟧.steady) v.items) ≡ true) }
+{
+    let count = config.proxies.as_slice().len();
+    let mut keepers = Vec::with_capacity(alloc, count)?;
+    for proxy in 0..count as u16 {
+        let keeper = memory_keeper(alloc, config, proxy)?;
+        keepers.push_reserved(keeper);
+    }
+    Ok(keepers)
+}
+
+/// A site that was read, and the keepers of its rows, in memory.
+pub fn stock_of(alloc: Global, config: Config) -> Result<Stock, AllocError>
+    requires sound { IsSound config }
+    requires rules { AreRuled config }
+    ensures site { IfOk result (λ s. arc_value s.site ≡ config) }
+    ensures stock { IfOk result (λ s. IsStock config (map (keeper_of ⟦<IndexKeeper as Keeper>⟧.tables ⟦<IndexKeeper as Keeper>⟧.told ⟦<IndexKeeper as Keeper>⟧.faults ⟦<IndexKeeper as Keeper>⟧.steady) s.keepers.items)) }
+{
+    read_names(&config);
+    let keepers = memory_keepers(alloc, &config)?;
+    let site = Arc::new(alloc, config)?;
+    Ok(Stock { site, keepers })
+}

@@ -1,0 +1,193 @@
+//! A server: its configuration, its doors, its run, and what is printed at its end.
+
+ghost use Rattle.std.specs.Prelude.{◌≡◌, ◌||◌, is_some, map};
+ghost use Rattle.std.specs.Arc.{arc_value};
+ghost use Rattle.okws_plan.specs.Sound.{IsSound};
+ghost use Rattle.config_reader.specs.Ruled.{AreRuled};
+ghost use Rattle.okws_outer.specs.Streams.{Rose};
+ghost use Rattle.okws_serve.specs.Keepers.{keeper_of};
+ghost use Rattle.okws_server.specs.Served.{EndsAs, IsGround, IsServing, Served, ServesConfig, ServesOpen, Tells, serving_of};
+ghost use Rattle.okws_server.specs.Views.{gear_of, view_of};
+
+use crate::counting::print_counts;
+use crate::ending::{NO_MEMORY, out_status, print_config_refusal, print_last};
+use crate::ground::{Ground, stock_of};
+use crate::preparing::{ConfigStop, read_config};
+use crate::script_run::empty_record;
+use crate::serving::serve_doors;
+use crate::status::Status;
+use command_line::command::Server;
+use index_keeper::IndexKeeper;
+use monitor_model::record::Record;
+use okws_outer::error::MakeError;
+use okws_outer::files::Files;
+use okws_outer::keeper::Keeper;
+use okws_outer::network::Network;
+use okws_outer::printing::print;
+use okws_outer::stream::Sink;
+use okws_plan::configuration::Config;
+use okws_serve::outfit::Ran;
+use okws_world::equipment::{Equipment, ObjectsOf};
+use std::alloc::Global;
+use std::sync::Wait;
+use std::thread::Threads;
+use token_core::Seed;
+
+/// What is printed where a file of rows or of the record is asked for, which isn't there yet.
+pub const NOT_YET: &[u8] = b"error: --store and --audit are not there yet\n";
+
+/// The last line of a run whose configuration could not be read.
+const READ_FAULT: &[u8] = b"read fault\n";
+
+/// How a server's run ended, its record, and its further objects.
+type Ended<E> = (Status, Record, ObjectsOf<E>);
+
+// Whether the log lacks some of its text.
+fn lacks_log(ran: &Ran, missed: bool) -> bool
+    ensures { result ≡ (missed || ran.now.log_failed) }
+{
+    missed || ran.log_failed
+}
+
+// Prints the counts of a run, and the last line of one that ends with a fault; answers how it ends.
+fn print_end<O: Sink>(out: &mut O, ran: &Ran, missed: bool) -> Status
+    ensures { EndsAs ran.now missed (O.given out.old) (O.given out.new) (Rose (O.faults out.old) (O.faults out.new)) result }
+{
+    let mut stopped = false;
+    if ran.starved {
+        print(out, &mut stopped, NO_MEMORY);
+        return Status::NoMemory;
+    }
+    print_counts(out, &mut stopped, &ran.counts);
+    if lacks_log(ran, missed) {
+        print(out, &mut stopped, b"log fault\n");
+        return Status::LogFault;
+    }
+    if ran.console_failed {
+        print(out, &mut stopped, b"console fault\n");
+        return Status::ConsoleFault;
+    }
+    out_status(stopped)
+}
+
+// Ends a run that did nothing but with this last line.
+fn refused<O: Sink, E: Equipment>(
+    alloc: Global,
+    out: &mut O,
+    line: &[u8],
+    status: Status,
+    things: ObjectsOf<E>,
+) -> Ended<E>
+    ensures status { result.0 ≡ status }
+    ensures things { result.2 ≡ things }
+    ensures tells { Tells (O.given out.old) (O.given out.new) line.now (Rose (O.faults out.old) (O.faults out.new)) result.1 }
+{
+    print_last(out, line);
+    (status, empty_record(alloc), things)
+}
+
+// Serves a site whose doors are open.
+fn serve_open<R, O, E>(
+    rt: &R,
+    alloc: Global,
+    server: &Server<'_>,
+    ground: Ground<<E::Network as Network>::Door>,
+    out: &mut O,
+    things: ObjectsOf<E>,
+) -> Ended<E>
+where
+    R: Wait + Threads + Sync,
+    O: Sink,
+    E: Equipment,
+    requires { IsGround (serving_of server.now) (arc_value ground.stock.site) (map (keeper_of ⟦<IndexKeeper as Keeper>⟧.tables ⟦<IndexKeeper as Keeper>⟧.told ⟦<IndexKeeper as Keeper>⟧.faults ⟦<IndexKeeper as Keeper>⟧.steady) ground.stock.keepers.items) (map E.Network.Door.entrance ground.doors.items) }
+    ensures { ServesOpen E.Network.Door.Conn.wire (serving_of server.now) (arc_value ground.stock.site) ground.seed (gear_of E.Network.net E.Children.family E.Console.wire E.Stores.depot E.Sinks.rack things) (gear_of E.Network.net E.Children.family E.Console.wire E.Stores.depot E.Sinks.rack result.2) (O.given out.old) (O.given out.new) (Rose (O.faults out.old) (O.faults out.new)) result.1 result.0 }
+{
+    let (things, ran, missed) = serve_doors::<R, E>(rt, alloc, server, ground, things);
+    let Some(ran) = ran else {
+        return refused::<O, E>(alloc, out, NO_MEMORY, Status::NoMemory, things);
+    };
+    let status = print_end(out, &ran, missed);
+    (status, ran.record, things)
+}
+
+// Serves a site that was read: its keepers are made, and its doors are opened.
+fn serve_config<R, O, E>(
+    rt: &R,
+    alloc: Global,
+    server: &Server<'_>,
+    config: Config,
+    seed: Seed,
+    out: &mut O,
+    mut things: ObjectsOf<E>,
+) -> Ended<E>
+where
+    R: Wait + Threads + Sync,
+    O: Sink,
+    E: Equipment,
+    requires sound { IsSound config }
+    requires rules { AreRuled config }
+    requires words { IsServing (serving_of server.now) }
+    ensures { ServesConfig E.Network.Door.Conn.wire (serving_of server.now) config seed (gear_of E.Network.net E.Children.family E.Console.wire E.Stores.depot E.Sinks.rack things) (gear_of E.Network.net E.Children.family E.Console.wire E.Stores.depot E.Sinks.rack result.2) (O.given out.old) (O.given out.new) (Rose (O.faults out.old) (O.faults out.new)) result.1 result.0 }
+{
+    let Ok(stock) = stock_of(alloc, config) else {
+        return refused::<O, E>(alloc, out, NO_MEMORY, Status::NoMemory, things);
+    };
+    match things.network.listen(alloc, server.port, server.doors) {
+        Ok(doors) => {
+            let ground = Ground { stock, seed, doors };
+            serve_open::<R, O, E>(rt, alloc, server, ground, out, things)
+        }
+        Err(MakeError::Failed) => {
+            refused::<O, E>(alloc, out, b"net fault\n", Status::NetFault, things)
+        }
+        Err(MakeError::NoMemory) => {
+            refused::<O, E>(alloc, out, NO_MEMORY, Status::NoMemory, things)
+        }
+    }
+}
+
+// Whether a file of rows or of the record is asked for.
+fn wants_files(server: &Server<'_>) -> bool
+    ensures { result ≡ (is_some (serving_of server.now).store || is_some (serving_of server.now).audit) }
+{
+    server.store.is_some() || server.audit.is_some()
+}
+
+/// Reads a configuration, and serves its site.
+pub fn serve<R, F, O, E>(
+    rt: &R,
+    alloc: Global,
+    server: &Server<'_>,
+    seed: Seed,
+    files: &mut F,
+    out: &mut O,
+    things: ObjectsOf<E>,
+) -> Ended<E>
+where
+    R: Wait + Threads + Sync,
+    F: Files,
+    O: Sink,
+    E: Equipment,
+    requires { IsServing (serving_of server.now) }
+    ensures { Served E.Network.Door.Conn.wire (serving_of server.now)
+        (view_of F.shelf O.given O.faults files.old out.old (gear_of E.Network.net E.Children.family E.Console.wire E.Stores.depot E.Sinks.rack things) seed)
+        (view_of F.shelf O.given O.faults files.new out.new (gear_of E.Network.net E.Children.family E.Console.wire E.Stores.depot E.Sinks.rack result.2) seed)
+        result.1 result.0 }
+{
+    if wants_files(server) {
+        return refused::<O, E>(alloc, out, NOT_YET, Status::Usage, things);
+    }
+    match read_config(alloc, files, server.config) {
+        Ok(config) => serve_config::<R, O, E>(rt, alloc, server, config, seed, out, things),
+        Err(ConfigStop::ReadFault) => {
+            refused::<O, E>(alloc, out, READ_FAULT, Status::ReadFault, things)
+        }
+        Err(ConfigStop::NoMemory) => {
+            refused::<O, E>(alloc, out, NO_MEMORY, Status::NoMemory, things)
+        }
+        Err(ConfigStop::Refused(refusal)) => {
+            let status = print_config_refusal(alloc, out, refusal);
+            (status, empty_record(alloc), things)
+        }
+    }
+}

@@ -1,0 +1,158 @@
+//! The run of a server whose doors are open, and where the text of its log goes.
+
+ghost use Rattle.std.specs.Prelude.{◌≡◌, IfSome, IsNone, IsSome, map};
+ghost use Rattle.std.specs.Arc.{arc_value};
+ghost use Rattle.okws_outer.specs.Racks.{IsNewSink};
+ghost use Rattle.okws_serve.specs.Keepers.{keeper_of};
+ghost use Rattle.okws_server.specs.Served.{IsGround, IsUntouched, RanAt, RanLogged, RanOver, RanUnlogged, serving_of};
+ghost use Rattle.okws_server.specs.Views.{gear_of};
+
+use crate::ground::{Ground, Stock};
+use crate::nowhere::Nowhere;
+use command_line::command::Server;
+use index_keeper::IndexKeeper;
+use okws_outer::keeper::Keeper;
+use okws_outer::network::Network;
+use okws_outer::sinks::Sinks;
+use okws_outer::stream::Sink;
+use okws_serve::outfit::{Limits, Outfit, Ran};
+use okws_serve::serve::serve_site;
+use okws_world::equipment::{Equipment, Objects, ObjectsOf};
+use std::alloc::Global;
+use std::sync::Wait;
+use std::thread::Threads;
+
+// Serves over doors that are open, with this sink for the log, and closes them. Where the run began, the
+// sink comes back with what it did.
+fn serve_over<R, E, S>(
+    rt: &R,
+    alloc: Global,
+    server: &Server<'_>,
+    ground: Ground<<E::Network as Network>::Door>,
+    log: S,
+    things: ObjectsOf<E>,
+) -> (ObjectsOf<E>, Option<S>, Option<Ran>)
+where
+    R: Wait + Threads + Sync,
+    E: Equipment,
+    S: Sink + Send + Drop,
+    requires ground { IsGround (serving_of server.now) (arc_value ground.stock.site) (map (keeper_of ⟦<IndexKeeper as Keeper>⟧.tables ⟦<IndexKeeper as Keeper>⟧.told ⟦<IndexKeeper as Keeper>⟧.faults ⟦<IndexKeeper as Keeper>⟧.steady) ground.stock.keepers.items) (map E.Network.Door.entrance ground.doors.items) }
+    requires log { IsNewSink (S.given log) (S.faults log) }
+    ensures sinks { E.Sinks.rack result.0.sinks ≡ E.Sinks.rack things.sinks }
+    ensures ran { IfSome result.2 (λ ran. IfSome result.1 (λ log. RanOver E.Network.Door.Conn.wire (serving_of server.now) (arc_value ground.stock.site) ground.seed (gear_of E.Network.net E.Children.family E.Console.wire E.Stores.depot E.Sinks.rack things) (gear_of E.Network.net E.Children.family E.Console.wire E.Stores.depot E.Sinks.rack result.0) ran (S.given log) (S.faults log))) }
+    ensures both { IsSome result.2 → IsSome result.1 }
+    ensures unran { IsNone result.2 → IsUntouched (gear_of E.Network.net E.Children.family E.Console.wire E.Stores.depot E.Sinks.rack things) (gear_of E.Network.net E.Children.family E.Console.wire E.Stores.depot E.Sinks.rack result.0) }
+{
+    let Ground { stock, seed, doors } = ground;
+    let Stock { site, keepers } = stock;
+    let Objects {
+        mut network,
+        children,
+        console,
+        stores,
+        sinks,
+        gate,
+    } = things;
+    let limits = Limits {
+        connections: server.connections,
+        keeps: false,
+    };
+    let outfit = Outfit {
+        doors,
+        console,
+        children,
+        keepers,
+        log,
+        gate,
+    };
+    let left = serve_site(rt, alloc, &site, &seed, limits, outfit);
+    network.close(left.doors);
+    let things = Objects {
+        network,
+        children: left.children,
+        console: left.console,
+        stores,
+        sinks,
+        gate: left.gate,
+    };
+    (things, left.log, left.ran)
+}
+
+// The same with the log in a sink that was opened at a path, which is closed at the end.
+fn serve_logged<R, E>(
+    rt: &R,
+    alloc: Global,
+    server: &Server<'_>,
+    ground: Ground<<E::Network as Network>::Door>,
+    path: &str,
+    sink: <E::Sinks as Sinks>::Sink,
+    things: ObjectsOf<E>,
+) -> (ObjectsOf<E>, Option<Ran>)
+where
+    R: Wait + Threads + Sync,
+    E: Equipment,
+    requires ground { IsGround (serving_of server.now) (arc_value ground.stock.site) (map (keeper_of ⟦<IndexKeeper as Keeper>⟧.tables ⟦<IndexKeeper as Keeper>⟧.told ⟦<IndexKeeper as Keeper>⟧.faults ⟦<IndexKeeper as Keeper>⟧.steady) ground.stock.keepers.items) (map E.Network.Door.entrance ground.doors.items) }
+    requires sink { IsNewSink (E.Sinks.Sink.given sink) (E.Sinks.Sink.faults sink) }
+    ensures ran { IfSome result.1 (RanLogged E.Network.Door.Conn.wire (serving_of server.now) (arc_value ground.stock.site) ground.seed path.now (gear_of E.Network.net E.Children.family E.Console.wire E.Stores.depot E.Sinks.rack things) (gear_of E.Network.net E.Children.family E.Console.wire E.Stores.depot E.Sinks.rack result.0)) }
+    ensures unran { IsNone result.1 → IsUntouched (gear_of E.Network.net E.Children.family E.Console.wire E.Stores.depot E.Sinks.rack things) (gear_of E.Network.net E.Children.family E.Console.wire E.Stores.depot E.Sinks.rack result.0) }
+{
+    let (mut things, log, ran) = serve_over::<R, E, _>(rt, alloc, server, ground, sink, things);
+    match log {
+        Some(sink) => {
+            things.sinks.close(path, sink);
+            (things, ran)
+        }
+        None => (things, ran),
+    }
+}
+
+// The same with the log's text going nowhere.
+fn serve_unlogged<R, E>(
+    rt: &R,
+    alloc: Global,
+    server: &Server<'_>,
+    ground: Ground<<E::Network as Network>::Door>,
+    things: ObjectsOf<E>,
+) -> (ObjectsOf<E>, Option<Ran>)
+where
+    R: Wait + Threads + Sync,
+    E: Equipment,
+    requires { IsGround (serving_of server.now) (arc_value ground.stock.site) (map (keeper_of ⟦<IndexKeeper as Keeper>⟧.tables ⟦<IndexKeeper as Keeper>⟧.told ⟦<IndexKeeper as Keeper>⟧.faults ⟦<IndexKeeper as Keeper>⟧.steady) ground.stock.keepers.items) (map E.Network.Door.entrance ground.doors.items) }
+    ensures ran { IfSome result.1 (RanUnlogged E.Network.Door.Conn.wire (serving_of server.now) (arc_value ground.stock.site) ground.seed (gear_of E.Network.net E.Children.family E.Console.wire E.Stores.depot E.Sinks.rack things) (gear_of E.Network.net E.Children.family E.Console.wire E.Stores.depot E.Sinks.rack result.0)) }
+    ensures unran { IsNone result.1 → IsUntouched (gear_of E.Network.net E.Children.family E.Console.wire E.Stores.depot E.Sinks.rack things) (gear_of E.Network.net E.Children.family E.Console.wire E.Stores.depot E.Sinks.rack result.0) }
+{
+    let (things, _, ran) = serve_over::<R, E, _>(rt, alloc, server, ground, Nowhere {}, things);
+    (things, ran)
+}
+
+/// Serves over doors that are open, with the log where the words say, and closes them; answers also
+/// whether the log's sink could not be opened.
+pub fn serve_doors<R, E>(
+    rt: &R,
+    alloc: Global,
+    server: &Server<'_>,
+    ground: Ground<<E::Network as Network>::Door>,
+    mut things: ObjectsOf<E>,
+) -> (ObjectsOf<E>, Option<Ran>, bool)
+where
+    R: Wait + Threads + Sync,
+    E: Equipment,
+    requires { IsGround (serving_of server.now) (arc_value ground.stock.site) (map (keeper_of ⟦<IndexKeeper as Keeper>⟧.tables ⟦<IndexKeeper as Keeper>⟧.told ⟦<IndexKeeper as Keeper>⟧.faults ⟦<IndexKeeper as Keeper>⟧.steady) ground.stock.keepers.items) (map E.Network.Door.entrance ground.doors.items) }
+    ensures ran { IfSome result.1 (λ ran. RanAt E.Network.Door.Conn.wire (serving_of server.now) (arc_value ground.stock.site) ground.seed (gear_of E.Network.net E.Children.family E.Console.wire E.Stores.depot E.Sinks.rack things) (gear_of E.Network.net E.Children.family E.Console.wire E.Stores.depot E.Sinks.rack result.0) ran result.2) }
+    ensures unran { IsNone result.1 → IsUntouched (gear_of E.Network.net E.Children.family E.Console.wire E.Stores.depot E.Sinks.rack things) (gear_of E.Network.net E.Children.family E.Console.wire E.Stores.depot E.Sinks.rack result.0) }
+{
+    let Some(path) = server.log else {
+        let (things, ran) = serve_unlogged::<R, E>(rt, alloc, server, ground, things);
+        return (things, ran, false);
+    };
+    match things.sinks.open(path) {
+        Err(_) => {
+            let (things, ran) = serve_unlogged::<R, E>(rt, alloc, server, ground, things);
+            (things, ran, true)
+        }
+        Ok(sink) => {
+            let (things, ran) = serve_logged::<R, E>(rt, alloc, server, ground, path, sink, things);
+            (things, ran, false)
+        }
+    }
+}

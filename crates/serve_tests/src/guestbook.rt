@@ -1,0 +1,108 @@
+//! The guestbook's requests, frame by frame.
+
+use crate::outside::{Ended, Plan, bytes, child, client, plain, serve};
+use okws_outer::gate::NoGate;
+use std::alloc::Global;
+use std::sync::Wait;
+use std::test::Fail;
+use std::thread::Threads;
+
+const GET: &[u8] = b"GET /guest HTTP/1.1\r\nHost: localhost\r\n\r\n";
+
+/// The number 3, which is free.
+const FREE: &[u8] =
+    b"POST /guest HTTP/1.1\r\nHost: localhost\r\nContent-Length: 18\r\n\r\nid=3&who=cy&note=x";
+
+/// The number 1, which is taken.
+const TAKEN: &[u8] =
+    b"POST /guest HTTP/1.1\r\nHost: localhost\r\nContent-Length: 18\r\n\r\nid=1&who=cy&note=x";
+
+/// What the guestbook says: Open and Call of query 1, Reply of the lines; Call of query 2 with number 3,
+/// Log, Reply of 303; Call of query 2 with number 1, Reply of 409.
+const SAYS: &str = "000000174100000000000000000001ade0b876903df1a0e56a5d40\
+    0000000a42000000000000000100\
+    0000001f4500c80a746578742f706c61696e000000000c3120616e6e0a3220626f620a\
+    000000204200000000000000020301000000000000000302000000026379020000000178\
+    0000000b4400000006706f73742033\
+    0000001945012f0a746578742f706c61696e062f677565737400000000\
+    000000204200000000000000020301000000000000000102000000026379020000000178\
+    000000194501990a746578742f706c61696e000000000674616b656e0a";
+
+/// What it hears first: Boot, the first Request, Opened and Rows.
+const BEGINS: &str = "0000001e010000000000010100000000000000000001ade0b876903df1a0e56a5d40\
+    000000310200000028474554202f677565737420485454502f312e310d0a486f73743a206c6f63616c686f73740d0a0d0a00000000\
+    000000050400000000\
+    000000280502000000020100000000000000010200000003616e6e0100000000000000020200000003626f62";
+
+/// Changed and Logged.
+const SIGNED: &str = "000000090600000000000000010000000108";
+
+/// Duplicate.
+const REFUSED: &str = "000000010c";
+
+const SHOWN: &[u8] =
+    b"HTTP/1.1 200 OK\r\nContent-Type: text/plain\r\nContent-Length: 12\r\nConnection: close\r\n\r\n1 ann\n2 bob\n";
+
+const SEE_OTHER: &[u8] =
+    b"HTTP/1.1 303 See Other\r\nContent-Type: text/plain\r\nLocation: /guest\r\nContent-Length: 0\r\nConnection: close\r\n\r\n";
+
+const CONFLICT: &[u8] =
+    b"HTTP/1.1 409 Conflict\r\nContent-Type: text/plain\r\nContent-Length: 6\r\nConnection: close\r\n\r\ntaken\n";
+
+/// The guestbook is shown, signed, and signed under a number that is taken.
+fn visits<R: AllocGlobal + Wait + Threads + Sync>(rt: &R) -> Result<Ended, Fail> {
+    let says = bytes(rt.alloc(), SAYS)?;
+    let plan = Plan {
+        words: &[
+            "serve", "site", "--port", "8080", "--doors", "1", "--serve", "3", "--log", "log",
+        ],
+        clients: &[client(GET), client(FREE), client(TAKEN)],
+        children: &[child(0, 1, &says)],
+        ..plain()
+    };
+    serve(rt, rt.alloc(), &plan, NoGate)
+}
+
+#[test]
+fn a_guestbook_is_shown_and_signed(rt: HostRuntime) -> Result<(), Fail> {
+    let ended = visits(&rt)?;
+    let [shown, signed, taken] = ended.answers.as_slice() else {
+        return Err(Fail::new("not three answers"));
+    };
+    assert!(rt; shown.as_slice() == SHOWN);
+    assert!(rt; signed.as_slice() == SEE_OTHER);
+    assert!(rt; taken.as_slice() == CONFLICT);
+    assert!(rt;
+        ended
+            .log
+            .is_some_and(|log| log.as_slice() == b"guest 1 post 3\n".as_slice())
+    );
+    Ok(())
+}
+
+/// The Request frame of a POST of 61 bytes of head and 18 of content, behind these bytes.
+fn push_request(heard: &mut Vec<u8>, request: &[u8]) -> Result<(), Fail> {
+    let (head, content) = request.split_at_checked(61).ok_or("a short request")?;
+    heard.extend_from_slice(b"\0\0\0\x58\x02\0\0\0\x3d")?;
+    heard.extend_from_slice(head)?;
+    heard.extend_from_slice(b"\0\0\0\x12")?;
+    heard.extend_from_slice(content)?;
+    Ok(())
+}
+
+fn wanted(alloc: Global) -> Result<Vec<u8>, Fail> {
+    let mut heard = bytes(alloc, BEGINS)?;
+    push_request(&mut heard, FREE)?;
+    heard.extend_from_slice(&bytes(alloc, SIGNED)?)?;
+    push_request(&mut heard, TAKEN)?;
+    heard.extend_from_slice(&bytes(alloc, REFUSED)?)?;
+    Ok(heard)
+}
+
+#[test]
+fn a_guestbook_hears_its_frames(rt: HostRuntime) -> Result<(), Fail> {
+    let ended = visits(&rt)?;
+    let heard = ended.heard.first().ok_or("no child")?;
+    assert!(rt; heard.as_slice() == wanted(rt.alloc())?.as_slice());
+    Ok(())
+}

@@ -1,0 +1,255 @@
+//! A server's outside in memory, what is planned of it, and what a run left.
+
+use okws_base::items::Items;
+use okws_outer::gate::Gate;
+use okws_outer::memory::conn::MemoryConn;
+use okws_outer::memory::files::{Entry, MemoryFiles};
+use okws_outer::memory::sink::MemorySink;
+use okws_outer::world::Outside;
+use okws_server::okws;
+use okws_server::status::Status;
+use okws_world::equipment::Objects;
+use okws_world::equipped::Fitted;
+use okws_world::memory::MemoryObjects;
+use outer_memory::children::{ChildPlan, MemoryChildren};
+use outer_memory::door::{Client, MemoryNetwork};
+use outer_memory::sinks::MemorySinks;
+use outer_memory::stores::{Breaking, MemoryStores};
+use std::alloc::{AllocError, Global};
+use std::sync::Wait;
+use std::test::Fail;
+use std::thread::Threads;
+
+/// The site of the worked rows, with a second service.
+pub const SITE: &str = "okws 1\n\
+    proxy main\n\
+    table main msgs id INT KEY who TEXT note TEXT\n\
+    row main msgs 1 'ann' 'hi'\n\
+    row main msgs 2 'bob' 'yo'\n\
+    query main 1 SELECT id, who FROM msgs ORDER BY id\n\
+    query main 2 INSERT INTO msgs (id, who, note) VALUES (?1, ?2, ?3)\n\
+    service guest ./svc_guest\n\
+    service other ./svc_probe\n\
+    uri /guest guest\n\
+    uri /other other\n\
+    grant guest main 1 2\n\
+    template page\n\
+    read guest page\n\
+    log guest\n";
+
+/// Reply of 200 with `ok` as plain text.
+pub const REPLY: &[u8] = b"\x00\x00\x00\x15\x45\x00\xc8\x0atext/plain\x00\x00\x00\x00\x02ok";
+
+/// What a client is told of that Reply.
+pub const REPLIED: &str =
+    "HTTP/1.1 200 OK\r\nContent-Type: text/plain\r\nContent-Length: 2\r\nConnection: close\r\n\r\nok";
+
+/// A request for a path.
+pub fn get(alloc: Global, path: &str) -> Result<String, AllocError> {
+    format!(in alloc; "GET {path} HTTP/1.1\r\nHost: localhost\r\n\r\n")
+}
+
+/// The server's own response.
+pub fn own(alloc: Global, status: &str) -> Result<String, AllocError> {
+    let length = status.len() + 1;
+    format!(in alloc;
+        "HTTP/1.1 {status}\r\nContent-Type: text/plain\r\nContent-Length: {length}\r\nConnection: close\r\n\r\n{status}\n"
+    )
+}
+
+/// The bytes of these hexadecimal digits.
+pub fn bytes(alloc: Global, digits: &str) -> Result<Vec<u8>, Fail> {
+    match hex::decode(alloc, digits) {
+        Ok(bytes) => Ok(bytes),
+        Err(_) => Err(Fail::new("no hexadecimal digits")),
+    }
+}
+
+/// A client that sends these bytes.
+pub fn client(bytes: &[u8]) -> Client<'_> {
+    Client {
+        bytes,
+        sizes: &[],
+        room: 65_536,
+        failing: &[],
+    }
+}
+
+/// A child of a service's incarnation that says these bytes.
+pub fn child(service: u16, incarnation: u32, says: &[u8]) -> ChildPlan<'_> {
+    ChildPlan {
+        service,
+        incarnation,
+        says,
+        piece: 4_096,
+        failing: &[],
+        answers: &[],
+    }
+}
+
+/// What is planned of a run's outside.
+#[derive(Clone, Copy)]
+pub struct Plan<'a> {
+    pub site: &'a str,
+    pub words: &'a [&'a str],
+    pub clients: &'a [Client<'a>],
+    pub children: &'a [ChildPlan<'a>],
+    /// The numbers of the starts that fail.
+    pub starts: &'a [u64],
+    /// The numbers of the listens that fail.
+    pub listens: &'a [u64],
+    /// The numbers of the pulls that fail of the files that are read.
+    pub reads: &'a [u64],
+    /// The numbers of the sinks' openings that fail.
+    pub openings: &'a [u64],
+    /// What the operator says.
+    pub console: &'a [u8],
+    /// The numbers of the console's calls that fail.
+    pub slips: &'a [u64],
+    /// For how many bytes there is room that are printed.
+    pub room: usize,
+}
+
+/// A server of one door and three connections, of which nothing fails.
+pub fn plain() -> Plan<'static> {
+    Plan {
+        site: SITE,
+        words: &[
+            "serve", "site", "--port", "8080", "--doors", "1", "--serve", "3",
+        ],
+        clients: &[],
+        children: &[],
+        starts: &[],
+        listens: &[],
+        reads: &[],
+        openings: &[],
+        console: b"",
+        slips: &[],
+        room: 65_536,
+    }
+}
+
+/// How a run ended, and what was given to its outside.
+#[derive(Drop)]
+pub struct Ended {
+    pub status: Status,
+    pub printed: Vec<u8>,
+    /// What came over the connections, door by door.
+    pub asked: Vec<Vec<u8>>,
+    /// What these were given, in the same order.
+    pub answers: Vec<Vec<u8>>,
+    /// What the operator was answered.
+    pub console: Vec<u8>,
+    /// What the log's sink was given, where one was opened and closed.
+    pub log: Option<Vec<u8>>,
+    /// How many children were started.
+    pub started: usize,
+    /// What each finished child was given, in the order in which they were finished.
+    pub heard: Vec<Vec<u8>>,
+}
+
+fn objects<'a, G: Drop>(
+    alloc: Global,
+    plan: &Plan<'a>,
+    gate: G,
+) -> Result<MemoryObjects<'a, Breaking, G>, AllocError> {
+    Ok(Objects {
+        network: MemoryNetwork::new(alloc, plan.clients, &[], plan.listens),
+        children: MemoryChildren::new(alloc, plan.children, plan.starts),
+        console: MemoryConn::new(alloc, plan.console, &[], 65_536, plan.slips)?,
+        stores: MemoryStores::new(Breaking, &[]),
+        sinks: MemorySinks::new(alloc, 65_536, &[], plan.openings),
+        gate,
+    })
+}
+
+fn copy_of(alloc: Global, told: &Option<Items<u8>>) -> Result<Vec<u8>, Fail> {
+    match told {
+        Some(bytes) => Ok(Vec::from_slice(alloc, bytes.as_slice())?),
+        None => Err(Fail::new("memory was refused")),
+    }
+}
+
+fn asked_of(alloc: Global, network: &MemoryNetwork<'_>) -> Result<Vec<Vec<u8>>, Fail> {
+    let mut asked = Vec::new(alloc);
+    for door in network.doors() {
+        for served in door.finished().ok_or("memory was refused")? {
+            asked.push(copy_of(alloc, &served.came)?)?;
+        }
+    }
+    Ok(asked)
+}
+
+fn answers_of(alloc: Global, network: &MemoryNetwork<'_>) -> Result<Vec<Vec<u8>>, Fail> {
+    let mut answers = Vec::new(alloc);
+    for door in network.doors() {
+        for served in door.finished().ok_or("memory was refused")? {
+            answers.push(copy_of(alloc, &served.given)?)?;
+        }
+    }
+    Ok(answers)
+}
+
+fn log_of(alloc: Global, sinks: &MemorySinks<'_>) -> Result<Option<Vec<u8>>, Fail> {
+    match sinks.closed().ok_or("memory was refused")? {
+        [end, ..] => Ok(Some(copy_of(alloc, &end.given)?)),
+        [] => Ok(None),
+    }
+}
+
+fn heard_of(alloc: Global, children: &MemoryChildren<'_>) -> Result<Vec<Vec<u8>>, Fail> {
+    let mut heard = Vec::new(alloc);
+    for end in children.finished().ok_or("memory was refused")? {
+        heard.push(copy_of(alloc, &end.given)?)?;
+    }
+    Ok(heard)
+}
+
+fn ending<G>(
+    alloc: Global,
+    status: Status,
+    printed: &[u8],
+    things: &MemoryObjects<'_, Breaking, G>,
+) -> Result<Ended, Fail> {
+    Ok(Ended {
+        status,
+        printed: Vec::from_slice(alloc, printed)?,
+        asked: asked_of(alloc, &things.network)?,
+        answers: answers_of(alloc, &things.network)?,
+        console: Vec::from_slice(alloc, things.console.given())?,
+        log: log_of(alloc, &things.sinks)?,
+        started: things.children.started().ok_or("memory was refused")?.len(),
+        heard: heard_of(alloc, &things.children)?,
+    })
+}
+
+/// Runs a server as it is planned, with a gate that all of its threads pass.
+pub fn serve<R: Wait + Threads + Sync, G: Gate + Sync + Drop>(
+    rt: &R,
+    alloc: Global,
+    plan: &Plan<'_>,
+    gate: G,
+) -> Result<Ended, Fail> {
+    let mut words = Vec::new(alloc);
+    for word in plan.words {
+        words.push(String::from_str(alloc, word)?)?;
+    }
+    let entries = [Entry {
+        path: "site",
+        bytes: plan.site.as_bytes(),
+    }];
+    let mut world = Fitted {
+        outside: Some(Outside {
+            files: MemoryFiles::new(&entries, 4_096, plan.reads),
+            out: MemorySink::new(alloc, plan.room, &[])?,
+            seed: [0; 32],
+        }),
+        further: Some(objects(alloc, plan, gate)?),
+    };
+    let (status, record) = okws(rt, alloc, &words, &mut world);
+    drop(record);
+    match (&world.outside, &world.further) {
+        (Some(all), Some(things)) => ending(alloc, status, all.out.given(), things),
+        _ => Err(Fail::new("the objects are out")),
+    }
+}

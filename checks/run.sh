@@ -196,12 +196,14 @@ for words in "" "play whole.okws" "check" "serve whole.okws" "--help" "Check who
     # Words are parted on purpose.
     # shellcheck disable=SC2086
     run $words
-    head -n 1 "$folder/printed" >"$folder/first" && mv "$folder/first" "$folder/printed"
-    echo "usage: okws check CONFIG" >"$folder/wanted"
+    case "$words" in
+        "" | --help) last "  -h, --help  Print help" ;;
+        *) last "For more information, try '--help'." ;;
+    esac
     told "the words '$words'" 2 "$folder/wanted"
 done
 run play whole.okws $'\xff'
-head -n 1 "$folder/printed" >"$folder/first" && mv "$folder/first" "$folder/printed"
+last "  -h, --help  Print help"
 told "a word that isn't UTF-8" 2 "$folder/wanted"
 : >"$folder/printed"
 "$okws" check whole.okws >/dev/full

@@ -1,0 +1,337 @@
+#!/usr/bin/env bash
+# Serves sites over real sockets with real programs as services, and compares what clients, the console and the log are given.
+#   checks/serve.sh PROGRAM [FOLDER [CHECK]]     FOLDER has the services, or the crates whose programs they are; without it this repository's crates
+# With CHECK that one alone. Loopback only, on ports that the system gives. Every process that is started is ended, by its id.
+# The last line is 'N passed, M failed'.
+set -uo pipefail
+program=$(realpath "$1")
+services=$(realpath "${2:-$(dirname "$0")/../crates}")
+only=${3:-}
+folder=$(mktemp -d)
+trap 'rm -rf "$folder"' EXIT
+for name in svc_guest svc_probe; do
+    cp "$services/$name" "$folder/" 2>/dev/null || cp "$services/$name/out/$name" "$folder/" || exit 1
+done
+cd "$folder" || exit 1
+python3 - "$program" "$only" <<'P'
+import os, signal, socket, struct, subprocess, sys, threading, time
+
+PROGRAM, ONLY = sys.argv[1], sys.argv[2]
+
+SITE = """okws 1
+proxy main
+table main msgs id INT KEY who TEXT note TEXT
+row main msgs 1 'ann' 'hi'
+row main msgs 2 'bob' 'yo'
+query main 1 SELECT id, who FROM msgs ORDER BY id
+query main 2 INSERT INTO msgs (id, who, note) VALUES (?1, ?2, ?3)
+service guest ./svc_guest
+service other %s
+uri /guest guest
+uri /other other
+grant guest main 1 2
+template page
+read guest page
+log guest
+"""
+
+REPLY_OK = '000000154500c80a746578742f706c61696e00000000026f6b'
+
+def write(path, text):
+    with open(path, 'w') as f:
+        f.write(text)
+
+def a_port():
+    with socket.socket() as s:
+        s.bind(('127.0.0.1', 0))
+        return s.getsockname()[1]
+
+class Server:
+    """A server of a site for so many connections, whose console is a pipe. It and its children are ended at the end of the block."""
+    def __init__(self, site, connections, *options, doors=2, port=None):
+        write('site', site)
+        self.port = port or a_port()
+        words = [PROGRAM, 'serve', 'site', '--port', str(self.port), '--doors', str(doors), '--serve', str(connections), *options]
+        self.process = subprocess.Popen(words, stdin=subprocess.PIPE, stdout=subprocess.PIPE)
+        self.limit = threading.Timer(60, self.process.kill)
+        self.limit.start()
+
+    def __enter__(self):
+        for _ in range(500):
+            if self.process.poll() is not None or self.listens():
+                return self
+            time.sleep(0.02)
+        self.__exit__()
+        raise AssertionError('the server opened no door')
+
+    def listens(self):
+        wanted = '0100007F:%04X' % self.port
+        with open('/proc/net/tcp') as f:
+            return any(line.split()[1:4:2] == [wanted, '0A'] for line in f.readlines()[1:])
+
+    def __exit__(self, *_):
+        self.limit.cancel()
+        children = self.children() if self.process.poll() is None else []
+        for end in [self.process.kill, *(lambda pid=pid: os.kill(pid, signal.SIGKILL) for pid in children)]:
+            try:
+                end()
+            except ProcessLookupError:
+                pass
+        self.process.wait()
+        self.process.stdout.close()
+
+    def children(self):
+        """The children of all of its threads."""
+        found = []
+        for task in os.listdir(f'/proc/{self.process.pid}/task'):
+            try:
+                with open(f'/proc/{self.process.pid}/task/{task}/children') as f:
+                    found += [int(pid) for pid in f.read().split()]
+            except OSError:
+                pass
+        return sorted(found)
+
+    def answers(self, line):
+        """What the console answers to this line."""
+        self.process.stdin.write(line)
+        self.process.stdin.flush()
+        return self.process.stdout.readline()
+
+    def ends(self):
+        """What it printed, and its status, once its console has ended."""
+        self.process.stdin.close()
+        return self.process.stdout.read().decode(), self.process.wait(60)
+
+def said(*words):
+    """What the program prints with these words and no input, and its status."""
+    run = subprocess.run([PROGRAM, *words], capture_output=True, stdin=subprocess.DEVNULL, timeout=60)
+    return run.stdout.decode(), run.returncode
+
+def gone(pid):
+    """Whether a process has ended, waited for or not."""
+    try:
+        with open(f'/proc/{pid}/stat') as f:
+            return f.read().rsplit(')', 1)[1].split()[0] == 'Z'
+    except OSError:
+        return True
+
+def exchange(port, request, shut=True, wait=30):
+    """What the server answers to these bytes, to the end of the connection."""
+    with socket.create_connection(('127.0.0.1', port), wait) as s:
+        s.sendall(request)
+        if shut:
+            s.shutdown(socket.SHUT_WR)
+        answer = b''
+        while piece := s.recv(65536):
+            answer += piece
+        return answer
+
+def get(port, path='/guest', method='GET'):
+    return exchange(port, f'{method} {path} HTTP/1.1\r\nHost: localhost\r\n\r\n'.encode())
+
+def post(port, form, more=''):
+    return exchange(port, f'POST /guest HTTP/1.1\r\nHost: localhost\r\n{more}Content-Length: {len(form)}\r\n\r\n{form}'.encode())
+
+def response(status, content, location='', length=None, kind='text/plain'):
+    where = f'Location: {location}\r\n' if location else ''
+    size = len(content) if length is None else length
+    return f'HTTP/1.1 {status}\r\nContent-Type: {kind}\r\n{where}Content-Length: {size}\r\nConnection: close\r\n\r\n{content}'.encode()
+
+def own(status):
+    return response(status, f'{status}\n')
+
+def same(found, wanted):
+    if found != wanted:
+        raise AssertionError(f'found {found!r}, wanted {wanted!r}')
+
+def counts(connections, accepts, launches, publications, logged):
+    return f'connections {connections}\naccepts {accepts}\nlaunches {launches}\npublications {publications}\nlogged {logged}\n'
+
+ANN_AND_BOB = response('200 OK', '1 ann\n2 bob\n')
+OK = response('200 OK', 'ok')
+BAD_GATEWAY = own('502 Bad Gateway')
+UNAVAILABLE = own('503 Service Unavailable')
+
+def the_guestbook_shows_and_takes_entries():
+    with Server(SITE % './svc_probe', 6, '--log', 'log') as server:
+        same(get(server.port), ANN_AND_BOB)
+        same(post(server.port, 'id=3&who=cy&note=ho'), response('303 See Other', '', '/guest'))
+        same(get(server.port), response('200 OK', '1 ann\n2 bob\n3 cy\n'))
+        same(post(server.port, 'id=3&who=di&note='), response('409 Conflict', 'taken\n'))
+        same(post(server.port, 'id=x&who=di&note='), response('400 Bad Request', 'bad form\n'))
+        same(post(server.port, 'id=-4&who=di&note=', 'Expect: 100-continue\r\n'),
+             b'HTTP/1.1 100 Continue\r\n\r\n' + response('303 See Other', '', '/guest'))
+        same(server.ends(), (counts(6, 6, 2, 0, 2), 0))
+    with open('log') as f:
+        same(f.read(), 'guest 1 post 3\nguest 1 post -4\n')
+
+def a_log_is_appended_to():
+    write('kept', 'before\n')
+    with Server(SITE % './svc_probe', 1, '--log', 'kept') as server:
+        post(server.port, 'id=-7&who=cy&note=')
+        same(server.ends(), (counts(1, 1, 2, 0, 1), 0))
+    with open('kept') as f:
+        same(f.read(), 'before\nguest 1 post -7\n')
+
+def a_log_that_cannot_be_opened_is_a_fault_at_the_end():
+    with Server(SITE % './svc_probe', 1, '--log', 'nowhere/log') as server:
+        same(get(server.port), ANN_AND_BOB)
+        same(server.ends(), (counts(1, 1, 2, 0, 0) + 'log fault\n', 7))
+
+def requests_are_refused_by_the_standard():
+    with Server(SITE % f'./svc_probe {REPLY_OK}', 11) as server:
+        same(exchange(server.port, b'HEAD /other HTTP/1.0\r\n\r\n'), response('200 OK', '', length=2))
+        same(exchange(server.port, b'GET /other HTTP/1.1\r\nHost: a\r\nHost: b\r\n\r\n'), own('400 Bad Request'))
+        same(get(server.port, method='PUT'), own('501 Not Implemented'))
+        same(exchange(server.port, b'POST /guest HTTP/1.1\r\nHost: a\r\nContent-Length: 262145\r\n\r\n'), own('413 Content Too Large'))
+        same(exchange(server.port, b'POST /guest HTTP/1.1\r\nHost: a\r\nContent-Length: 3\r\n\r\nab'), own('400 Bad Request'))
+        same(exchange(server.port, b''), own('400 Bad Request'))
+        for path, answer in [('/guest/x', ANN_AND_BOB), ('/guestx', own('404 Not Found')), ('/%67uest', own('404 Not Found')), ('/', own('404 Not Found'))]:
+            same(get(server.port, path), answer)
+        same(exchange(server.port, b'GET /guest HTTP/1.1\r\n' + b'A: b\r\n' * 64 + b'A'), own('431 Request Header Fields Too Large'))
+        same(server.ends(), (counts(11, 5, 2, 0, 0), 0))
+
+def a_site_of_no_service_is_served():
+    with Server('okws 1\n', 1) as server:
+        same(get(server.port), own('404 Not Found'))
+        same(server.ends(), (counts(1, 1, 0, 0, 0), 0))
+
+def the_console_is_answered():
+    with Server(SITE % './svc_probe', 1) as server:
+        same(server.answers(b'publish page 1\na\n'), b'published 1\n')
+        same(server.answers(b'relaunch nobody\n'), b'refused 3 2\n')
+        same(server.answers(b'relaunch guest\nend\n'), b'relaunched 2\n')
+        same(get(server.port), response('200 OK', 'a', kind='text/html'))
+        same(server.ends(), (counts(1, 1, 3, 1, 0), 0))
+
+def a_published_page_reaches_a_running_service():
+    with Server(SITE % './svc_probe', 3) as server:
+        same(get(server.port), ANN_AND_BOB)
+        for edition, page, shown in [(1, b'<p>@{rows}</p>', '<p>1 ann\n2 bob\n</p>'), (2, b'@{rows}', '1 ann\n2 bob\n')]:
+            same(server.answers(b'publish page %d\n%s' % (len(page), page)), b'published %d\n' % edition)
+            same(get(server.port), response('200 OK', shown, kind='text/html'))
+        same(server.ends(), (counts(3, 3, 2, 2, 0), 0))
+
+def a_refused_publication_is_dropped():
+    with Server(SITE % './svc_probe', 0) as server:
+        same(server.answers(b'publish x 4\nend\nend\n'), b'refused 1 2\n')
+        same(server.ends(), (counts(0, 0, 2, 0, 0), 0))
+
+def a_bad_frame_is_a_bad_gateway_and_three_of_them_give_the_service_up():
+    with Server(SITE % './svc_probe 00000000', 5, doors=1) as server:
+        for answer in [BAD_GATEWAY] * 3 + [UNAVAILABLE]:
+            same(get(server.port, '/other'), answer)
+        same(server.answers(b'relaunch other\n'), b'relaunched 4\n')
+        same(get(server.port, '/other'), BAD_GATEWAY)
+        same(server.ends(), (counts(5, 5, 6, 0, 0), 0))
+
+def a_killed_child_is_launched_again():
+    with Server(SITE % f'./svc_probe {REPLY_OK} {REPLY_OK}', 5, doors=1) as server:
+        for _ in range(2):
+            same(get(server.port, '/other'), OK)
+        killed = server.children()
+        for pid in killed:
+            os.kill(pid, signal.SIGKILL)
+        while not all(gone(pid) for pid in killed):
+            time.sleep(0.01)
+        same(get(server.port), BAD_GATEWAY)
+        same(get(server.port), ANN_AND_BOB)
+        same(get(server.port, '/other'), OK)
+        alive = server.children()
+        assert len(alive) == 2 and not set(alive) & set(killed), (alive, killed)
+        same(server.ends(), (counts(5, 5, 4, 0, 0), 0))
+
+def a_service_that_cannot_start_is_given_up():
+    with Server(SITE % './svc_none', 2) as server:
+        same(get(server.port, '/other'), UNAVAILABLE)
+        same(get(server.port), ANN_AND_BOB)
+        same(server.answers(b'relaunch other\n'), b'dead 3\n')
+        same(server.ends(), (counts(2, 2, 1, 0, 0), 0))
+
+def a_held_dialog_keeps_no_other_client_waiting():
+    with Server(SITE % '/bin/sleep 60', 2) as server:
+        held = []
+        client = threading.Thread(target=lambda: held.append(get(server.port, '/other')))
+        client.start()
+        time.sleep(0.2)
+        same(get(server.port), ANN_AND_BOB)
+        same(server.answers(b'relaunch other\n'), b'relaunched 2\n')
+        client.join(30)
+        assert held and held[0] in (BAD_GATEWAY, UNAVAILABLE), held
+        same(server.ends(), (counts(2, 2, 3, 0, 0), 0))
+
+def a_taken_port_is_a_fault_and_starts_no_child():
+    with socket.socket() as taken:
+        taken.bind(('127.0.0.1', 0))
+        taken.listen()
+        write('marked', SITE % '/usr/bin/touch started')
+        same(said('serve', 'marked', '--port', str(taken.getsockname()[1]), '--serve', '1'), ('net fault\n', 5))
+        assert not os.path.exists('started')
+
+def words_and_files_are_judged_first():
+    write('good', SITE % './svc_probe')
+    write('bad', 'okws 1\nproxy main\ngrant guest main 1\n')
+    same(said('serve', 'good')[1], 2)
+    same(said('serve', 'good', '--port', '0', '--serve', '1')[1], 2)
+    same(said('serve', 'none', '--port', '1', '--serve', '1'), ('read fault\n', 3))
+    same(said('serve', 'bad', '--port', '1', '--serve', '1'), ('refused: config line 3 rule 11\n', 4))
+
+def two_hundred_clients_are_served_at_once():
+    with Server(SITE % './svc_probe', 200, doors=8) as server:
+        answers = []
+        clients = [threading.Thread(target=lambda: answers.append(get(server.port))) for _ in range(200)]
+        for client in clients:
+            client.start()
+        for client in clients:
+            client.join(60)
+        same(answers, [ANN_AND_BOB] * 200)
+        same(server.ends(), (counts(200, 200, 2, 0, 0), 0))
+
+def clients_that_reset_harm_no_other():
+    with Server(SITE % './svc_probe', 51) as server:
+        for i in range(50):
+            with socket.create_connection(('127.0.0.1', server.port)) as s:
+                s.sendall((b'GET /guest HTTP/1.1\r\nHost: a\r\n\r\n', b'GET /gu', b'')[i % 3])
+                s.setsockopt(socket.SOL_SOCKET, socket.SO_LINGER, struct.pack('ii', 1, 0))
+        same(get(server.port), ANN_AND_BOB)
+        printed, status = server.ends()
+        same((printed.splitlines()[0], status), ('connections 51', 0))
+
+def a_run_ends_after_its_connections_and_leaves_no_child():
+    with Server(SITE % './svc_probe', 3) as server:
+        children = server.children()
+        for _ in range(3):
+            same(get(server.port), ANN_AND_BOB)
+            children += server.children()
+        assert len(set(children)) == 2, children
+        same(server.ends(), (counts(3, 3, 2, 0, 0), 0))
+        assert not any(os.path.exists(f'/proc/{pid}') for pid in children)
+
+def a_port_is_free_at_once_after_a_run():
+    port = a_port()
+    for _ in range(2):
+        with Server(SITE % './svc_probe', 1, port=port) as server:
+            same(get(server.port), ANN_AND_BOB)
+            same(server.ends(), (counts(1, 1, 2, 0, 0), 0))
+
+CHECKS = [
+    the_guestbook_shows_and_takes_entries, a_log_is_appended_to, a_log_that_cannot_be_opened_is_a_fault_at_the_end, requests_are_refused_by_the_standard,
+    a_site_of_no_service_is_served, the_console_is_answered, a_published_page_reaches_a_running_service, a_refused_publication_is_dropped,
+    a_bad_frame_is_a_bad_gateway_and_three_of_them_give_the_service_up, a_killed_child_is_launched_again, a_service_that_cannot_start_is_given_up,
+    a_held_dialog_keeps_no_other_client_waiting, a_taken_port_is_a_fault_and_starts_no_child, words_and_files_are_judged_first,
+    two_hundred_clients_are_served_at_once, clients_that_reset_harm_no_other, a_run_ends_after_its_connections_and_leaves_no_child,
+    a_port_is_free_at_once_after_a_run,
+]
+passed = failed = 0
+for check in CHECKS:
+    if ONLY and check.__name__ != ONLY:
+        continue
+    try:
+        check()
+        passed += 1
+    except (AssertionError, OSError, subprocess.TimeoutExpired) as why:
+        failed += 1
+        print(f'{check.__name__}: {why}', flush=True)
+print(f'{passed} passed, {failed} failed')
+sys.exit(failed != 0)
+P

@@ -1,5 +1,7 @@
-# The gate; the proofs alone; the program; the programs that are services; the example of the README, proved and unproved; and the manual pages.
-.PHONY: test check bin services run try man
+# The gate; the proofs alone; the program; the programs that are services; a server to look at, and one of three requests; the example of a script, proved and
+# unproved; and the manual pages.
+.PHONY: test check bin services run demo play try man
+PORT ?= 8080
 test:
 	rt ci
 check:
@@ -14,7 +16,11 @@ services:
 	cd crates/svc_guest && rt run </dev/null
 	mkdir -p bin
 	cp crates/svc_probe/out/svc_probe crates/svc_guest/out/svc_guest bin
-run: bin
+run: bin services
+	examples/serve.sh $(PORT)
+demo: bin services
+	examples/demo.sh $(PORT)
+play: bin
 	bin/okws play examples/site.okws examples/one_dialog.script
 try:
 	@echo "-- nothing of this is proved: make run proves it"

@@ -1,0 +1,12 @@
+#!/usr/bin/env bash
+# Serves the guestbook of examples/guestbook.okws with the page of examples/page.html, by the programs that `make bin services` left in bin.
+#   examples/serve.sh PORT [COUNT]     COUNT is the number of connections after which the server ends
+# The page is published on the server's console; the lines that come on standard input go there too. The server's process is this one's.
+# It has eight doors, so that a browser which keeps spare connections open holds up nobody.
+set -euo pipefail
+cd "$(dirname "$0")/../bin"
+page=../examples/page.html
+echo "http://127.0.0.1:$1/guest"
+exec 3<&0
+exec ./okws serve ../examples/guestbook.okws --port "$1" --doors 8 --serve "${2:-1000000}" --log guestbook.log \
+    < <(echo "publish page $(wc -c <"$page")"; cat "$page" - <&3)

@@ -4,3 +4,10 @@ pub mod Alike
 pub mod Stepping
 pub mod Sided
 pub mod Lawful
+pub mod Tied
+pub mod Went
+pub mod Lives
+pub mod Lived
+pub mod Visits
+pub mod Carried
+pub mod SmallRuns

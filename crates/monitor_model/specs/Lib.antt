@@ -26,3 +26,17 @@ pub mod Own
 pub mod Complete
 pub mod Example
 pub mod Journals
+pub mod Outside
+pub mod Placed
+pub mod Pieces
+pub mod Missing
+pub mod Talks
+pub mod Lawful
+pub mod Connections
+pub mod Launches
+pub mod Causes
+pub mod First
+pub mod Legality
+pub mod Tied
+pub mod SmallRuns
+pub mod ShortRun

@@ -6,5 +6,7 @@
 pub mod laws;
 pub mod record;
 pub mod sent;
+pub mod small_runs;
+pub mod ties;
 pub mod verdict;
 pub mod worked;

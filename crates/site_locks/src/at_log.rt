@@ -61,7 +61,10 @@ impl<N: Backed, J: Site, K: Keeper, S: Sink> Seats<N, J, K, S> {
     pub fn write_out<R: Wait>(&mut self, rt: &R, locks: &Locks<N, J, K, S>) -> WriteOut
         ensures { (before : List (Entry LogEvent)) × SeesLog before self.old self.new }
     {
-        log_turn::write_out(rt, &locks.oklogd, &mut self.oklogd)
+        let mut oklogd = locks.oklogd.take(rt, &mut self.oklogd);
+        let answer = oklogd.write_out();
+        locks.oklogd.give(&mut self.oklogd, oklogd);
+        answer
     }
 
     /// The launcher installs an incarnation at oklogd, and notes nothing here. Where memory is refused,

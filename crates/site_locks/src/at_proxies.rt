@@ -51,10 +51,7 @@ fn mark_of(verdict: &Verdict) -> Mark
     match verdict {
         Verdict::Failed => Mark::Fault,
         Verdict::Opened(_)
-        | Verdict::Rows {
-            columns: _,
-            rows: _,
-        }
+        | Verdict::Rows { .. }
         | Verdict::Changed(_)
         | Verdict::Duplicate
         | Verdict::Denied(_) => Mark::Done,

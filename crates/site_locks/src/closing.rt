@@ -1,6 +1,6 @@
 //! Closing the locks of a run with the seats of all its numbers.
 
-ghost use Rattle.std.specs.Prelude.{◌≡◌, ◌<◌, ◌≤◌, ◌+◌, ℕ, List, [], ◌∷◌, ◌++◌, length, map, reverse, vec_len, vec_capacity};
+ghost use Rattle.std.specs.Prelude.{◌≡◌, ◌<◌, ◌≤◌, ◌+◌, ℕ, List, [], length, map, reverse, vec_len, vec_capacity};
 ghost use Rattle.okws_base.specs.Turns.{of};
 ghost use Rattle.named_columns.specs.Held.{HeldProxy};
 ghost use Rattle.named_columns.specs.Launched.{by_entry};
@@ -9,7 +9,7 @@ ghost use Rattle.live_board.specs.Seats.{parts};
 ghost use Rattle.turn_lock.specs.Rows.{NoneFrom, GrownRow};
 ghost use Rattle.turn_lock.specs.Seats.{AllGrow, sights};
 ghost use Rattle.site_locks.specs.Sat.{Sat, RiseFrom};
-ghost use Rattle.site_locks.specs.Closing.{AllGrown, RowsGrown, AllSaw, AllDrew, SomeIs, EndsAre, AreOf, RestAt, TakesIn, HasAll, Gathering};
+ghost use Rattle.site_locks.specs.Closing.{AllGrown, RowsGrown, AllSaw, AllDrew, SomeIs, EndsAre, AreOf, RestAt, TakesIn, HasAll};
 
 use crate::locks::{Locks, Seats};
 use crate::named::Site;
@@ -63,25 +63,14 @@ fn parted<N: Backed, J: Site, K: Keeper, S: Sink>(
     ensures own { result.1 ≡ seats.own }
 {
     let _okd = &locks.okd;
-    let Seats {
-        alloc: _,
-        number: _,
-        okd,
-        proxies,
-        pubd,
-        oklogd,
-        board,
-        own,
-        of: _,
-    } = seats;
     let ends = Ends {
-        okd,
-        proxies,
-        pubd,
-        oklogd,
-        board,
+        okd: seats.okd,
+        proxies: seats.proxies,
+        pubd: seats.pubd,
+        oklogd: seats.oklogd,
+        board: seats.board,
     };
-    (ends, own.into_past())
+    (ends, seats.own.into_past())
 }
 
 // Joins a number's seats into these, and gives its own list.
@@ -96,18 +85,11 @@ fn take_in<N: Backed, J: Site, K: Keeper, S: Sink>(
     ensures own { result ≡ seats.own }
 {
     let (more, own) = parted(locks, seats);
-    let Ends {
-        okd,
-        proxies,
-        pubd,
-        oklogd,
-        board,
-    } = more;
-    locks.okd.join(&mut ends.okd, okd);
-    join_row(&locks.proxies, &mut ends.proxies, proxies);
-    locks.pubd.join(&mut ends.pubd, pubd);
-    locks.oklogd.join(&mut ends.oklogd, oklogd);
-    locks.board.join(&mut ends.board, board);
+    locks.okd.join(&mut ends.okd, more.okd);
+    join_row(&locks.proxies, &mut ends.proxies, more.proxies);
+    locks.pubd.join(&mut ends.pubd, more.pubd);
+    locks.oklogd.join(&mut ends.oklogd, more.oklogd);
+    locks.board.join(&mut ends.board, more.board);
     own
 }
 
@@ -131,27 +113,12 @@ fn end<N: Backed, J: Site, K: Keeper, S: Sink>(
     ensures saw { (greatest : List ℕ) × PartsSaw count greatest (parts ends.board) }
     ensures drew { (hand : ℕ → ℕ) × PartsDrew hand result.drawn (parts ends.board) × ((k : ℕ) → k < result.drawn → hand k < count) }
 {
-    let Locks {
-        okd,
-        proxies,
-        pubd,
-        oklogd,
-        board,
-        of: _,
-    } = locks;
-    let Ends {
-        okd: okd_seat,
-        proxies: row,
-        pubd: pubd_seat,
-        oklogd: log_seat,
-        board: board_seat,
-    } = ends;
-    end_row(proxies, row, done, count);
+    end_row(locks.proxies, ends.proxies, done, count);
     Closed {
-        okd: okd.end(okd_seat),
-        pubd: pubd.end(pubd_seat),
-        oklogd: oklogd.end(log_seat),
-        drawn: board.end(board_seat),
+        okd: locks.okd.end(ends.okd),
+        pubd: locks.pubd.end(ends.pubd),
+        oklogd: locks.oklogd.end(ends.oklogd),
+        drawn: locks.board.end(ends.board),
     }
 }
 

@@ -1,6 +1,6 @@
 //! The columns behind their locks, as dialogs ask them.
 
-ghost use Rattle.std.specs.Prelude.{◌≡◌, ◌<◌, ◌≤◌, ◌∷◌, ℕ, List, true, false, IfOk, IfSome, OnOk, OnErr, Some, length, slice_index};
+ghost use Rattle.std.specs.Prelude.{◌≡◌, ◌<◌, ◌≤◌, ◌∷◌, ℕ, List, true, false, IfOk, IfSome, OnErr, Some, length, slice_index};
 ghost use Rattle.okws_base.specs.declared.journal.Entry.{Entry};
 ghost use Rattle.okws_base.specs.declared.limit.TheConstants.{LONGEST_TEMPLATE};
 ghost use Rattle.okws_plan.specs.declared.event.OkdEvent.{OkdEvent};

@@ -1,6 +1,6 @@
 //! The locks of a run, and the seats of one number at them.
 
-ghost use Rattle.std.specs.Prelude.{◌≡◌, ◌+◌, ◌∷◌, OnOk, OnErr, length, map};
+ghost use Rattle.std.specs.Prelude.{◌≡◌, OnOk, OnErr, length};
 ghost use Rattle.site_locks.specs.Sat.{AreLocks, AreSeats, LocksAre, sat_of};
 ghost use Rattle.site_locks.specs.Steps.{noted};
 

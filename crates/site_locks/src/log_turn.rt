@@ -11,7 +11,6 @@ ghost use Rattle.monitor_model.specs.Logd.{log_verdict};
 ghost use Rattle.named_columns.specs.Launched.{by_entry};
 ghost use Rattle.site_locks.specs.Turns.{Enters, Sees, EntersAny, Stays, past_after};
 
-use log_daemon::WriteOut;
 use monitor_model::verdict::Noted;
 use named_columns::log::SiteLog;
 use named_columns::named::Backed;
@@ -38,22 +37,6 @@ pub fn log<N: Backed, S: Sink, R: Wait>(
 {
     let mut oklogd = turn.take(rt, seat);
     let answer = oklogd.log(service, incarnation, text);
-    turn.give(seat, oklogd);
-    answer
-}
-
-/// Gives the sink what it wasn't given yet of the log's text, in a turn. Takes no memory.
-pub fn write_out<N: Backed, S: Sink, R: Wait>(
-    rt: &R,
-    turn: &Turn<SiteLog<N, S>>,
-    seat: &mut Seat<SiteLog<N, S>>,
-) -> WriteOut
-    requires lock { seat.old.lock ≡ turn.now.id }
-    requires free { seat.old.held ≡ false }
-    ensures { (before : List (Entry LogEvent)) × Sees before seat.old seat.new }
-{
-    let mut oklogd = turn.take(rt, seat);
-    let answer = oklogd.write_out();
     turn.give(seat, oklogd);
     answer
 }

@@ -1,6 +1,6 @@
 //! Putting the columns of a run behind locks.
 
-ghost use Rattle.std.specs.Prelude.{◌≡◌, ◌<◌, ◌≤◌, ◌+◌, ℕ, [], IfOk, length, map, vec_len};
+ghost use Rattle.std.specs.Prelude.{◌≡◌, ◌<◌, ◌≤◌, ◌+◌, [], ◌∷◌, ◌++◌, IfOk, length, map, vec_len};
 ghost use Rattle.live_board.specs.Board.{services};
 ghost use Rattle.named_columns.specs.Held.{HeldProxy};
 ghost use Rattle.turn_lock.specs.Rows.{AllNone};
@@ -51,6 +51,17 @@ impl<N: Backed, K: Keeper, S: Sink> Model for Deck<N, K, S> {
     ghost view = { λ d. record { okd = d.okd.items; rows = map (λ r. r.items) d.rows.items; pubd = d.pubd.items; oklogd = d.oklogd.items; board = d.board.items } };
 }
 
+// Takes the last of some seats out.
+fn last<T>(seats: &mut Vec<T>) -> T
+    requires { 0 < length seats.old.items }
+    ensures { seats.old.items ≡ seats.new.items ++ result ∷ [] }
+{
+    match seats.pop() {
+        Some(seat) => seat,
+        None => unreachable!(),
+    }
+}
+
 impl<N: Backed, K: Keeper, S: Sink> Deck<N, K, S> {
     // Gives a number its seats, with an own list that keeps its items or not. Takes no memory.
     fn deal<J: Site>(
@@ -66,30 +77,15 @@ impl<N: Backed, K: Keeper, S: Sink> Deck<N, K, S> {
         ensures deals { DealsFrom locks.now (number + 1) (length self.new.okd) self.new }
         ensures less { length self.new.okd + 1 ≡ length self.old.okd }
     {
-        let Some(okd) = self.okd.pop() else {
-            unreachable!()
-        };
-        let Some(proxies) = self.rows.pop() else {
-            unreachable!()
-        };
-        let Some(pubd) = self.pubd.pop() else {
-            unreachable!()
-        };
-        let Some(oklogd) = self.oklogd.pop() else {
-            unreachable!()
-        };
-        let Some(board) = self.board.pop() else {
-            unreachable!()
-        };
         let _okd = &locks.okd;
         Seats {
             alloc,
             number,
-            okd,
-            proxies,
-            pubd,
-            oklogd,
-            board,
+            okd: last(&mut self.okd),
+            proxies: last(&mut self.rows),
+            pubd: last(&mut self.pubd),
+            oklogd: last(&mut self.oklogd),
+            board: last(&mut self.board),
             own: Journal::new(alloc, keeps),
             of: PhantomData,
         }
@@ -182,21 +178,14 @@ impl<N: Backed, K: Keeper + Drop, S: Sink + Drop> Made<N, K, S> {
         ensures seats { IfOk result (λ r. AreFreshFrom (length N.site.proxies) 0 r.1.items) }
         ensures many { IfOk result (λ r. vec_len r.1 ≡ N.launcher + 1) }
     {
-        let Made {
-            count,
-            okd,
-            proxies,
-            pubd,
-            oklogd,
-            board,
-            mut deck,
-        } = self;
+        let count = self.count;
+        let mut deck = self.deck;
         let locks = Locks {
-            okd,
-            proxies,
-            pubd,
-            oklogd,
-            board,
+            okd: self.okd,
+            proxies: self.proxies,
+            pubd: self.pubd,
+            oklogd: self.oklogd,
+            board: self.board,
             of: PhantomData,
         };
         let mut seats = Vec::with_capacity(alloc, count as usize)?;

@@ -1,6 +1,6 @@
 //! Turns at a proxy.
 
-ghost use Rattle.std.specs.Prelude.{◌≡◌, false, ◌<◌, ℕ, List, true, IfOk, OnOk, OnErr, None, length};
+ghost use Rattle.std.specs.Prelude.{◌≡◌, false, ◌<◌, List, IfOk, OnOk, OnErr, length};
 ghost use Rattle.okws_base.specs.Past.{standing_by, last_by};
 ghost use Rattle.okws_base.specs.Turns.{AddsBy};
 ghost use Rattle.okws_base.specs.declared.journal.Entry.{Entry};

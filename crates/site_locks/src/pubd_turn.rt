@@ -1,6 +1,6 @@
 //! Turns at pubd.
 
-ghost use Rattle.std.specs.Prelude.{◌≡◌, false, ◌<◌, ◌≤◌, ℕ, List, IfOk, OnOk, OnErr, Some, length};
+ghost use Rattle.std.specs.Prelude.{◌≡◌, false, ◌<◌, ◌≤◌, List, IfOk, OnOk, OnErr, Some, length};
 ghost use Rattle.okws_base.specs.Past.{standing_by, last_by};
 ghost use Rattle.okws_base.specs.Runs.{Each};
 ghost use Rattle.okws_base.specs.Turns.{AddsBy};

@@ -23,10 +23,11 @@ use Rattle.cell_locks.specs.Row.{OnlyAt, seen_at}
 use Rattle.launch_journal.specs.Launches.{Launches, entered}
 use Rattle.site_locks.specs.Made.{fresh}
 use Rattle.site_locks.specs.Sat.{Sat}
-use Rattle.okld_launch.specs.Crews.{CrewIs, StaffIs, Below, Under, IsUp, RunsAs, child_of, crew_of, lasts_at, running_at, stands_at, up_of}
+use Rattle.launch_crew.specs.Crews.{CrewIs, StaffIs, Below, Under, IsUp, RunsAs, child_of, crew_of, lasts_at, running_at, stands_at, up_of}
 use Rattle.okld_launch.specs.Launchers.{LauncherIs, up_in, IsKept, IsLauncher, IsPlaced}
-use Rattle.okld_launch.specs.Recorded.{Recorded, IsUnused}
-use Rattle.okld_launch.specs.Steps.{AsksLife}
+use Rattle.launch_crew.specs.Recorded.{Recorded, IsUnused}
+use Rattle.launch_crew.specs.Steps.{AsksLife}
+use Rattle.launch_crew.proofs.Slots.{set_there}
 use Rattle.okld_launch.proofs.Keeps.{keeps}
 
 -- the board after an incarnation was raised
@@ -34,13 +35,6 @@ board_set : (xs : List ℕ) (s k : ℕ) → slice_index (slice_set xs s k) s ≤
 board_set [] s k = omega arith
 board_set (x ∷ xs) zero k = omega arith
 board_set (x ∷ xs) (suc s) k = board_set xs s k
-
-board_other : (xs : List ℕ) (s t k : ℕ) → t ≢ s → slice_index (slice_set xs s k) t ≡ slice_index xs t
-board_other [] s t k n = refl
-board_other (x ∷ xs) zero zero k n = absurd (n refl)
-board_other (x ∷ xs) zero (suc t) k n = refl
-board_other (x ∷ xs) (suc s) zero k n = refl
-board_other (x ∷ xs) (suc s) (suc t) k n = board_other xs s t k (λ is. n (ap suc is))
 
 -- what was begun after it
 pub begun_here : (w s k : ℕ) (J : List (Entry LauncherEvent)) → k ≡ begun J s + 1 → begun (record { worker = w; event = event.Begun s k } ∷ J) s ≡ k
@@ -83,7 +77,7 @@ begins C s k l is shown h = keeps C s l (after_begun s k l) h (record {
     up = λ t n. refl;
     stands = λ t at n. refl;
     lasts = λ t at n. refl;
-    board = λ t n. board_other l.crew.sat.board s t k n;
+    board = λ t n. set_there l.crew.sat.board s t k n;
     cell = λ t n. refl;
     child = λ t n. refl;
   };

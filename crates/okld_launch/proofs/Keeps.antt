@@ -9,9 +9,9 @@ use Rattle.monitor_model.specs.Cell.{incarnation, last_booted}
 use Rattle.monitor_model.specs.Launcher.{begun}
 use Rattle.cell_locks.specs.Row.{CellsSeen, seen_at, OnlyAt}
 use Rattle.site_locks.specs.Sat.{Sat}
-use Rattle.okld_launch.specs.Crews.{CrewIs, child_of, up_of, stands_at, lasts_at, whole, Below, Under, IsQuiet, StandsAt, RunsAs, IsUp, IsColumnOf}
+use Rattle.launch_crew.specs.Crews.{CrewIs, child_of, up_of, stands_at, lasts_at, whole, Below, Under, IsQuiet, StandsAt, RunsAs, IsUp, IsColumnOf}
 use Rattle.okld_launch.specs.Launchers.{LauncherIs, up_in, IsKept, IsLauncher}
-use Rattle.okld_launch.specs.Steps.{OnlyOkd, OnlyColumns, SameHands, Downs, Ups, Looks, Thins, Revokes, Installs, Empties, Tries, Starts, Misses}
+use Rattle.launch_crew.specs.Steps.{OnlyOkd, OnlyColumns, SameHands, Downs, Ups, Looks, Thins, Revokes, Installs, Empties, Tries, Starts, Misses}
 
 -- of every service but s the crew knows and has the same
 pub record Spares (s : ℕ) (c d : CrewIs) : Type 0 where

@@ -1,6 +1,3 @@
-pub mod Owns
-pub mod Recording
-pub mod Places
 pub mod Keeps
 pub mod Placing
 pub mod Begins

@@ -15,11 +15,12 @@ use Rattle.cell_locks.proofs.Onlys.{only_else}
 use Rattle.cell_locks.specs.Row.{CellsSeen, seen_at}
 use Rattle.launch_journal.specs.Launches.{Launches}
 use Rattle.site_locks.specs.Sat.{Sat}
-use Rattle.okld_launch.specs.Crews.{CrewIs, child_of, lasts_at, up_of, stands_at, Below, Under, IsQuiet, NoneStands, StandsAt, RunsAs, IsUp}
+use Rattle.launch_crew.specs.Crews.{CrewIs, child_of, lasts_at, up_of, stands_at, Below, Under, IsQuiet, NoneStands, StandsAt, RunsAs, IsUp}
 use Rattle.okld_launch.specs.Launchers.{LauncherIs, up_in, IsKept, IsLauncher}
-use Rattle.okld_launch.specs.Steps.{OnlyOkd, SameHands, Downs, Ups, Looks, Revokes, Installs, Empties, Tries, Starts, Misses}
+use Rattle.launch_crew.specs.Steps.{OnlyOkd, SameHands, Downs, Ups, Looks, Revokes, Installs, Empties, Tries, Starts, Misses}
 use Rattle.okld_launch.proofs.Keeps.{stands_okd, Spares, spares_on, spares_downs, spares_ups, spares_looks, spares_thins, spares_installs, spares_empties, spares_starts, spares_misses, StepsAt, keeps, IsDown, kept_down, IsRaised, kept_up, below_okd, below_thins, below_installs, below_empties, below_tries, under_okd, under_thins, under_empties}
-use Rattle.okld_launch.proofs.Places.{either_way}
+use Rattle.launch_crew.proofs.Places.{either_way}
+use Rattle.launch_crew.proofs.Slots.{set_here, set_there}
 
 -- ---- lists
 
@@ -27,18 +28,6 @@ pub zeroed : (xs : List ℕ) (s : ℕ) → slice_index (slice_set xs s 0) s ≡ 
 zeroed [] s = refl
 zeroed (x ∷ xs) zero = refl
 zeroed (x ∷ xs) (suc s) = zeroed xs s
-
-pub set_there : (xs : List ℕ) (s t k : ℕ) → t ≢ s → slice_index (slice_set xs s k) t ≡ slice_index xs t
-set_there [] s t k n = refl
-set_there (x ∷ xs) zero zero k n = absurd (n refl)
-set_there (x ∷ xs) zero (suc t) k n = refl
-set_there (x ∷ xs) (suc s) zero k n = refl
-set_there (x ∷ xs) (suc s) (suc t) k n = set_there xs s t k (λ is. n (ap suc is))
-
-pub set_here : (xs : List ℕ) (s k : ℕ) → s < length xs → slice_index (slice_set xs s k) s ≡ k
-set_here [] s k h = absurd (omega arith)
-set_here (x ∷ xs) zero k h = refl
-set_here (x ∷ xs) (suc s) k h = set_here xs s k (omega arith)
 
 let_go : (xs : List (Option Life)) (s : ℕ) → slice_index_or (slice_set xs s None) s None ≡ None
 let_go [] s = refl
@@ -121,22 +110,6 @@ cleared C s l m b c h journal ups clears spare = turned_down C s l m h
     spare (ap (λ us. slice_index us s) ups ∙ zeroed l.ups s) (up_clears C s l.crew b c m.crew clears)
     (below_clears C s (begun l.journal.past s) l.crew b c m.crew clears (h.each s).below)
     (ap (λ (x : Sat). x.board) clears.empties.sat_is ∙ (clears.revokes.thins.only.board_is ∙ clears.downs.only.board_is))
-
--- ---- the end of a run
-
-pub below_emptied : (u s k : ℕ) (c d : CrewIs) → Empties u c d → Below s k c.sat c.watch → Below s k d.sat d.watch
-below_emptied u s k c d h b = record {
-  columns = λ at. subst (λ (x : Sat). lasts_at x at s ≤ k) (sym h.sat_is) (b.columns at);
-  cell = dite (ℕ_discrete s u)
-      (λ is. subst (λ n. last_booted (seen_at d.watch n) ≤ k) (sym is) (subst (λ n. n ≤ k) (sym h.last) (subst (λ n. last_booted (seen_at c.watch n) ≤ k) is b.cell)))
-      (λ apart. subst (λ J. last_booted J ≤ k) (sym (only_else u s c.watch d.watch apart h.only)) b.cell);
-  board = subst (λ (x : Sat). slice_index x.board s ≤ k) (sym h.sat_is) b.board;
-}
-
-pub emptied_so_far : (u : ℕ) (c d : CrewIs) → Empties u c d → ((s : ℕ) → s < u → incarnation (seen_at c.watch s) ≡ 0) → (s : ℕ) → s < u + 1 → incarnation (seen_at d.watch s) ≡ 0
-emptied_so_far u c d h before s within = dite (ℕ_discrete s u)
-    (λ is. subst (λ n. incarnation (seen_at d.watch n) ≡ 0) (sym is) h.none)
-    (λ apart. ap incarnation (only_else u s c.watch d.watch apart h.only) ∙ before s (omega (arith, within, apart)))
 
 -- ---- it is installed, or revoked
 

@@ -8,7 +8,7 @@ use Rattle.okws_plan.specs.declared.event.LauncherEvent.TheVariants as event
 use Rattle.monitor_model.specs.Launcher.{begun}
 use Rattle.launch_journal.specs.Launches.{Launches, Allows, entered}
 use Rattle.launch_journal.specs.declared.next.Next.TheVariants as next
-use Rattle.okld_launch.specs.Crews.{Under}
+use Rattle.launch_crew.specs.Crews.{Under}
 use Rattle.okld_launch.specs.Launchers.{LauncherIs}
 use Rattle.okld_launch.specs.States.{LaunchIs, IsBegun, IsStill}
 use Rattle.okld_launch.proofs.Begins.{begun_here}

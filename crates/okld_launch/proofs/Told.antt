@@ -12,7 +12,7 @@ use Rattle.launch_journal.specs.declared.next.Next.TheVariants as next
 use Rattle.okld_launch.specs.Going.{with_entry, with_begun, with_failed, Closes, Attempts, Fell, Ends, Goes, GoesCrashed, Tends, GoesTended, HasEnded, crashed_as, tended_as}
 use Rattle.okld_launch.specs.Launchers.{LauncherIs, IsOut, up_in}
 use Rattle.okld_launch.specs.States.{LaunchIs}
-use Rattle.okld_launch.specs.Steps.{FailsBy}
+use Rattle.launch_crew.specs.Steps.{FailsBy}
 use Rattle.okld_launch.specs.declared.answer.Attempt.{Attempt}
 use Rattle.okld_launch.specs.declared.answer.Attempt.TheVariants as attempt
 use Rattle.okld_launch.specs.declared.answer.Launched.{Launched}

@@ -4,7 +4,7 @@ use Rattle.okws_base.specs.declared.limit.TheConstants.{MOST_PROXIES}
 use Rattle.okws_plan.specs.declared.configuration.Config.{Config}
 use Rattle.monitor_model.specs.Launcher.{begun}
 use Rattle.launch_journal.specs.Launches.{Launches}
-use Rattle.okld_launch.specs.Crews.{CrewIs, Below, IsUp, NoneStands, up_of}
+use Rattle.launch_crew.specs.Crews.{CrewIs, Below, IsUp, NoneStands, up_of}
 
 -- Its journal, its crew, and the incarnation of each service that is up, 0 for none.
 pub record LauncherIs : Type 0 where

@@ -5,7 +5,7 @@ use Rattle.okws_plan.specs.declared.configuration.Config.{Config}
 use Rattle.monitor_model.specs.Cell.{incarnation, last_booted}
 use Rattle.monitor_model.specs.Launcher.{begun}
 use Rattle.cell_locks.specs.Row.{seen_at}
-use Rattle.okld_launch.specs.Crews.{CrewIs, Under, IsQuiet, StandsAt, RunsAs, child_of}
+use Rattle.launch_crew.specs.Crews.{CrewIs, Under, IsQuiet, StandsAt, RunsAs, child_of}
 use Rattle.okld_launch.specs.Launchers.{LauncherIs, up_in}
 
 -- The launcher in a launch, the service, and its incarnation.

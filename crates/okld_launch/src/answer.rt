@@ -53,12 +53,3 @@ pub enum Attempt {
     /// Memory was refused.
     NoMemory,
 }
-
-/// Why a child was not started and booted.
-#[derive(Clone, Copy, Debug, PartialEq, Eq)]
-pub enum Missed {
-    /// The start failed, or the link did; the fault was counted.
-    Failed,
-    /// Memory was refused.
-    NoMemory,
-}

@@ -4,11 +4,11 @@ ghost use Rattle.std.specs.Prelude.{◌≡◌, ◌<◌, ◌≤◌, ℕ, [], leng
 ghost use Rattle.std.specs.Arc.{arc_value};
 ghost use Rattle.okws_base.specs.declared.limit.TheConstants.{MOST_PROXIES};
 ghost use Rattle.monitor_model.specs.Launcher.{LauncherLaw, begun};
-ghost use Rattle.okld_launch.specs.Crews.{Below, crew_of};
-ghost use Rattle.okld_launch.specs.Recorded.{IsUnused};
+ghost use Rattle.launch_crew.specs.Crews.{Below, crew_of};
+ghost use Rattle.launch_crew.specs.Recorded.{IsUnused};
 
-use crate::crew::Crew;
 use cell_locks::named::CellNames;
+use launch_crew::crew::Crew;
 use launch_journal::LaunchJournal;
 use named_columns::named::Backed;
 use okws_base::journal::{Entry, Past};
@@ -40,7 +40,7 @@ pub struct Launcher<N: Backed, J: Site, C: CellNames, K: Keeper, S: Sink, F: Chi
 impl<N: Backed, J: Site, C: CellNames, K: Keeper, S: Sink, F: Children> Model
     for Launcher<N, J, C, K, S, F> {
     ghost use Rattle.std.specs.Arc.{arc_value};
-    ghost use Rattle.okld_launch.specs.Crews.{crew_of};
+    ghost use Rattle.launch_crew.specs.Crews.{crew_of};
     ghost use Rattle.okld_launch.specs.Launchers.{LauncherIs, IsPlaced};
 
     ghost Value = { LauncherIs };

@@ -9,11 +9,12 @@ ghost use Rattle.launch_journal.specs.declared.next.Next.TheVariants as next;
 ghost use Rattle.okld_launch.specs.Launchers.{up_in};
 ghost use Rattle.okld_launch.specs.Going.{Attempts, Closes, Goes, GoesAsked, GoesCrashed, Ends, crashed_as, tended_as};
 
-use crate::answer::{Attempt, Crashed, Launched, Missed, Tended};
+use crate::answer::{Attempt, Crashed, Launched, Tended};
 use crate::launcher::Launcher;
 use crate::states::{Booted, Installed, Quiet, Revoked};
 use cell_locks::locks::CellLocks;
 use cell_locks::named::CellNames;
+use launch_crew::answer::Missed;
 use launch_journal::Next;
 use named_columns::named::Backed;
 use okws_base::limit::MOST_INCARNATIONS;

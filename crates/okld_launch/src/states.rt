@@ -7,12 +7,12 @@ ghost use Rattle.okws_plan.specs.declared.event.LauncherEvent.TheVariants as eve
 ghost use Rattle.launch_journal.specs.Launches.{entered};
 ghost use Rattle.okld_launch.specs.Launchers.{IsOut, up_in};
 ghost use Rattle.okld_launch.specs.States.{GoesOn};
-ghost use Rattle.okld_launch.specs.Steps.{FailsBy};
+ghost use Rattle.launch_crew.specs.Steps.{FailsBy};
 
-use crate::answer::Missed;
 use crate::launcher::Launcher;
 use cell_locks::locks::CellLocks;
 use cell_locks::named::CellNames;
+use launch_crew::answer::Missed;
 use named_columns::named::Backed;
 use okws_outer::children::Children;
 use okws_outer::keeper::Keeper;

@@ -8,15 +8,15 @@ ghost use Rattle.monitor_model.specs.Launcher.{begun};
 ghost use Rattle.cell_locks.specs.Row.{seen_at};
 ghost use Rattle.launch_journal.specs.Launches.{Allows, entered};
 ghost use Rattle.launch_journal.specs.declared.next.Next.TheVariants as next;
-ghost use Rattle.okld_launch.specs.Crews.{Under, IsQuiet, StandsAt, RunsAs, NoneStands, child_of};
+ghost use Rattle.launch_crew.specs.Crews.{Under, IsQuiet, StandsAt, RunsAs, NoneStands, child_of};
 ghost use Rattle.okld_launch.specs.Launchers.{up_in};
-ghost use Rattle.okld_launch.specs.Steps.{SameHands, FailsBy};
+ghost use Rattle.launch_crew.specs.Steps.{SameHands, FailsBy};
 
-use crate::answer::Missed;
 use crate::launcher::Launcher;
 use cell_locks::locks::CellLocks;
 use cell_locks::named::CellNames;
 use frame_codec::frame::{Issued, ServerFrame};
+use launch_crew::answer::Missed;
 use named_columns::named::Backed;
 use okws_base::items::Items;
 use okws_outer::children::Children;

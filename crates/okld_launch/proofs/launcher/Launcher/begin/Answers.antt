@@ -1,7 +1,7 @@
 use Rattle.std.proofs.Common.{◌≡◌, ◌<◌, sym, subst, arith}
 use Rattle.monitor_model.specs.Launcher.{begun}
-use Rattle.okld_launch.specs.Crews.{Under, crew_of}
-use Rattle.okld_launch.specs.Recorded.{Recorded}
+use Rattle.launch_crew.specs.Crews.{Under, crew_of}
+use Rattle.launch_crew.specs.Recorded.{Recorded}
 use Rattle.okld_launch.proofs.Begins.{launcher_of, begun_kept, under_next}
 use Rattle.okld_launch.proofs.launcher.Launcher.begin.Goals as goal
 

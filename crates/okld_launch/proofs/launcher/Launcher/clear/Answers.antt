@@ -1,6 +1,6 @@
 use Rattle.std.proofs.Common.{◌≡◌, ◌<◌, ◌≤◌, length, refl, sym, ap, subst, arith}
 use Rattle.std.specs.Prelude.{slice_set}
-use Rattle.okld_launch.specs.Crews.{Under, crew_of}
+use Rattle.launch_crew.specs.Crews.{Under, crew_of}
 use Rattle.okld_launch.specs.Launchers.{LauncherIs}
 use Rattle.okld_launch.proofs.Begins.{launcher_of}
 use Rattle.okld_launch.proofs.Placing.{Clears, cleared, quiet_clears, under_clears}

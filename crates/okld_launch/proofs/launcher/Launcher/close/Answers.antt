@@ -3,7 +3,7 @@ use Rattle.std.specs.Prelude.{slice_index}
 use Rattle.okws_base.specs.declared.journal.Entry.{Entry}
 use Rattle.okws_plan.specs.declared.event.LauncherEvent.{LauncherEvent}
 use Rattle.monitor_model.specs.Launcher.{begun}
-use Rattle.okld_launch.specs.Crews.{Below}
+use Rattle.launch_crew.specs.Crews.{Below}
 use Rattle.okld_launch.proofs.launcher.Launcher.close.Goals as goal
 
 pub returns-clause-below : goal.returns-clause-below

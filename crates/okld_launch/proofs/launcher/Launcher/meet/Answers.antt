@@ -1,5 +1,5 @@
 use Rattle.std.proofs.Common.{◌≡◌, refl}
-use Rattle.okld_launch.specs.Crews.{crew_of}
+use Rattle.launch_crew.specs.Crews.{crew_of}
 use Rattle.okld_launch.proofs.Begins.{launcher_of, same_crew, met}
 use Rattle.okld_launch.proofs.launcher.Launcher.meet.Goals as goal
 

@@ -1,7 +1,7 @@
 use Rattle.std.proofs.Common.{◌≡◌, ap}
 use Rattle.launch_journal.specs.Launches.{Launches}
-use Rattle.okld_launch.specs.Crews.{crew_of}
-use Rattle.okld_launch.specs.Recorded.{Recorded}
+use Rattle.launch_crew.specs.Crews.{crew_of}
+use Rattle.launch_crew.specs.Recorded.{Recorded}
 use Rattle.okld_launch.proofs.Begins.{launcher_of, same_entries, same_crew, roomier}
 use Rattle.okld_launch.proofs.launcher.Launcher.reserve.Goals as goal
 

@@ -1,12 +1,12 @@
 use Rattle.std.proofs.Common.{◌≡◌, ◌∙◌, ◌≤◌, refl, sym, ap, subst, arith}
 use Rattle.std.specs.Prelude.{slice_set}
 use Rattle.monitor_model.specs.Launcher.{begun}
-use Rattle.okld_launch.specs.Crews.{StandsAt, RunsAs, child_of, crew_of}
+use Rattle.launch_crew.specs.Crews.{StandsAt, RunsAs, child_of, crew_of}
 use Rattle.okld_launch.specs.Launchers.{LauncherIs, up_in}
 use Rattle.okld_launch.proofs.Begins.{launcher_of}
 use Rattle.okld_launch.proofs.Placing.{started_kept, tries_of}
 use Rattle.std.proofs.lemmas.Result.{on_ok_weaker}
-use Rattle.okld_launch.specs.Steps.{Starts}
+use Rattle.launch_crew.specs.Steps.{Starts}
 use Rattle.okld_launch.proofs.launcher.Launcher.start.Goals as goal
 
 pub invariant_of-self : goal.invariant_of-self

@@ -2,7 +2,7 @@ use Rattle.std.proofs.Common.{◌≡◌, ◌∙◌, ◌+◌, ◌≤◌, sym, ap,
 use Rattle.std.specs.Prelude.{slice_index}
 use Rattle.okws_base.specs.declared.limit.TheConstants.{MOST_PROXIES}
 use Rattle.site_locks.specs.Sat.{Sat}
-use Rattle.okld_launch.specs.Crews.{StandsAt}
+use Rattle.launch_crew.specs.Crews.{StandsAt}
 use Rattle.okld_launch.proofs.Stating.{begins_on}
 use Rattle.okld_launch.proofs.states.Installed.boot.Goals as goal
 

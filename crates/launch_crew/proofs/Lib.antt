@@ -1,0 +1,5 @@
+pub mod Owns
+pub mod Slots
+pub mod Recording
+pub mod Places
+pub mod Emptying

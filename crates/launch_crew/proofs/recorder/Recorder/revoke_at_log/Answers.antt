@@ -1,0 +1,15 @@
+use Rattle.std.proofs.Common.{◌≡◌, refl}
+use Rattle.okws_plan.specs.declared.event.LogEvent.TheVariants as event
+use Rattle.launch_crew.proofs.Recording.{log_entered, log_seen}
+use Rattle.launch_crew.proofs.recorder.Recorder.revoke_at_log.Goals as goal
+
+pub invariant_of-self : goal.invariant_of-self
+invariant_of-self g c =
+    let h = c.in-Some.ensures in
+    log_entered g.N.Numbered.site g.N.Numbered.launcher c.self.inside.seats c.revoke_at_log.new.self c.self.inside.cells c.self.inside.own.past c.enter.new.self.past c.self.inside.own.room c.enter.new.self.room c.self.invariant
+    (event.Revoke c.args.service c.in-Some.incarnation) h.0 refl c.enter.ensures.past h.3
+
+pub invariant_of-self-in_default : goal.invariant_of-self-in_default
+invariant_of-self-in_default g c =
+    let h = c.in_default.ensures in
+    log_seen g.N.Numbered.site g.N.Numbered.launcher c.self.inside.seats c.revoke_at_log.new.self c.self.inside.cells c.self.inside.own.past c.self.inside.own.room c.self.inside.own.room c.self.invariant h.0 h.3

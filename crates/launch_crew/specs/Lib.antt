@@ -1,0 +1,4 @@
+pub mod Recorded
+pub mod Pasts
+pub mod Crews
+pub mod Steps

@@ -1,0 +1,103 @@
+//! What the launcher does at the cells.
+
+ghost use Rattle.std.specs.Prelude.{◌≡◌, ◌<◌, ◌≤◌, ◌+◌, ℕ, IfErr, OnOk, OnErr, length};
+ghost use Rattle.okws_base.specs.declared.limit.TheConstants.{MOST_PROXIES};
+ghost use Rattle.okws_outer.specs.Families.{IsNewLink};
+ghost use Rattle.monitor_model.specs.Cell.{incarnation as incarnation_of, last_booted, boot_frame};
+ghost use Rattle.cell_locks.specs.Row.{seen_at, OnlyAt};
+
+use crate::answer::Missed;
+use crate::recorder::Recorder;
+use cell_locks::answer::Launched;
+use cell_locks::locks::CellLocks;
+use cell_locks::named::CellNames;
+use cell_locks::note::CellNote;
+use frame_codec::frame::{Issued, ServerFrame};
+use monitor_model::record::Own;
+use named_columns::named::Backed;
+use okws_base::items::Items;
+use okws_outer::keeper::Keeper;
+use okws_outer::stream::{Link, Sink};
+use service_cell::answer::Booting;
+use site_locks::named::Site;
+use std::sync::Wait;
+
+impl<N: Backed, J: Site, C: CellNames, K: Keeper, S: Sink, L: Link + Drop> Recorder<
+    N,
+    J,
+    C,
+    K,
+    S,
+    L,
+> {
+    /// Retires the incarnation at the cell of the service, where there is one, and takes its link out.
+    pub fn retire<R: Wait>(&mut self, rt: &R, cells: &CellLocks<N, C, L>, service: u16) -> Option<L>
+        requires service { service < length N.site.services }
+        requires room { 0 < self.old.room }
+        ensures columns { self.new.sat ≡ self.old.sat }
+        ensures only { OnlyAt service self.old.watch self.new.watch }
+        ensures empty { incarnation_of (seen_at self.new.watch service) ≡ 0 }
+        ensures last { last_booted (seen_at self.new.watch service) ≡ last_booted (seen_at self.old.watch service) }
+        ensures room { self.old.room ≤ self.new.room + 1 }
+    {
+        let (was, link) = self.cells.retire(rt, cells, service);
+        if was != 0 {
+            self.own.enter(Own::Retired(service));
+        }
+        link
+    }
+
+    /// Boots the cell of the service, which is empty, over the link of a child that was just started. Where
+    /// it isn't booted, the link comes back.
+    pub fn boot<R: Wait>(
+        &mut self,
+        rt: &R,
+        cells: &CellLocks<N, C, L>,
+        service: u16,
+        incarnation: u32,
+        link: L,
+        tokens: Items<Issued>,
+    ) -> Result<(), (Missed, L)>
+        requires service { service < length N.site.services }
+        requires empty { incarnation_of (seen_at self.old.watch service) ≡ 0 }
+        requires later { last_booted (seen_at self.old.watch service) < incarnation }
+        requires link { IsNewLink (L.wire link) }
+        requires tokens { ServerFrame.Boot service incarnation tokens ≡ boot_frame N.site N.run_seed service incarnation }
+        requires few { length tokens ≤ MOST_PROXIES }
+        requires room { 0 < self.old.room }
+        ensures columns { self.new.sat ≡ self.old.sat }
+        ensures only { OnlyAt service self.old.watch self.new.watch }
+        ensures most { (j : ℕ) → incarnation ≤ j → last_booted (seen_at self.old.watch service) ≤ j → last_booted (seen_at self.new.watch service) ≤ j }
+        ensures ok { OnOk result (incarnation_of (seen_at self.new.watch service) ≡ incarnation) }
+        ensures err { OnErr result (incarnation_of (seen_at self.new.watch service) ≡ 0) }
+        ensures cause { IfErr result (λ e. e.0 ≡ Missed.Failed → 0 < (L.wire e.1).faults) }
+        ensures room { self.old.room ≤ self.new.room + 1 }
+    {
+        let Launched { booting, left } = self
+            .cells
+            .boot(rt, cells, service, link, incarnation, tokens);
+        drop(left);
+        match booting {
+            Booting::Booted => {
+                self.own.enter(Own::Boot {
+                    service,
+                    incarnation,
+                });
+                Ok(())
+            }
+            Booting::LinkFault(link) => Err((Missed::Failed, link)),
+            Booting::NoMemory(link) => Err((Missed::NoMemory, link)),
+        }
+    }
+
+    /// Takes in what another number has seen at a cell.
+    pub fn meet(&mut self, cells: &CellLocks<N, C, L>, note: CellNote<N, C, L>)
+        ensures columns { self.new.sat ≡ self.old.sat }
+        ensures only { OnlyAt note.service self.old.watch self.new.watch }
+        ensures last { last_booted (seen_at self.new.watch note.service) ≡ last_booted (seen_at self.old.watch note.service) }
+        ensures met { last_booted note.seen ≤ last_booted (seen_at self.new.watch note.service) }
+        ensures room { self.new.room ≡ self.old.room }
+    {
+        self.cells.meet(cells, note);
+    }
+}

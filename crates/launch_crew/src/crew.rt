@@ -1,0 +1,198 @@
+//! The launcher's crew: its seats and its children.
+
+ghost use Rattle.std.specs.Prelude.{◌≡◌, ◌<◌, ◌≤◌, ℕ, OnErr, OnOk, IfOk, IfErr, IsErrOf, length};
+ghost use Rattle.okws_base.specs.declared.limit.TheConstants.{MOST_PROXIES, MOST_SERVICES};
+ghost use Rattle.okws_outer.specs.Families.{IsNewLink};
+ghost use Rattle.okws_outer.specs.Lives.{new_life};
+ghost use Rattle.monitor_model.specs.Cell.{incarnation as incarnation_of, last_booted, boot_frame};
+ghost use Rattle.cell_locks.specs.Row.{IsNew, seen_at};
+ghost use Rattle.site_locks.specs.Made.{fresh};
+ghost use Rattle.launch_crew.specs.Crews.{Below, crew_of};
+ghost use Rattle.launch_crew.specs.Recorded.{AreOwn, IsUnused};
+ghost use Rattle.launch_crew.specs.Steps.{Empties, Starts, Misses, FailsBy, IsFaulty};
+
+use crate::answer::Missed;
+use crate::recorder::Recorder;
+use crate::staff::Staff;
+use cell_locks::locks::CellLocks;
+use cell_locks::named::CellNames;
+use cell_locks::seats::CellSeats;
+use frame_codec::frame::{Issued, ServerFrame};
+use monitor_model::record::Own;
+use named_columns::named::Backed;
+use okws_base::items::Items;
+use okws_base::journal::Past;
+use okws_outer::children::{Children, Started};
+use okws_outer::keeper::Keeper;
+use okws_outer::stream::Sink;
+use site_locks::locks::Seats;
+use site_locks::named::Site;
+use std::alloc::Global;
+use std::sync::Wait;
+
+/// The launcher's seats at the columns and at the cells of a site, with the list of what was done from
+/// them, and the children of its services.
+#[derive(Drop)]
+pub struct Crew<N: Backed, J: Site, C: CellNames, K: Keeper, S: Sink, F: Children> {
+    /// The seats, with the list.
+    pub recorder: Recorder<N, J, C, K, S, F::Link>,
+    /// The children.
+    pub staff: Staff<N, F>,
+}
+
+/// What the launcher's crew leaves at the end of a run, when no child runs any more: its seats, the
+/// children, and the list of what was done under its number.
+#[derive(Drop)]
+pub struct Stopped<N: Backed, J: Site, C: CellNames, K: Keeper, S: Sink, F: Children> {
+    pub seats: Seats<N, J, K, S>,
+    pub cells: CellSeats<N, C, F::Link>,
+    pub children: F,
+    pub own: Past<Own>,
+}
+
+impl<N: Backed, J: Site, C: CellNames, K: Keeper, S: Sink, F: Children + Drop> Crew<
+    N,
+    J,
+    C,
+    K,
+    S,
+    F,
+> {
+    /// A crew of which no child runs, with fresh seats of the launcher's number. Its list is kept in memory
+    /// or not, and has room for the items of the run's end. Where memory is refused, the children come back.
+    pub fn new(
+        alloc: Global,
+        seats: Seats<N, J, K, S>,
+        cells: CellSeats<N, C, F::Link>,
+        children: F,
+        keeps: bool,
+    ) -> Result<Self, F>
+        requires seats { seats ≡ fresh (length N.site.proxies) N.launcher }
+        requires cells { IsNew (length N.site.services) N.launcher cells }
+        requires few { (length N.site.proxies ≤ MOST_PROXIES) × (length N.site.services ≤ MOST_SERVICES) }
+        ensures unused { IfOk result (λ c. IsUnused N.site N.launcher c.recorder) }
+        ensures room { IfOk result (λ c. length N.site.services ≤ c.recorder.room) }
+        ensures children { IfOk result (λ c. c.staff.family ≡ F.family children) }
+        ensures err { IfErr result (λ f. F.family f ≡ F.family children) }
+    {
+        let mut recorder = Recorder::new(alloc, seats, cells, keeps);
+        let services = recorder.services();
+        let Ok(()) = recorder.make_room(services) else {
+            return Err(children);
+        };
+        let staff = Staff::new(alloc, services, children)?;
+        Ok(Crew { recorder, staff })
+    }
+
+    /// The children of a crew that isn't wanted.
+    pub fn into_children(self) -> F
+        ensures { F.family result ≡ self.staff.family }
+    {
+        let Crew { recorder: _, staff } = self;
+        staff.into_children()
+    }
+}
+
+impl<N: Backed, J: Site, C: CellNames, K: Keeper, S: Sink, F: Children> Crew<N, J, C, K, S, F> {
+    /// Empties the cell of the service, and finishes its child.
+    pub fn empty<R: Wait>(&mut self, rt: &R, cells: &CellLocks<N, C, F::Link>, service: u16)
+        requires service { service < length N.site.services }
+        requires room { 0 < self.old.recorder.room }
+        ensures { Empties service (crew_of self.old.recorder self.old.staff) (crew_of self.new.recorder self.new.staff) }
+    {
+        self.staff.stop(service);
+        let link = self.recorder.retire(rt, cells, service);
+        self.staff.release(service, link);
+    }
+
+    // Boots the cell of the service over the link of a child that was just started.
+    fn place<R: Wait>(
+        &mut self,
+        rt: &R,
+        cells: &CellLocks<N, C, F::Link>,
+        service: u16,
+        incarnation: u32,
+        started: Started<F::Child, F::Link>,
+        tokens: Items<Issued>,
+    ) -> Result<(), Missed>
+        requires service { service < length N.site.services }
+        requires empty { incarnation_of (seen_at self.old.recorder.watch service) ≡ 0 }
+        requires later { last_booted (seen_at self.old.recorder.watch service) < incarnation }
+        requires child { F.Child.life started.child ≡ new_life service incarnation }
+        requires link { IsNewLink (F.Link.wire started.link) }
+        requires tokens { ServerFrame.Boot service incarnation tokens ≡ boot_frame N.site N.run_seed service incarnation }
+        requires few { length tokens ≤ MOST_PROXIES }
+        requires room { 0 < self.old.recorder.room }
+        ensures ok { OnOk result (Starts service incarnation (crew_of self.old.recorder self.old.staff) (crew_of self.new.recorder self.new.staff)) }
+        ensures err { OnErr result (Misses service incarnation (crew_of self.old.recorder self.old.staff) (crew_of self.new.recorder self.new.staff)) }
+        ensures cause { IsErrOf result Missed.Failed → IsFaulty service incarnation self.new.staff.family.finished }
+    {
+        let Started { child, link } = started;
+        match self
+            .recorder
+            .boot(rt, cells, service, incarnation, link, tokens)
+        {
+            Ok(()) => {
+                self.staff.keep(service, incarnation, child);
+                Ok(())
+            }
+            Err((missed, link)) => {
+                self.staff.finish(service, incarnation, child, link);
+                Err(missed)
+            }
+        }
+    }
+
+    /// Starts a child of the service as an incarnation of it, and boots its cell, which is empty.
+    pub fn start<R: Wait>(
+        &mut self,
+        rt: &R,
+        cells: &CellLocks<N, C, F::Link>,
+        words: &[Items<u8>],
+        service: u16,
+        incarnation: u32,
+        tokens: Items<Issued>,
+    ) -> Result<(), Missed>
+        requires service { service < length N.site.services }
+        requires empty { incarnation_of (seen_at self.old.recorder.watch service) ≡ 0 }
+        requires later { last_booted (seen_at self.old.recorder.watch service) < incarnation }
+        requires tokens { ServerFrame.Boot service incarnation tokens ≡ boot_frame N.site N.run_seed service incarnation }
+        requires few { length tokens ≤ MOST_PROXIES }
+        requires room { 0 < self.old.recorder.room }
+        ensures ok { OnOk result (Starts service incarnation (crew_of self.old.recorder self.old.staff) (crew_of self.new.recorder self.new.staff)) }
+        ensures err { OnErr result (Misses service incarnation (crew_of self.old.recorder self.old.staff) (crew_of self.new.recorder self.new.staff)) }
+        ensures cause { IsErrOf result Missed.Failed → FailsBy service incarnation self.old.staff.family self.new.staff.family }
+    {
+        let started = self.staff.start(service, incarnation, words)?;
+        self.place(rt, cells, service, incarnation, started, tokens)
+    }
+
+    /// Stops and finishes the children of all services, and empties their cells, at the end of a run. Takes
+    /// no memory.
+    pub fn stop_all<R: Wait>(
+        self,
+        rt: &R,
+        cells: &CellLocks<N, C, F::Link>,
+    ) -> Stopped<N, J, C, K, S, F>
+        requires room { length N.site.services ≤ self.recorder.room }
+        ensures numbers { (result.seats.number ≡ N.launcher) × (result.cells.number ≡ N.launcher) }
+        ensures columns { result.seats ≡ self.recorder.sat }
+        ensures cells { (s : ℕ) → s < length N.site.services → incarnation_of (seen_at result.cells s) ≡ 0 }
+        ensures below { (s k : ℕ) → Below s k self.recorder.sat self.recorder.watch → Below s k result.seats result.cells }
+        ensures own { AreOwn N.launcher result.seats result.cells result.own }
+        ensures faults { (F.family result.children).faults ≡ self.staff.family.faults }
+    {
+        let mut crew = self;
+        for service in 0..crew.recorder.services() {
+            crew.empty(rt, cells, service as u16);
+        }
+        let Crew { recorder, staff } = crew;
+        let (seats, cells, own) = recorder.into_parts();
+        Stopped {
+            seats,
+            cells,
+            children: staff.into_children(),
+            own,
+        }
+    }
+}

@@ -1,0 +1,171 @@
+//! The children that the launcher has started.
+
+ghost use Rattle.std.specs.Prelude.{◌≡◌, ◌<◌, ◌≤◌, None, Some, IfOk, IfErr, IsErrOf, length, replicate, slice_set};
+ghost use Rattle.okws_outer.specs.Families.{IsNewLink, with_end};
+ghost use Rattle.okws_outer.specs.Lives.{new_life};
+ghost use Rattle.okws_outer.specs.Streams.{Rose};
+ghost use Rattle.launch_crew.specs.Crews.{running_at};
+ghost use Rattle.launch_crew.specs.Steps.{AsksChild};
+
+use crate::answer::Missed;
+use okws_base::items::Items;
+use okws_outer::child::{Child, Ended};
+use okws_outer::children::{Children, Started};
+use okws_outer::error::MakeError;
+use site_cell::named::Numbered;
+use std::alloc::{AllocError, Global};
+use std::marker::{Model, PhantomData};
+
+/// A child that runs, with the incarnation that it is. Contracts see what is told of the child.
+#[derive(Drop)]
+pub struct Running<F: Children> {
+    incarnation: u32,
+    child: F::Child,
+}
+
+impl<F: Children> Model for Running<F> {
+    ghost use Rattle.std.specs.Prelude.{◌≡◌};
+    ghost use Rattle.okws_outer.specs.Lives.{Life};
+
+    ghost Value = { Life };
+
+    ghost view = { λ r. F.Child.life r.child };
+
+    ghost invariant = { λ r. (F.Child.life r.child).incarnation ≡ r.incarnation };
+}
+
+/// The children of a run, and which one runs of each service. Contracts see what is told of them.
+#[derive(Drop)]
+pub struct Staff<N: Numbered, F: Children> {
+    alloc: Global,
+    running: Vec<Option<Running<F>>>,
+    children: F,
+    of: PhantomData<N>,
+}
+
+impl<N: Numbered, F: Children> Model for Staff<N, F> {
+    ghost use Rattle.launch_crew.specs.Crews.{StaffIs, IsStaff};
+
+    ghost Value = { StaffIs };
+
+    ghost view = { λ t. record { running = t.running.items; family = F.family t.children } };
+
+    ghost invariant = { λ t. IsStaff N.site (record { running = t.running.items; family = F.family t.children }) };
+}
+
+// No child of each of so many services.
+fn no_children<F: Children>(
+    alloc: Global,
+    services: usize,
+) -> Result<Vec<Option<Running<F>>>, AllocError>
+    ensures { IfOk result (λ r. r.items ≡ replicate services None) }
+{
+    let mut running = Vec::with_capacity(alloc, services)?;
+    for _ in 0..services {
+        running.push_reserved(None);
+    }
+    Ok(running)
+}
+
+impl<N: Numbered, F: Children + Drop> Staff<N, F> {
+    /// Children none of which runs yet. Where memory is refused, they come back.
+    pub fn new(alloc: Global, services: usize, children: F) -> Result<Self, F>
+        requires { services ≡ length N.site.services }
+        ensures ok { IfOk result (λ t. t ≡ record { running = replicate services None; family = F.family children }) }
+        ensures err { IfErr result (λ f. F.family f ≡ F.family children) }
+    {
+        let Ok(running) = no_children(alloc, services) else {
+            return Err(children);
+        };
+        Ok(Staff {
+            alloc,
+            running,
+            children,
+            of: PhantomData,
+        })
+    }
+}
+
+impl<N: Numbered, F: Children> Staff<N, F> {
+    /// The children, at the end of a run.
+    pub fn into_children(self) -> F
+        ensures { F.family result ≡ self.family }
+    {
+        self.children
+    }
+
+    /// Asks the child of the service whether it has ended, where one runs.
+    pub fn ended(&mut self, service: u16) -> Option<Ended>
+        requires { service < length N.site.services }
+        ensures { AsksChild service self.old result self.new }
+    {
+        match &mut self.running[service as usize] {
+            None => None,
+            Some(running) => Some(running.child.ended()),
+        }
+    }
+
+    /// Stops the child of the service, where one runs.
+    pub fn stop(&mut self, service: u16)
+        requires { service < length N.site.services }
+        ensures { self.new ≡ self.old }
+    {
+        if let Some(running) = &mut self.running[service as usize] {
+            running.child.stop();
+        }
+    }
+
+    /// Finishes the child of the service over its link, where there are both.
+    pub fn release(&mut self, service: u16, link: Option<F::Link>)
+        requires { service < length N.site.services }
+        ensures running { self.new.running ≡ slice_set self.old.running service None }
+        ensures faults { self.new.family.faults ≡ self.old.family.faults }
+    {
+        let running = self.running[service as usize].take();
+        match (running, link) {
+            (Some(Running { incarnation, child }), Some(link)) => {
+                self.children.finish(service, incarnation, child, link);
+            }
+            (_, _) => {}
+        }
+    }
+
+    /// Starts a child of the service, of which nothing is kept yet.
+    pub fn start(
+        &mut self,
+        service: u16,
+        incarnation: u32,
+        words: &[Items<u8>],
+    ) -> Result<Started<F::Child, F::Link>, Missed>
+        ensures running { self.new.running ≡ self.old.running }
+        ensures faults { self.old.family.faults ≤ self.new.family.faults }
+        ensures child { IfOk result (λ s. F.Child.life s.child ≡ new_life service incarnation) }
+        ensures link { IfOk result (λ s. IsNewLink (F.Link.wire s.link)) }
+        ensures cause { IsErrOf result Missed.Failed → Rose self.old.family.faults self.new.family.faults }
+    {
+        match self.children.start(self.alloc, service, incarnation, words) {
+            Ok(started) => Ok(started),
+            Err(MakeError::Failed) => Err(Missed::Failed),
+            Err(MakeError::NoMemory) => Err(Missed::NoMemory),
+        }
+    }
+
+    /// Keeps a child that was booted.
+    pub fn keep(&mut self, service: u16, incarnation: u32, child: F::Child)
+        requires service { service < length N.site.services }
+        requires child { F.Child.life child ≡ new_life service incarnation }
+        ensures is { self.new ≡ record self.old { running = slice_set self.old.running service (Some (new_life service incarnation)) } }
+        ensures child { running_at self.new.running service ≡ Some (new_life service incarnation) }
+    {
+        self.running[service as usize] = Some(Running { incarnation, child });
+    }
+
+    /// Stops and finishes a child that was not booted.
+    pub fn finish(&mut self, service: u16, incarnation: u32, mut child: F::Child, link: F::Link)
+        requires child { F.Child.life child ≡ new_life service incarnation }
+        ensures { self.new ≡ record self.old { family = with_end (new_life service incarnation) (F.Link.wire link) self.old.family } }
+    {
+        child.stop();
+        self.children.finish(service, incarnation, child, link);
+    }
+}

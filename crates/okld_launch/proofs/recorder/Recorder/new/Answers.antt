@@ -1,6 +1,0 @@
-use Rattle.std.proofs.Common.{◌≡◌}
-use Rattle.okld_launch.proofs.Recording.{unused}
-use Rattle.okld_launch.proofs.recorder.Recorder.new.Goals as goal
-
-pub invariant_of-result : goal.invariant_of-result
-invariant_of-result g c = unused g.N.Numbered.site g.N.Numbered.launcher c.args.seats c.args.cells c.new.result.past c.new.result.room c.requires.seats c.requires.cells c.new.ensures.past c.requires.few.0 c.requires.few.1

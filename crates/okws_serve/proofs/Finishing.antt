@@ -1,10 +1,9 @@
 -- What a run leaves when its workers left their posts.
-use Rattle.std.proofs.Common.{◌≡◌, ℕ, suc, ◌+◌, List, [], ◌∷◌, ◌++◌, length, map, refl, sym, ap, ◌∙◌, subst, arith}
+use Rattle.std.proofs.Common.{◌≡◌, ℕ, suc, ◌+◌, List, [], ◌∷◌, ◌++◌, length, map, refl, sym, ap, ◌∙◌, subst}
 use Rattle.std.proofs.lemmas.List.{length-map}
 use Rattle.std.specs.Prelude.{Some, None}
 use Rattle.atomic_table.specs.Seated.{TableId}
 use Rattle.live_board.specs.Seats.{AllAt}
-use Rattle.live_board.specs.Seats.{SeatIs as Place}
 use Rattle.okws_outer.specs.Conns.{ConnWire}
 use Rattle.okws_outer.specs.Doors.{Entrance}
 use Rattle.okws_plan.specs.declared.configuration.Config.{Config}
@@ -12,12 +11,13 @@ use Rattle.site_worker.specs.Lives.{Life}
 use Rattle.site_worker.specs.declared.console.Overseen.{Overseen}
 use Rattle.site_worker.specs.declared.door.Attended.{Attended}
 use Rattle.turn_lock.specs.Seats.{TurnIs}
+use Rattle.site_run.specs.Places.{PlacesAre}
+use Rattle.site_run.specs.Rows.{WorksAs}
 use Rattle.okws_serve.specs.Doors.{ServesConsole, is_fault}
 use Rattle.okws_serve.specs.Posts.{DoorIs, ConsoleIs, WorksAt}
-use Rattle.okws_serve.specs.Rows.{PlacesAre, WorksAs, AreManned, ArePosted, AllDone, AllWork, AllAttended, doors_of}
+use Rattle.okws_serve.specs.Manned.{AreManned, ArePosted, AllDone, AllWork, AllAttended, doors_of}
 use Rattle.okws_serve.specs.declared.post.Post.{Post}
 use Rattle.okws_serve.specs.declared.post.Post.TheVariants.{Door, Console}
-use Rattle.okws_serve.proofs.Manning.{Done}
 use Rattle.okws_serve.proofs.Running.{AllServed, all_back, attended_at, console_served, here_overseen, posted_many, works_many}
 
 -- the posts of a run, once the console's is there

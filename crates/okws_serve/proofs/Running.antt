@@ -1,5 +1,5 @@
 -- Workers at their posts, from the beginning of a run to its end.
-use Rattle.std.proofs.Common.{◌≡◌, ◌⊎◌, inl, inr, ℕ, suc, ◌+◌, ◌<◌, ◌≤◌, Bool, ◌||◌, List, [], ◌∷◌, ◌++◌, length, map, refl, sym, ap, ◌∙◌, subst, arith, append_assoc, append-nil}
+use Rattle.std.proofs.Common.{◌≡◌, ℕ, suc, ◌+◌, ◌≤◌, Bool, ◌||◌, List, [], ◌∷◌, ◌++◌, length, map, refl, sym, ap, ◌∙◌, subst, arith, append_assoc, append-nil}
 use Rattle.std.specs.Prelude.{Some, None, IsSome, IsNone, option_to_list}
 use Rattle.std.specs.declared.option.Option.{Option}
 use Rattle.atomic_table.specs.Seated.{TableId}
@@ -11,20 +11,21 @@ use Rattle.okws_outer.specs.Conns.{ConnWire}
 use Rattle.okws_outer.specs.Doors.{Entrance}
 use Rattle.okws_plan.specs.declared.configuration.Config.{Config}
 use Rattle.site_worker.specs.Commands.{Oversees}
-use Rattle.site_worker.specs.Lives.{Life}
 use Rattle.site_worker.specs.declared.console.Overseen.{Overseen}
 use Rattle.site_worker.specs.declared.door.Attended.{Attended}
 use Rattle.turn_lock.specs.Seats.{TurnIs}
-use Rattle.okws_serve.specs.Doors.{AllIdle, ServesConsole, any_starved, is_fault}
+use Rattle.site_run.specs.Places.{AllIdle, PlacesAre, Placed, HasPlaces, SamePlaces}
+use Rattle.site_run.specs.Rows.{ChairsAre, Spacious, SameRoom, WorksAs}
+use Rattle.site_run.proofs.Lists.{rising_pop}
+use Rattle.site_run.proofs.Seating.{push_length}
+use Rattle.okws_serve.specs.Doors.{ServesConsole, any_starved, is_fault}
 use Rattle.okws_serve.specs.Posts.{DoorIs, ConsoleIs, OverseenBy, OverseenIf, WorksAt}
-use Rattle.okws_serve.specs.Rows.{ChairsAre, PlacesAre, Placed, Spacious, SameRoom, HasPlaces, SamePlaces, WorksAs, AreManned, ArePosted, AllWork, AllAttended, DoorsDone, doors_of, attended_of, served_of}
+use Rattle.okws_serve.specs.Manned.{ArePosted, AllWork, AllAttended, DoorsDone, doors_of, attended_of, served_of}
 use Rattle.okws_serve.specs.declared.post.Post.{Post}
 use Rattle.okws_serve.specs.declared.post.Post.TheVariants.{Door, Console}
-use Rattle.okws_serve.proofs.Leaving.{served_push, counts_on, starved_push}
-use Rattle.okws_serve.proofs.Lists.{rising_pop}
-use Rattle.okws_serve.proofs.Manning.{Done, all_done, doors_push, works_on, works_pop}
+use Rattle.okws_serve.proofs.Left.{served_push, counts_on, starved_push}
+use Rattle.okws_serve.proofs.Manned.{Done, all_done, doors_push, works_on, works_pop}
 use Rattle.okws_serve.proofs.Posting.{idle_pop}
-use Rattle.okws_serve.proofs.Seating.{push_length}
 
 -- the last of the places of doors
 pub placed_pop : (z : TableId) (x y : PlacesAre) (e : Entrance) (p : Place) → x.entrances ≡ y.entrances ++ e ∷ [] → x.places ≡ y.places ++ p ∷ [] → Placed z x

@@ -1,7 +1,7 @@
 -- How many connections were begun at all doors of a run.
-use Rattle.std.proofs.Common.{◌≡◌, ℕ, zero, suc, ◌+◌, ◌<◌, ◌≤◌, ◌-◌, ◌^◌, min, Bool, true, false, ◌||◌, List, [], ◌∷◌, ◌++◌, length, map, refl, sym, ap, ◌∙◌, subst, arith, rules, append-nil}
+use Rattle.std.proofs.Common.{◌≡◌, ℕ, suc, ◌+◌, ◌<◌, ◌≤◌, ◌-◌, min, Bool, true, false, ◌||◌, List, [], ◌∷◌, length, map, refl, sym, ap, ◌∙◌, subst, arith, rules, append-nil}
 use Rattle.std.proofs.lemmas.Bool.{true≢false}
-use Rattle.live_board.specs.Board.{AllUnder, drawn_by}
+use Rattle.live_board.specs.Board.{drawn_by}
 use Rattle.live_board.specs.Seats.{IsFresh}
 use Rattle.live_board.specs.Seats.{SeatIs as Place}
 use Rattle.atomic_table.specs.Seated.{TableId}
@@ -11,17 +11,18 @@ use Rattle.okws_outer.specs.Streams.{Rose, counted}
 use Rattle.okws_plan.specs.declared.configuration.Config.{Config}
 use Rattle.http_front.specs.declared.kept.Kept.{Kept}
 use Rattle.door_worker.specs.Replies.{Replied}
-use Rattle.door_worker.specs.Serving.{Serves, ServesOne}
+use Rattle.door_worker.specs.Serving.{Serves}
 use Rattle.door_worker.specs.declared.serving.Serving.{Serving}
 use Rattle.door_worker.specs.declared.serving.Serving.TheVariants as serving
 use Rattle.site_worker.specs.Handling.{Handles}
 use Rattle.site_worker.specs.Lives.{Life, Starves}
 use Rattle.site_worker.specs.Rounds.{Attends, Rounds, IsLast, is_starved}
 use Rattle.site_worker.specs.declared.door.Attended.{Attended}
-use Rattle.okws_serve.specs.Doors.{Tally, TalliesAt, AllTally, AttendsAt, AllAttend, connections_of, begun_of, total, any_starved, ServesDoors}
+use Rattle.site_run.specs.Places.{PlacesAre}
+use Rattle.site_run.specs.Whole.{AllDrewAt, AllDrawn}
+use Rattle.okws_serve.specs.Doors.{Tally, TalliesAt, AllTally, AllAttend, connections_of, begun_of, total, any_starved, ServesDoors}
 use Rattle.okws_serve.specs.Posts.{DoorIs, AttendedBy}
-use Rattle.okws_serve.specs.Rows.{AllAttended, DoorsDone, PlacesAre, served_of}
-use Rattle.okws_serve.specs.Whole.{AllDrewAt, AllDrawn}
+use Rattle.okws_serve.specs.Manned.{AllAttended, DoorsDone, served_of}
 use Rattle.okws_serve.proofs.Counting.{one_below, below, below-all, one-below, none-below, sum_below, sum-all, last-below}
 
 -- a count after more faults is at least what it was

@@ -1,5 +1,5 @@
 -- Workers that are put to doors, one after the other.
-use Rattle.std.proofs.Common.{◌≡◌, ℕ, suc, List, [], ◌∷◌, ◌++◌, length, map, refl, sym, ap, ◌∙◌, subst, arith}
+use Rattle.std.proofs.Common.{◌≡◌, ℕ, suc, List, [], ◌∷◌, ◌++◌, length, map, sym, ap, ◌∙◌, subst}
 use Rattle.std.specs.Prelude.{None}
 use Rattle.atomic_table.specs.Seated.{TableId}
 use Rattle.live_board.specs.Seats.{SeatIs as Place}
@@ -7,13 +7,15 @@ use Rattle.live_board.specs.Seats.{IsFresh}
 use Rattle.okws_outer.specs.Doors.{Entrance}
 use Rattle.site_worker.specs.Lives.{Life}
 use Rattle.turn_lock.specs.Seats.{TurnIs}
+use Rattle.site_run.specs.Places.{PlacesAre, Placed}
+use Rattle.site_run.specs.Rows.{WorksAs}
+use Rattle.site_run.proofs.Seating.{push_length}
 use Rattle.okws_serve.specs.Posts.{DoorIs, ConsoleIs}
-use Rattle.okws_serve.specs.Rows.{PlacesAre, Placed, WorksAs, IsManned, AreManned, doors_of}
+use Rattle.okws_serve.specs.Manned.{IsManned, AreManned, doors_of}
 use Rattle.okws_serve.specs.declared.post.Post.{Post}
 use Rattle.okws_serve.specs.declared.post.Post.TheVariants.{Door}
-use Rattle.okws_serve.proofs.Manning.{entrances_next, manned_push}
+use Rattle.okws_serve.proofs.Manned.{entrances_next, manned_push}
 use Rattle.okws_serve.proofs.Running.{placed_pop}
-use Rattle.okws_serve.proofs.Seating.{push_length}
 
 -- a worker is put to the last door of the row
 pub manned_next : (t : TurnIs) (z : TableId) (most : ℕ) (x y : PlacesAre) (ps qs : List (Post DoorIs ConsoleIs)) (d : DoorIs) (e : Entrance) (p : Place) (J : Life) (k : ℕ)

@@ -1,13 +1,14 @@
 -- A run while its workers are at their posts, and what it leaves.
-use Rattle.std.proofs.Common.{◌≡◌, ℕ, ◌+◌, ◌≤◌, List, length, refl, sym, ap, ◌∙◌, subst, arith}
+use Rattle.std.proofs.Common.{◌≡◌, ℕ, List, length, sym, ◌∙◌, subst, arith}
 use Rattle.std.proofs.lemmas.Bool.{true≢false}
 use Rattle.std.specs.Prelude.{Some, None, IfSome, IfNone, IsSome, IsNone}
 use Rattle.std.specs.declared.option.Option.{Option}
 use Rattle.live_board.specs.Seats.{AllAt, BoardIs}
 use Rattle.okws_plan.specs.declared.configuration.Config.{Config}
 use Rattle.turn_lock.specs.Seats.{TurnIs}
-use Rattle.okws_serve.specs.Rows.{ChairsAre, PlacesAre, Seated, Spacious, SameRoom}
-use Rattle.okws_serve.specs.Whole.{IsHeld, IsReady}
+use Rattle.site_run.specs.Rows.{ChairsAre, Seated, Spacious, SameRoom}
+use Rattle.site_run.specs.Places.{PlacesAre}
+use Rattle.site_run.specs.Whole.{IsHeld, IsReady}
 
 -- the seats are held again when the workers left their posts
 pub held_again : (C : Config) (n : ℕ) (turn : TurnIs) (numbers : BoardIs) (cells : List TurnIs) (x y : ChairsAre) (v w : PlacesAre)

@@ -1,21 +1,15 @@
 -- What was done at the doors of a run and at its console.
-use Rattle.std.specs.Prelude.{◌≡◌, ◌≤◌, ℕ, ◌+◌, Bool, true, false, ◌||◌, List, [], ◌∷◌, length, IsNone}
+use Rattle.std.specs.Prelude.{◌≡◌, ◌≤◌, ℕ, ◌+◌, Bool, List, [], ◌∷◌, length, true, false, ◌||◌}
+use Rattle.okws_plan.specs.declared.configuration.Config.{Config}
 use Rattle.okws_outer.specs.Conns.{ConnWire}
 use Rattle.okws_outer.specs.Doors.{Entrance}
 use Rattle.okws_outer.specs.Streams.{counted}
-use Rattle.okws_plan.specs.declared.configuration.Config.{Config}
-use Rattle.named_columns.specs.Counts.{capped}
-use Rattle.site_worker.specs.Commands.{Oversees}
 use Rattle.site_worker.specs.Lives.{Life}
+use Rattle.site_worker.specs.declared.door.Attended.{Attended}
+use Rattle.site_worker.specs.Commands.{Oversees}
 use Rattle.site_worker.specs.Rounds.{Attends}
 use Rattle.site_worker.specs.declared.console.Overseen.{Overseen}
 use Rattle.site_worker.specs.declared.console.Overseen.TheVariants as overseen
-use Rattle.site_worker.specs.declared.door.Attended.{Attended}
-
--- No connection is out at any of these doors.
-abbrev pub AllIdle : List Entrance → Type 0
-AllIdle [] = Unit {0}
-AllIdle (e ∷ es) = IsNone e.out × AllIdle es
 
 -- What was done at a door: so many connections were served whole, so many were cut, and so many did not come.
 pub record Tally : Type 0 where

@@ -1,9 +1,4 @@
-pub mod Keepers
-pub mod Making
-pub mod Rooms
 pub mod Posts
-pub mod Rows
 pub mod Doors
-pub mod Journals
+pub mod Manned
 pub mod Runs
-pub mod Whole

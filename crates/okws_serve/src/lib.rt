@@ -1,15 +1,11 @@
 //! A run of a server, from its objects to its record.
 #![tactic(auto)]
 
-mod cells;
-mod closing;
-mod columns;
-mod hiring;
-mod order;
+mod leaving;
+mod manning;
 pub mod outfit;
+mod outside;
 mod post;
-mod room;
-mod row;
+mod scene;
 mod scope;
 pub mod serve;
-mod whole;

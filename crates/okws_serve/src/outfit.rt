@@ -1,6 +1,7 @@
 //! What a run is given, and what it leaves.
 
 use monitor_model::record::Record;
+use site_run::ended::Counts;
 
 /// The objects of a run.
 #[derive(Drop)]
@@ -26,21 +27,6 @@ pub struct Limits {
     pub connections: u32,
     /// Whether what happens is kept in memory.
     pub keeps: bool,
-}
-
-/// What is counted of a run.
-#[derive(Clone, Copy, Debug, PartialEq, Eq)]
-pub struct Counts {
-    /// Connections of the doors.
-    pub connections: u64,
-    /// Accepts of okd.
-    pub accepts: u64,
-    /// Ups of okd.
-    pub launches: u64,
-    /// Publications.
-    pub publications: u64,
-    /// Texts that were logged.
-    pub logged: u64,
 }
 
 /// What a run did.

@@ -4,7 +4,6 @@ ghost use Rattle.std.specs.Prelude.{◌≡◌, ◌≤◌, [], IsNone, None};
 ghost use Rattle.okws_base.specs.declared.limit.TheConstants.{MOST_CONNECTIONS};
 ghost use Rattle.okws_serve.specs.Posts.{AttendedIf, OverseenIf, WorksAt, IsSteered};
 
-use crate::room::Desk;
 use admin_console::reader::Reader;
 use cell_locks::named::CellNames;
 use live_board::Board;
@@ -17,6 +16,7 @@ use okws_outer::keeper::Keeper;
 use okws_outer::stream::Sink;
 use okws_plan::configuration::Config;
 use site_locks::named::Site;
+use site_run::room::Desk;
 use site_worker::console::Overseen;
 use site_worker::door::Attended;
 use site_worker::worker::Worker;

@@ -13,9 +13,9 @@ use Rattle.okws_plan.specs.declared.configuration.Config.{Config}
 use Rattle.okws_plan.specs.declared.configuration.Table.{Table}
 use Rattle.command_line.specs.Asked.{Serving}
 use Rattle.config_reader.specs.Ruled.{AreRuled}
-use Rattle.okws_serve.specs.Doors.{AllIdle}
-use Rattle.okws_serve.specs.Keepers.{KeeperIs, IsKeeper, AreKeepers, are_steady}
-use Rattle.okws_serve.specs.Runs.{IsServable}
+use Rattle.site_run.specs.Places.{AllIdle}
+use Rattle.site_run.specs.Keepers.{KeeperIs, IsKeeper, AreKeepers, are_steady}
+use Rattle.site_run.specs.Making.{IsServable}
 use Rattle.okws_server.specs.Served.{IsServing, IsStock}
 
 -- the keeper of a proxy, made for its tables

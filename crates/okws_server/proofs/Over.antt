@@ -9,7 +9,7 @@ use Rattle.okws_outer.specs.Conns.{ConnWire}
 use Rattle.okws_outer.specs.Doors.{Entrance, new_entrance}
 use Rattle.okws_outer.specs.Racks.{Misses, with_opened, with_closed}
 use Rattle.okws_plan.specs.declared.configuration.Config.{Config}
-use Rattle.okws_serve.specs.Keepers.{KeeperIs}
+use Rattle.site_run.specs.Keepers.{KeeperIs}
 use Rattle.okws_serve.specs.Runs.{Runs, StartIs}
 use Rattle.okws_serve.specs.declared.outfit.Ran.{Ran}
 use Rattle.okws_server.specs.Served.{IsUntouched, RanAt, RanLogged, RanOver, RanUnlogged}

@@ -1,6 +1,6 @@
 -- What is printed of the counts of a server's run.
 use Rattle.std.specs.Prelude.{ℕ, List, [], ◌∷◌, ◌++◌, codes, decimal}
-use Rattle.okws_serve.specs.declared.outfit.Counts.{Counts}
+use Rattle.site_run.specs.declared.ended.Counts.{Counts}
 
 -- A name that ends in a space, a number, and LF.
 abbrev pub count_line : List ℕ → ℕ → List ℕ

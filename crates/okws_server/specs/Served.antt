@@ -14,8 +14,9 @@ use Rattle.okws_outer.specs.Shelf.{Reads}
 use Rattle.okws_outer.specs.Streams.{AppendsPrefix, Rose}
 use Rattle.okws_plan.specs.declared.configuration.Config.{Config}
 use Rattle.monitor_model.specs.declared.record.Record.{Record}
-use Rattle.okws_serve.specs.Keepers.{KeeperIs, AreKeepers, are_steady}
-use Rattle.okws_serve.specs.Runs.{Runs, StartIs, IsServable}
+use Rattle.site_run.specs.Keepers.{KeeperIs, AreKeepers, are_steady}
+use Rattle.site_run.specs.Making.{IsServable}
+use Rattle.okws_serve.specs.Runs.{Runs, StartIs}
 use Rattle.okws_serve.specs.declared.outfit.Ran.{Ran}
 use Rattle.okws_server.specs.Counting.{counts_text}
 use Rattle.okws_server.specs.Ending.{Told, no_memory_line, read_fault_line}

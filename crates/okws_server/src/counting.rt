@@ -7,7 +7,7 @@ ghost use Rattle.okws_server.specs.Counting.{count_line, counts_text};
 use itoa::Buffer;
 use okws_outer::printing::print;
 use okws_outer::stream::Sink;
-use okws_serve::outfit::Counts;
+use site_run::ended::Counts;
 
 /// Prints a line of a name and a number. Takes no memory.
 #[tactic(auto, using(okws_outer::proofs::Printed::then_on))]

@@ -5,7 +5,7 @@ ghost use Rattle.std.specs.Arc.{arc_value};
 ghost use Rattle.okws_base.specs.declared.limit.TheConstants.{MOST_PROXIES};
 ghost use Rattle.okws_plan.specs.Sound.{IsSound};
 ghost use Rattle.config_reader.specs.Ruled.{AreRuled};
-ghost use Rattle.okws_serve.specs.Keepers.{AreKeepers, IsKeeper, are_steady, keeper_of};
+ghost use Rattle.site_run.specs.Keepers.{AreKeepers, IsKeeper, are_steady, keeper_of};
 ghost use Rattle.okws_server.specs.Served.{IsStock};
 
 use index_keeper::IndexKeeper;

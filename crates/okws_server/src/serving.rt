@@ -3,7 +3,7 @@
 ghost use Rattle.std.specs.Prelude.{◌≡◌, IfSome, IsNone, IsSome, map};
 ghost use Rattle.std.specs.Arc.{arc_value};
 ghost use Rattle.okws_outer.specs.Racks.{IsNewSink};
-ghost use Rattle.okws_serve.specs.Keepers.{keeper_of};
+ghost use Rattle.site_run.specs.Keepers.{keeper_of};
 ghost use Rattle.okws_server.specs.Served.{IsGround, IsUntouched, RanAt, RanLogged, RanOver, RanUnlogged, serving_of};
 ghost use Rattle.okws_server.specs.Views.{gear_of};
 

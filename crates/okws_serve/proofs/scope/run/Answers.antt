@@ -1,8 +1,8 @@
-use Rattle.std.proofs.Common.{rules, arith, ◌≡◌, ◌<◌, ◌≤◌, ◌+◌, suc, ◌∙◌, [], ◌∷◌, ◌++◌, length, refl, sym, ap, subst}
+use Rattle.std.proofs.Common.{rules, arith, ◌≡◌, ◌≤◌, ◌+◌, suc, ◌∙◌, length}
 use Rattle.std.specs.Prelude.{vec_len}
+use Rattle.site_run.proofs.Seating.{chairs_many}
 use Rattle.okws_serve.proofs.Finishing.{console_back, last_console, overseer_back, places_back, some_posts}
-use Rattle.okws_serve.proofs.Running.{all_served, doors_done, here_overseen, overseen_some, same_places, same_room, still_places, still_spacious}
-use Rattle.okws_serve.proofs.Seating.{chairs_many, push_length}
+use Rattle.okws_serve.proofs.Running.{all_served, doors_done, here_overseen, overseen_some, same_room, still_places, still_spacious}
 use Rattle.okws_serve.proofs.scope.run.Goals as goal
 
 pub launch_all-requires-clause-some : goal.launch_all-requires-clause-some

@@ -1,4 +1,4 @@
-use Rattle.okws_serve.proofs.Manning.{works_each}
+use Rattle.okws_serve.proofs.Manned.{works_each}
 use Rattle.okws_serve.proofs.scope.work_all.Goals as goal
 
 pub returns : goal.returns

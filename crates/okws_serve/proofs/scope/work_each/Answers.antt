@@ -1,4 +1,4 @@
-use Rattle.std.proofs.Common.{rules, ◌≡◌, sym, subst, slice_index_or}
+use Rattle.std.proofs.Common.{subst, slice_index_or}
 use Rattle.okws_serve.proofs.scope.work_each.Goals as goal
 
 pub returns-clause-each : goal.returns-clause-each

@@ -1,5 +1,5 @@
-use Rattle.std.proofs.Common.{rules, ◌≡◌, ◌∙◌, length, sym, ap, subst}
-use Rattle.okws_serve.specs.Rows.{AllWork}
+use Rattle.std.proofs.Common.{rules, ◌≡◌, length, sym, subst}
+use Rattle.okws_serve.specs.Manned.{AllWork}
 use Rattle.okws_serve.proofs.Posting.{put_back}
 use Rattle.okws_serve.proofs.Running.{works_many}
 use Rattle.okws_serve.proofs.scope.work_posts.Goals as goal

@@ -1,5 +1,5 @@
 use Rattle.std.proofs.Common.{List, map, sym, ap, subst}
-use Rattle.okws_serve.specs.Doors.{AllIdle}
+use Rattle.site_run.specs.Places.{AllIdle}
 use Rattle.okws_serve.proofs.Surviving.{always_none, none_some, none_then}
 use Rattle.okws_serve.proofs.serve.serve_numbered.Goals as goal
 

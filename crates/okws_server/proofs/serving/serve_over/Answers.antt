@@ -2,7 +2,7 @@ use Rattle.std.proofs.Common.{List, arith, map, refl}
 use Rattle.std.specs.Prelude.{vec_len}
 use Rattle.std.specs.Arc.{arc_value}
 use Rattle.index_keeper.specs.contracts.keeper.IndexKeeperKeeper.TheImpl as row
-use Rattle.okws_serve.specs.Keepers.{KeeperIs, are_steady, faults_at, keeper_of}
+use Rattle.site_run.specs.Keepers.{KeeperIs, are_steady, faults_at, keeper_of}
 use Rattle.okws_server.specs.Served.{serving_of}
 use Rattle.okws_server.specs.Views.{Gear, gear_of}
 use Rattle.okws_server.proofs.Grounds.{doors_many, new_idle}

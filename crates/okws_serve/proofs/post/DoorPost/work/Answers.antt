@@ -1,6 +1,5 @@
-use Rattle.std.proofs.Common.{rules, ◌≡◌, ◌∙◌, not, refl, ap, subst}
-use Rattle.okws_serve.specs.Posts.{DoorIs, AttendedIf}
-use Rattle.okws_serve.proofs.Attending.{may_draw, attended_now, attended_before}
+use Rattle.std.proofs.Common.{◌∙◌, not, ap}
+use Rattle.okws_serve.proofs.Attending.{may_draw}
 use Rattle.okws_serve.proofs.post.DoorPost.work.Goals as goal
 
 pub attend-attended-requires-clause-may : goal.attend-attended-requires-clause-may

@@ -1,0 +1,43 @@
+use Rattle.std.proofs.Common.{arith, ◌≡◌, map, length, refl, sym, ap, ◌∙◌, subst}
+use Rattle.std.specs.Prelude.{IsSome}
+use Rattle.site_run.specs.Places.{AllIdle}
+use Rattle.site_run.specs.Keepers.{keeper_of}
+use Rattle.site_run.specs.Closing.{AllKept}
+use Rattle.site_run.specs.Whole.{AllDrawn}
+use Rattle.okws_serve.specs.Doors.{ServesConsole, ServesDoors, is_fault}
+use Rattle.okws_serve.specs.declared.outfit.Ran.{Ran}
+use Rattle.okws_serve.proofs.Serving.{serves_doors}
+use Rattle.okws_serve.proofs.Surviving.{if_some}
+use Rattle.okws_serve.proofs.scene.end_run.Goals as goal
+
+pub returns-clause-idle : goal.returns-clause-idle
+returns-clause-idle g c =
+    subst AllIdle (sym (ap (λ ds. map g.D.Door.entrance ds) c.left.ensures.objects.0 ∙ c.end-ended.ensures.doors)) c.requires.idle
+
+pub returns-clause-some : goal.returns-clause-some
+returns-clause-some g c = (subst IsSome (sym c.left.ensures.ran) refl, subst IsSome (sym c.left.ensures.objects.3) refl)
+
+pub returns-clause-ran : goal.returns-clause-ran
+returns-clause-ran g c =
+    let wire = g.D.Conn.Conn.wire in
+    let C = g.N.Numbered.site in
+    let n = g.N.Numbered.launcher in
+    let e = c.end-ended.result in
+    let r = c.left.result in
+    let ran : Ran = record { «record» = e.record; counts = e.counts; log_failed = e.log_failed; console_failed = is_fault c.args.overseen; starved = c.args.served.starved } in
+    let keeper = keeper_of g.K.Keeper.tables g.K.Keeper.told g.K.Keeper.faults g.K.Keeper.steady in
+    let doors : map g.D.Door.entrance r.doors.items ≡ c.args.places.entrances = ap (λ ds. map g.D.Door.entrance ds) c.left.ensures.objects.0 ∙ c.end-ended.ensures.doors in
+    if_some r.ran ran _ c.left.ensures.ran (if_some r.log e.log _ c.left.ensures.objects.3 (λ most old w few done console.
+    let many = c.requires.held.doors_many in
+    let served = serves_doors wire C n c.args.scene.hall.numbers.id most (length c.args.places.entrances) old c.args.places c.args.served.connections c.args.served.starved
+    (omega arith) c.requires.held.some refl (subst (λ k. AllDrawn k c.args.places.places) (let k = c.requires.held.numbers_count in let q : c.args.scene.hall.numbers.count ≡ length c.args.places.entrances = omega arith in q) c.end-ended.ensures.drawn) done in
+    record {
+      served = subst (λ k. ServesDoors wire C n most old.entrances (map g.D.Door.entrance r.doors.items) k c.args.served.starved) (sym c.end-ended.ensures.connections)
+          (subst (λ es. ServesDoors wire C n most old.entrances es c.args.served.connections c.args.served.starved) (sym doors) served);
+      steered = subst (λ x. ServesConsole C w (g.O.Conn.wire x) (is_fault c.args.overseen)) (sym c.left.ensures.objects.1) console;
+      laws = c.end-ended.ensures.laws;
+      numbers = c.end-ended.ensures.numbers;
+      counts = c.end-ended.ensures.counts;
+      kept = subst (λ ks. AllKept C g.N.Backed.steady g.N.Backed.keeper_faults 0 (map keeper ks) e.record.proxies) (sym c.left.ensures.objects.2) c.end-ended.ensures.kept;
+      written = c.end-ended.ensures.written;
+    }))

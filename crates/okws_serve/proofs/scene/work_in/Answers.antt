@@ -1,0 +1,53 @@
+use Rattle.std.proofs.Common.{◌≤◌, ℕ, ◌∙◌, length, sym, subst}
+use Rattle.live_board.specs.Seats.{AllAt, BoardIs}
+use Rattle.okws_base.specs.declared.limit.TheConstants.{MOST_CONNECTIONS}
+use Rattle.turn_lock.specs.Seats.{TurnIs}
+use Rattle.site_run.specs.Places.{Placed}
+use Rattle.site_run.specs.Rows.{Seated}
+use Rattle.okws_serve.specs.Manned.{DoorsDone}
+use Rattle.okws_serve.proofs.Surviving.{held_again, ready_spacious}
+use Rattle.okws_serve.proofs.scene.work_in.Goals as goal
+
+pub run-requires-clause-few : goal.run-requires-clause-few
+run-requires-clause-few g c = λ κs within. (c.requires.servable.services, c.requires.servable.templates)
+
+pub run-requires-clause-most : goal.run-requires-clause-most
+run-requires-clause-most g c = λ κs within. subst (λ (m : ℕ). m ≤ MOST_CONNECTIONS) (sym c.ground-common.ensures.setting.1) c.requires.most
+
+pub run-requires-clause-seated : goal.run-requires-clause-seated
+run-requires-clause-seated g c = λ κs within.
+    subst (λ (t : TurnIs). Seated t (length g.N.Numbered.site.services) c.args.chairs.now) (sym c.ground-common.ensures.locks.0) c.requires.ready.held.seated
+
+pub run-requires-clause-placed : goal.run-requires-clause-placed
+run-requires-clause-placed g c = λ κs within. subst (λ (b : BoardIs). Placed b.id c.args.places.now) (sym c.ground-common.ensures.locks.1) c.requires.ready.placed
+
+pub run-requires-clause-alike : goal.run-requires-clause-alike
+run-requires-clause-alike g c = λ κs within. c.requires.ready.held.seats_many ∙ sym c.requires.ready.held.doors_many
+
+pub run-requires-clause-some : goal.run-requires-clause-some
+run-requires-clause-some g c = λ κs within. c.requires.ready.held.some
+
+pub run-requires-clause-room : goal.run-requires-clause-room
+run-requires-clause-room g c = λ κs within.
+    let h = c.args.scene.now.hall in
+    (ready_spacious g.N.Numbered.site g.N.Numbered.launcher h.turn h.numbers h.cells c.args.chairs.now c.args.places.now c.requires.ready, c.requires.ready.roomy)
+
+pub returns-clause-held : goal.returns-clause-held
+returns-clause-held g c =
+    let h = c.args.scene.now.hall in
+    let p = c.run.ensures.places in
+    held_again g.N.Numbered.site g.N.Numbered.launcher h.turn h.numbers h.cells c.args.chairs.now c.run.new.chairs c.args.places.now c.run.new.places c.requires.ready
+    (subst (λ (t : TurnIs). Seated t (length g.N.Numbered.site.services) c.run.new.chairs) c.ground-common.ensures.locks.0 c.run.ensures.seated)
+    c.run.ensures.many c.run.ensures.room (p.0, p.1, subst (λ (b : BoardIs). AllAt b.id c.run.new.places.places) c.ground-common.ensures.locks.1 p.2)
+
+pub returns-clause-idle : goal.returns-clause-idle
+returns-clause-idle g c = c.run.ensures.idle
+
+pub returns-clause-doors : goal.returns-clause-doors
+returns-clause-doors g c =
+    let h = c.args.scene.now.hall in
+    subst (λ (b : BoardIs). DoorsDone g.D.Conn.Conn.wire g.N.Numbered.site g.N.Numbered.launcher b.id c.args.most c.args.places.now c.run.new.places c.run.result.1.connections c.run.result.1.starved) c.ground-common.ensures.locks.1
+    (subst (λ (m : ℕ). DoorsDone g.D.Conn.Conn.wire g.N.Numbered.site g.N.Numbered.launcher c.ground-common.result.numbers.now.id m c.args.places.now c.run.new.places c.run.result.1.connections c.run.result.1.starved) c.ground-common.ensures.setting.1 c.run.ensures.doors)
+
+pub returns-clause-console : goal.returns-clause-console
+returns-clause-console g c = c.run.ensures.console

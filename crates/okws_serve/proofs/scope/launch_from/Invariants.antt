@@ -1,5 +1,0 @@
-use Rattle.std.proofs.Common.{◌≡◌}
-use Rattle.okws_serve.proofs.scope.launch_from.Given as goal
-
-abbrev pub invariant-loop-service : goal.invariant-loop-service
-invariant-loop-service g l = l.seat ≡ record l.fn.seat { seen = l.seat.seen }

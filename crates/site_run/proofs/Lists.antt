@@ -1,0 +1,79 @@
+-- Lists that grow at their ends.
+use Rattle.std.proofs.Common.{◌≡◌, ℕ, suc, ◌+◌, ◌≤◌, Bool, true, List, [], ◌∷◌, ◌++◌, length, map, reverse, ap, ◌∙◌, subst, arith}
+use Rattle.atomic_table.specs.Seated.{TableId}
+use Rattle.okws_base.specs.declared.journal.Entry.{Entry}
+use Rattle.okws_outer.specs.Streams.{counted}
+use Rattle.okws_plan.specs.Configuration.{tables}
+use Rattle.okws_plan.specs.declared.configuration.Config.{Config}
+use Rattle.okws_plan.specs.declared.event.ProxyEvent.{ProxyEvent}
+use Rattle.live_board.specs.Seats.{IsFresh, AreFresh, AreRising}
+use Rattle.live_board.specs.Seats.{SeatIs as Place}
+use Rattle.monitor_model.specs.Cell.{CellLaw}
+use Rattle.monitor_model.specs.Columns.{ProxyLaw, faults}
+use Rattle.monitor_model.specs.Sent.{AreSent}
+use Rattle.monitor_model.specs.Standing.{proxy_grant}
+use Rattle.monitor_model.specs.declared.record.CellEvent.{CellEvent}
+use Rattle.monitor_model.specs.declared.sent.Sent.{Sent}
+use Rattle.named_columns.specs.Launched.{LaunchedBy}
+use Rattle.cell_locks.specs.Row.{Rise}
+use Rattle.site_locks.specs.Sat.{RiseFrom}
+use Rattle.turn_lock.specs.Rows.{AllNone}
+use Rattle.turn_lock.proofs.Rows.{turned_push}
+use Rattle.site_run.specs.Journals.{AllProxies, AllCells}
+use Rattle.site_run.specs.Keepers.{KeeperIs, IsKeeper, AreBacked}
+use Rattle.site_run.specs.Closing.{AllKept}
+use Rattle.site_run.proofs.Seating.{push_length}
+
+pub rise_push : (k m : ℕ) (xs : List ℕ) → m ≡ length xs + k → RiseFrom k xs → RiseFrom k (xs ++ m ∷ [])
+rise_push k m [] e h = (omega arith, tt)
+rise_push k m (x ∷ xs) e h = (h.0, rise_push (suc k) m xs (omega arith) h.1)
+
+pub services_push : (k m : ℕ) (xs : List ℕ) → m ≡ length xs + k → Rise k xs → Rise k (xs ++ m ∷ [])
+services_push k m [] e h = (omega arith, tt)
+services_push k m (x ∷ xs) e h = (h.0, services_push (suc k) m xs (omega arith) h.1)
+
+pub none_push : {E : Type 0} (Js : List (List E)) (J : List E) → J ≡ [] → AllNone Js → AllNone (Js ++ J ∷ [])
+none_push [] J e h = (e, tt)
+none_push (I ∷ Js) J e h = (h.0, none_push Js J e h.1)
+
+-- of keepers that are turned round, the last one of the row is the first
+pub backed_next : {K : Type 0} (f : K → KeeperIs) (C : Config) (steady : Bool) (first : ℕ → ℕ) (p : ℕ) (more left : List K) (k : K) → more ≡ left ++ k ∷ [] → AreBacked C steady first p (reverse (map f more))
+    → IsKeeper C p (f k) × (steady ≡ true → (f k).steady ≡ true) × (first p ≤ (f k).faults) × AreBacked C steady first (suc p) (reverse (map f left))
+backed_next f C steady first p more left k e h = subst (AreBacked C steady first p) (turned_push f more left k e) h
+
+pub kept_push : (C : Config) (steady : Bool) (first : ℕ → ℕ) (p m : ℕ) (ls : List KeeperIs) (l : KeeperIs) (Js : List (List (Entry ProxyEvent))) (J : List (Entry ProxyEvent)) → m ≡ length Js + p → AllKept C steady first p ls Js
+    → l.tables ≡ tables C m → counted (first m) (faults J) ≤ l.faults → (steady ≡ true → faults J ≡ 0) → AllKept C steady first p (ls ++ l ∷ []) (Js ++ J ∷ [])
+kept_push C steady first p m [] l [] J e h t c s =
+    let q : m ≡ p = omega arith in (t ∙ ap (tables C) q, subst (λ x. counted (first x) (faults J) ≤ l.faults) q c, s, tt)
+kept_push C steady first p m [] l (I ∷ Js) J e h t c s = absurd h
+kept_push C steady first p m (k ∷ ls) l [] J e h t c s = absurd h
+kept_push C steady first p m (k ∷ ls) l (I ∷ Js) J e h t c s = (h.0, h.1, h.2, kept_push C steady first (suc p) m ls l Js J (omega arith) h.3 t c s)
+
+pub proxies_push : (C : Config) (seed : List ℕ) (n p m : ℕ) (Js : List (List (Entry ProxyEvent))) (J : List (Entry ProxyEvent)) → m ≡ length Js + p → AllProxies C seed n p Js
+    → ProxyLaw C seed m J → LaunchedBy proxy_grant n J → AllProxies C seed n p (Js ++ J ∷ [])
+proxies_push C seed n p m [] J e h l b = (subst (λ x. ProxyLaw C seed x J) (let q : m ≡ p = omega arith in q) l, b, tt)
+proxies_push C seed n p m (I ∷ Js) J e h l b = (h.0, h.1, proxies_push C seed n (suc p) m Js J (omega arith) h.2 l b)
+
+pub cells_push : (C : Config) (seed : List ℕ) (s m : ℕ) (Js : List (List CellEvent)) (J : List CellEvent) (xs : List (List Sent)) (x : List Sent) → m ≡ length Js + s → AllCells C seed s Js xs
+    → CellLaw J → AreSent C seed m J x → AllCells C seed s (Js ++ J ∷ []) (xs ++ x ∷ [])
+cells_push C seed s m [] J [] x e h l a = (l, subst (λ y. AreSent C seed y J x) (let q : m ≡ s = omega arith in q) a, tt)
+cells_push C seed s m [] J (y ∷ xs) x e h l a = absurd h
+cells_push C seed s m (I ∷ Js) J [] x e h l a = absurd h
+cells_push C seed s m (I ∷ Js) J (y ∷ xs) x e h l a = (h.0, h.1, cells_push C seed (suc s) m Js J xs x (omega arith) h.2 l a)
+
+-- the last of fresh places has the least number
+pub fresh_pop : (z : TableId) (last : ℕ) (as' : List Place) (a : Place) → AreFresh z last (as' ++ a ∷ []) → AreFresh z (suc last) as' × IsFresh z last a
+fresh_pop z last [] a h = (tt, subst (λ x. IsFresh z x a) (let q : 0 + last ≡ last = omega arith in q) h.0)
+fresh_pop z last (b ∷ as') a h =
+    let rest = fresh_pop z last as' a h.1 in
+    let n = push_length as' a in
+    ((subst (λ x. IsFresh z x b) (let q : length (as' ++ a ∷ []) + last ≡ length as' + suc last = omega arith in q) h.0, rest.0), rest.1)
+
+pub rising_push : (z : TableId) (k m : ℕ) (as' : List Place) (a : Place) → m ≡ length as' + k → AreRising z k as' → IsFresh z m a → AreRising z k (as' ++ a ∷ [])
+rising_push z k m [] a e h f = (subst (λ x. IsFresh z x a) (let q : m ≡ k = omega arith in q) f, tt)
+rising_push z k m (b ∷ as') a e h f = (h.0, rising_push z (suc k) m as' a (omega arith) h.1 f)
+
+-- the last of places that rise has the greatest number
+pub rising_pop : (z : TableId) (k m : ℕ) (as' : List Place) (a : Place) → m ≡ length as' + k → AreRising z k (as' ++ a ∷ []) → AreRising z k as' × IsFresh z m a
+rising_pop z k m [] a e h = (tt, subst (λ x. IsFresh z x a) (let q : k ≡ m = omega arith in q) h.0)
+rising_pop z k m (b ∷ as') a e h = let rest = rising_pop z (suc k) m as' a (omega arith) h.1 in ((h.0, rest.0), rest.1)

@@ -1,0 +1,16 @@
+use Rattle.std.proofs.Common.{[], ◌∷◌, ◌++◌, ◌∙◌, length, ap}
+use Rattle.site_run.specs.Rows.{ChairsAre}
+use Rattle.site_run.proofs.Seating.{chairs_back}
+use Rattle.site_run.proofs.row.Chairs.take_back.Goals as goal
+
+pub returns-clause-seated : goal.returns-clause-seated
+returns-clause-seated g c = λ t w h.
+    let e = c.into_seats-seats.ensures in
+    let s = c.into_seats-seats.result.0 in
+    let a = c.into_seats-seats.result.1 in
+    let b = c.into_seats-seats.result.2 in
+    chairs_back t (length g.N.Numbered.site.services) c.args.self.now c.push_reserved.new.self.items c.push_reserved-2.new.self.items c.push_reserved-3.new.self.items s a b c.args.worker
+    (c.push_reserved.ensures.items ∙ ap (λ (x : ChairsAre). x.seats ++ s ∷ []) c.self.view_is)
+    (c.push_reserved-2.ensures.items ∙ ap (λ (x : ChairsAre). x.cells ++ a ∷ []) c.self.view_is)
+    (c.push_reserved-3.ensures.items ∙ ap (λ (x : ChairsAre). x.turns ++ b ∷ []) c.self.view_is)
+    e.number e.cells e.launcher e.rest w h

@@ -1,0 +1,150 @@
+use Rattle.std.proofs.Common.{rules, ◌≡◌, ◌≤◌, ◌<◌, ◌+◌, length, map, sym, ap, ◌∙◌, subst}
+use Rattle.std.proofs.lemmas.List.{length-map}
+use Rattle.turn_lock.specs.Rows.{AllCount, NoneFrom}
+use Rattle.monitor_model.specs.declared.record.Record.{Record}
+use Rattle.site_cell.specs.Held.{by_event}
+use Rattle.cell_locks.specs.Closing.{HasNumber}
+use Rattle.named_columns.specs.Launched.{by_entry}
+use Rattle.site_locks.specs.Closing.{SomeIs}
+use Rattle.site_run.specs.Closing.{AllKept, WritesLog}
+use Rattle.site_run.specs.Journals.{KeepLaws, NameNumbers, AreCounts}
+use Rattle.site_run.specs.Keepers.{keeper_of}
+use Rattle.site_run.specs.Places.{PlacesAre}
+use Rattle.site_run.specs.Rows.{ChairsAre}
+use Rattle.site_run.specs.Whole.{IsHeld}
+use Rattle.site_run.specs.declared.ended.Counts.{Counts}
+use Rattle.site_run.proofs.Closed.{are_seated}
+use Rattle.site_run.proofs.whole.Run.end.Goals as goal
+
+pub end_launcher-past-requires-clause-some : goal.end_launcher-past-requires-clause-some
+end_launcher-past-requires-clause-some g c =
+    let s = c.args.self in
+    let seated = are_seated g.N.Numbered.site g.N.Numbered.launcher s.hall.turn s.hall.numbers s.hall.cells s.chairs s.places c.requires.held in
+    let many : length c.chairs.inside.turns.items ≡ g.N.Numbered.launcher = ap (λ (x : ChairsAre). length x.turns) c.chairs.view_is ∙ seated.turns_many in
+    let doors = c.requires.held.doors_many in
+    search rules
+
+pub end_launcher-past-requires-clause-rest : goal.end_launcher-past-requires-clause-rest
+end_launcher-past-requires-clause-rest g c =
+    let s = c.args.self in
+    (are_seated g.N.Numbered.site g.N.Numbered.launcher s.hall.turn s.hall.numbers s.hall.cells _ s.places (subst (λ (x : ChairsAre). IsHeld g.N.Numbered.site g.N.Numbered.launcher s.hall.turn s.hall.numbers s.hall.cells x s.places) (sym c.chairs.view_is) c.requires.held)).rest
+
+pub end_launcher-past-requires-clause-all : goal.end_launcher-past-requires-clause-all
+end_launcher-past-requires-clause-all g c =
+    let s = c.args.self in
+    (are_seated g.N.Numbered.site g.N.Numbered.launcher s.hall.turn s.hall.numbers s.hall.cells _ s.places (subst (λ (x : ChairsAre). IsHeld g.N.Numbered.site g.N.Numbered.launcher s.hall.turn s.hall.numbers s.hall.cells x s.places) (sym c.chairs.view_is) c.requires.held)).turns
+
+pub push_reserved-requires-2 : goal.push_reserved-requires-2
+push_reserved-requires-2 g c =
+    let s = c.args.self in
+    let seated = are_seated g.N.Numbered.site g.N.Numbered.launcher s.hall.turn s.hall.numbers s.hall.cells s.chairs s.places c.requires.held in
+    let many : length c.chairs.inside.cells.items ≡ g.N.Numbered.launcher = ap (λ (x : ChairsAre). length x.cells) c.chairs.view_is ∙ seated.cells_many in
+    let room = subst (λ (x : ChairsAre). g.N.Numbered.launcher + 1 ≤ x.cells_room) (sym c.chairs.view_is) c.requires.held.cells_roomy in
+    search rules
+
+pub end_columns-columns-requires-clause-all : goal.end_columns-columns-requires-clause-all
+end_columns-columns-requires-clause-all g c =
+    let s = c.args.self in
+    let n = g.N.Numbered.launcher in
+    let seated = are_seated g.N.Numbered.site n s.hall.turn s.hall.numbers s.hall.cells _ s.places (subst (λ (x : ChairsAre). IsHeld g.N.Numbered.site n s.hall.turn s.hall.numbers s.hall.cells x s.places) (sym c.chairs.view_is) c.requires.held) in
+    let doors = subst (λ (x : PlacesAre). length x.entrances + 1 ≡ n) (sym c.places.view_is) c.requires.held.doors_many in
+    let m = length-map c.places.inside.doors.items g.D.Door.entrance in
+    let total : c.len.result + 2 ≡ n + 1 = search rules in
+    λ k l. subst (SomeIs k) (sym c.push_reserved.ensures.items) (seated.some c.end_launcher-past.result.stopped.seats c.end_launcher-past.ensures.numbers.0 k (subst (λ i. k < i) total l))
+
+pub end_cells-cells-requires-clause-counts : goal.end_cells-cells-requires-clause-counts
+end_cells-cells-requires-clause-counts g c =
+    let n = g.N.Numbered.launcher in
+    let doors = subst (λ (x : PlacesAre). length x.entrances + 1 ≡ n) (sym c.places.view_is) c.requires.held.doors_many in
+    let m = length-map c.places.inside.doors.items g.D.Door.entrance in
+    let total : c.len.result + 2 ≡ n + 1 = search rules in
+    subst (λ i. AllCount i c.args.self.hall.cells) (sym total) c.requires.held.cells_count
+
+pub end_cells-cells-requires-clause-all : goal.end_cells-cells-requires-clause-all
+end_cells-cells-requires-clause-all g c =
+    let s = c.args.self in
+    let n = g.N.Numbered.launcher in
+    let seated = are_seated g.N.Numbered.site n s.hall.turn s.hall.numbers s.hall.cells _ s.places (subst (λ (x : ChairsAre). IsHeld g.N.Numbered.site n s.hall.turn s.hall.numbers s.hall.cells x s.places) (sym c.chairs.view_is) c.requires.held) in
+    let doors = subst (λ (x : PlacesAre). length x.entrances + 1 ≡ n) (sym c.places.view_is) c.requires.held.doors_many in
+    let m = length-map c.places.inside.doors.items g.D.Door.entrance in
+    let total : c.len.result + 2 ≡ n + 1 = search rules in
+    λ k l. subst (HasNumber k) (sym c.push_reserved-2.ensures.items) (seated.numbered c.end_launcher-past.result.stopped.cells c.end_launcher-past.ensures.numbers.1 k (subst (λ i. k < i) total l))
+
+pub returns-clause-doors : goal.returns-clause-doors
+returns-clause-doors g c = ap (map g.D.Door.entrance) c.told.ensures.objects.0 ∙ ap (λ (x : PlacesAre). x.entrances) c.places.view_is
+
+pub returns-clause-laws : goal.returns-clause-laws
+returns-clause-laws g c =
+    let columns = c.end_columns-columns in
+    let cells = c.end_cells-cells in
+    let proxies : length columns.result.proxies.pasts.items ≡ length g.N.Numbered.site.proxies = (let q = columns.ensures.many in search rules) in
+    let services : length cells.result.events.items ≡ length g.N.Numbered.site.services = (let q = cells.ensures.many in search rules) in
+    subst (λ (R : Record). KeepLaws g.N.Numbered.site g.N.Numbered.run_seed g.N.Numbered.launcher R) (sym c.told.ensures.journals)
+    (record {
+      okd = (columns.ensures.okd.0, columns.ensures.okd.1);
+      proxies = columns.ensures.proxies.0;
+      proxies_are = proxies;
+      pubd = (columns.ensures.pubd.0, columns.ensures.pubd.1);
+      oklogd = (columns.ensures.oklogd.0, columns.ensures.oklogd.1);
+      launcher = c.end_launcher-past.ensures.law;
+      cells = cells.ensures.cells;
+      cells_are = services;
+    })
+
+pub returns-clause-numbers : goal.returns-clause-numbers
+returns-clause-numbers g c =
+    let n = g.N.Numbered.launcher in
+    let doors = subst (λ (x : PlacesAre). length x.entrances + 1 ≡ n) (sym c.places.view_is) c.requires.held.doors_many in
+    let m = length-map c.places.inside.doors.items g.D.Door.entrance in
+    let total : c.len.result + 2 ≡ n + 1 = search rules in
+    let columns = c.end_columns-columns in
+    let cells = c.end_cells-cells in
+    let workers : length columns.result.workers.items ≡ n = (let q = columns.ensures.workers in search rules) in
+    subst (λ (R : Record). NameNumbers n R) (sym c.told.ensures.journals)
+    (record {
+      okd = λ k l. columns.ensures.okd.2 k (subst (λ i. i ≤ k) (sym total) l);
+      proxies = subst (λ i. NoneFrom by_entry i columns.result.proxies.pasts.items) total columns.ensures.proxies.1;
+      pubd = λ k l. columns.ensures.pubd.2 k (subst (λ i. i ≤ k) (sym total) l);
+      oklogd = λ k l. columns.ensures.oklogd.2 k (subst (λ i. i ≤ k) (sym total) l);
+      cells = subst (λ i. NoneFrom (by_event n) i cells.result.events.items) total cells.ensures.none;
+      launcher = λ k l. c.end_launcher-past.ensures.none k (subst (λ i. i ≤ k) (sym c.requires.held.turn_count) l);
+      workers = workers;
+    })
+
+pub returns-clause-counts : goal.returns-clause-counts
+returns-clause-counts g c =
+    let columns = c.end_columns-columns in
+    let now : Counts = record {
+      connections = c.args.connections;
+      accepts = columns.result.okd.accepts;
+      launches = columns.result.okd.launches;
+      publications = columns.result.pubd.publications;
+      logged = columns.result.oklogd.logged;
+    } in
+    subst (λ (k : Counts). AreCounts g.N.Numbered.site c.told.result.record k) (sym (c.told.ensures.counts ∙ c.counted-counts.ensures))
+    (subst (λ (R : Record). AreCounts g.N.Numbered.site R now) (sym c.told.ensures.journals)
+    (record {
+      accepts_are = columns.ensures.accepts;
+      launches_are = columns.ensures.launches;
+      publications_are = columns.ensures.publications;
+      logged_are = columns.ensures.logged;
+    }))
+
+pub returns-clause-connections : goal.returns-clause-connections
+returns-clause-connections g c = ap (λ (k : Counts). k.connections) (c.told.ensures.counts ∙ c.counted-counts.ensures)
+
+pub returns-clause-kept : goal.returns-clause-kept
+returns-clause-kept g c =
+    let columns = c.end_columns-columns in
+    let keeper = keeper_of g.K.Keeper.tables g.K.Keeper.told g.K.Keeper.faults g.K.Keeper.steady in
+    subst (λ ks. AllKept g.N.Numbered.site g.N.Backed.steady g.N.Backed.keeper_faults 0 (map keeper ks) c.told.result.record.proxies) (sym c.told.ensures.objects.1)
+    (subst (λ (R : Record). AllKept g.N.Numbered.site g.N.Backed.steady g.N.Backed.keeper_faults 0 (map keeper columns.result.proxies.keepers.items) R.proxies) (sym c.told.ensures.journals) columns.ensures.kept)
+
+pub returns-clause-written : goal.returns-clause-written
+returns-clause-written g c =
+    let columns = c.end_columns-columns in
+    let first = g.N.Backed.sink_faults in
+    let r = c.told.result in
+    subst (λ (R : Record). WritesLog g.N.Numbered.site R.oklogd (g.S.Sink.given r.log) first (g.S.Sink.faults r.log) r.log_failed) (sym c.told.ensures.journals)
+    (subst (λ s. WritesLog g.N.Numbered.site columns.result.oklogd.past (g.S.Sink.given s) first (g.S.Sink.faults s) r.log_failed) (sym c.told.ensures.objects.2)
+    (subst (λ b. WritesLog g.N.Numbered.site columns.result.oklogd.past (g.S.Sink.given columns.result.oklogd.sink) first (g.S.Sink.faults columns.result.oklogd.sink) b) (sym c.told.ensures.objects.3) columns.ensures.written))

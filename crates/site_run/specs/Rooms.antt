@@ -1,0 +1,43 @@
+-- Memory that a run takes before it begins.
+use Rattle.std.specs.Prelude.{◌≡◌, ◌≤◌, ℕ, List, [], length}
+use Rattle.okws_plan.specs.declared.configuration.Config.{Config}
+use Rattle.launch_journal.specs.Launches.{Launches}
+use Rattle.live_board.specs.Seats.{BoardIs, AreRising}
+use Rattle.live_board.specs.Seats.{SeatIs as Place}
+
+-- An empty vector, of this length and this capacity, has room for n items.
+pub record HasRoom (n len capacity : ℕ) : Type 0 where
+  pub empty : len ≡ 0
+  pub room : n ≤ capacity
+
+-- What a launcher of this site and this seed takes, which did nothing yet.
+pub record ArePapers (C : Config) (seed : List ℕ) (journal : Launches) (site : Config) (own_seed : List ℕ) : Type 0 where
+  pub config_is : journal.config ≡ C
+  pub none : journal.past ≡ []
+  pub site_is : site ≡ C
+  pub seed_is : own_seed ≡ seed
+
+-- A board for the numbers of connections and so many seats at it, those of number 0 first, from which nothing was drawn.
+pub record AreOffered (doors : ℕ) (numbers : BoardIs) (places : List Place) : Type 0 where
+  pub count_is : numbers.count ≡ doors
+  pub many : length places ≡ doors
+  pub rising : AreRising numbers.id 0 places
+
+-- What a run needs beside its locks: the site, what its launcher takes, the numbers of its connections, how many lines of the console were read, and for how many doors there is room at its end.
+pub record StockIs : Type 0 where
+  pub shown : Config
+  pub journal : Launches
+  pub site : Config
+  pub seed : List ℕ
+  pub numbers : BoardIs
+  pub places : List Place
+  pub lines : ℕ
+  pub room : ℕ
+
+-- It is that of a run of this site and this seed with so many doors, which did not begin.
+pub record IsStock (C : Config) (seed : List ℕ) (doors : ℕ) (x : StockIs) : Type 0 where
+  pub shown_is : x.shown ≡ C
+  pub papers : ArePapers C seed x.journal x.site x.seed
+  pub offered : AreOffered doors x.numbers x.places
+  pub first : x.lines ≡ 0
+  pub room_is : x.room ≡ doors

@@ -1,0 +1,229 @@
+//! What a run needs in memory, taken before it begins.
+
+ghost use Rattle.std.specs.Prelude.{◌≡◌, ◌≤◌, ◌<◌, ◌+◌, [], length, map, IfOk, vec_len, IfSome, IfErr};
+ghost use Rattle.std.specs.Arc.{arc_value};
+ghost use Rattle.okws_base.specs.declared.limit.TheConstants.{MOST_DOORS};
+ghost use Rattle.turn_lock.specs.Rows.{AllCount};
+ghost use Rattle.site_locks.specs.Sat.{ids_of};
+ghost use Rattle.site_run.specs.Keepers.{keeper_of, AreBacked};
+ghost use Rattle.site_run.specs.Making.{IsServable};
+ghost use Rattle.site_run.specs.Places.{AllIdle};
+ghost use Rattle.site_run.specs.Rooms.{IsStock};
+ghost use Rattle.site_run.specs.Whole.{IsReady};
+
+use crate::cells::cells;
+use crate::columns::columns;
+use crate::hiring::Papers;
+use crate::room::{Office, Room};
+use crate::whole::{Run, name};
+use admin_console::reader::Reader;
+use cell_locks::making::{NewCells, make_cells};
+use cell_locks::named::CellNames;
+use named_columns::named::Backed;
+use okws_outer::children::Children;
+use okws_outer::door::Door;
+use okws_outer::keeper::Keeper;
+use okws_outer::stream::{Link, Sink};
+use okws_plan::configuration::Config;
+use site_columns::opening::shared;
+use site_locks::making::Made;
+use site_locks::named::Site;
+use std::alloc::{AllocError, Global};
+use std::marker::Model;
+use std::sync::Arc;
+use token_core::Seed;
+
+/// Memory that a run takes before it begins: its columns and its cells, whose locks have no names yet, and
+/// what is needed beside them.
+#[derive(Drop)]
+pub struct Kit<N: Backed, K: Keeper, S: Sink, L: Link> {
+    pub columns: Made<N, K, S>,
+    pub cells: NewCells<N, L>,
+    pub stock: Stock<N, K, L>,
+}
+
+/// What is needed beside the locks.
+#[derive(Drop)]
+pub struct Stock<N: Backed, K: Keeper, L: Link> {
+    site: Arc<Config, Global>,
+    papers: Papers,
+    office: Office,
+    reader: Reader,
+    room: Room<N, K, L>,
+}
+
+impl<N: Backed, K: Keeper, L: Link> Model for Stock<N, K, L> {
+    ghost use Rattle.std.specs.Prelude.{map};
+    ghost use Rattle.std.specs.Arc.{arc_value};
+    ghost use Rattle.site_run.specs.declared.room.Desk.{Desk};
+    ghost use Rattle.site_run.specs.Rooms.{StockIs};
+
+    ghost Value = { StockIs };
+
+    ghost view = { λ x. record { shown = arc_value x.site; journal = x.papers.journal; site = arc_value x.papers.site; seed = x.papers.seed; numbers = x.office.numbers; places = map (λ (d : Desk). d.place) x.office.desks.items; lines = x.reader; room = x.room } };
+}
+
+// The locks of a run's columns for so many workers, at which nothing happened. Where memory is refused, the
+// keepers and the sink are let go.
+fn make_columns<N: Backed, K: Keeper + Drop, S: Sink + Drop>(
+    alloc: Global,
+    site: &Arc<Config, Global>,
+    seed: &Seed,
+    workers: u16,
+    keeps: bool,
+    keepers: Vec<K>,
+    sink: S,
+) -> Result<Made<N, K, S>, AllocError>
+    requires site { arc_value site.now ≡ N.site }
+    requires seed { seed.now ≡ N.run_seed }
+    requires servable { IsServable N.site }
+    requires workers { (workers ≤ MOST_DOORS + 1) × (workers ≡ N.launcher) }
+    requires declared { vec_len keepers ≡ length N.site.proxies }
+    requires keepers { AreBacked N.site N.steady N.keeper_faults 0 (map (keeper_of K.tables K.told K.faults K.steady) keepers.items) }
+    requires log { IfSome (S.given sink) (λ given. given ≡ []) }
+    requires faults { N.sink_faults ≡ S.faults sink }
+{
+    let fresh = columns(alloc, site, seed, keepers, sink, keeps)?;
+    Made::new(alloc, fresh, workers)
+}
+
+// The locks of a run's cells for so many numbers, at which nothing happened.
+fn make_cell_locks<N: Backed, L: Link + Drop>(
+    alloc: Global,
+    site: &Arc<Config, Global>,
+    seed: &Seed,
+    numbers: u16,
+    keeps: bool,
+) -> Result<NewCells<N, L>, AllocError>
+    requires site { arc_value site.now ≡ N.site }
+    requires seed { seed.now ≡ N.run_seed }
+    requires servable { IsServable N.site }
+    requires some { 0 < numbers }
+    ensures { IfOk result (λ c. (c.numbers ≡ numbers) × AllCount numbers c.turns × (length c.turns ≡ length N.site.services)) }
+{
+    let fresh = cells(alloc, site, seed, keeps)?;
+    make_cells(alloc, fresh, numbers)
+}
+
+// What a run with so many doors needs beside its locks.
+fn make_stock<N: Backed, K: Keeper + Drop, L: Link + Drop>(
+    alloc: Global,
+    site: &Arc<Config, Global>,
+    seed: &Seed,
+    doors: u16,
+    keeps: bool,
+) -> Result<Stock<N, K, L>, AllocError>
+    requires site { arc_value site.now ≡ N.site }
+    requires seed { seed.now ≡ N.run_seed }
+    requires doors { (0 < doors) × (doors ≤ MOST_DOORS) }
+    ensures { IfOk result (IsStock N.site N.run_seed doors) }
+{
+    let proxies = site.proxies.as_slice().len();
+    let services = site.services.as_slice().len();
+    let shown = shared(site)?;
+    let papers = Papers::new(alloc, site, seed, keeps)?;
+    let office = Office::new(alloc, doors)?;
+    let reader = Reader::new(alloc)?;
+    let room = Room::new(alloc, proxies, services, doors as usize)?;
+    Ok(Stock {
+        site: shown,
+        papers,
+        office,
+        reader,
+        room,
+    })
+}
+
+/// The memory of a run with so many doors. Where memory is refused, the keepers and the sink are let go.
+pub fn make_kit<N: Backed, K: Keeper + Drop, S: Sink + Drop, L: Link + Drop>(
+    alloc: Global,
+    site: &Arc<Config, Global>,
+    seed: &Seed,
+    doors: u16,
+    keeps: bool,
+    keepers: Vec<K>,
+    sink: S,
+) -> Result<Kit<N, K, S, L>, AllocError>
+    requires site { arc_value site.now ≡ N.site }
+    requires seed { seed.now ≡ N.run_seed }
+    requires servable { IsServable N.site }
+    requires doors { (0 < doors) × (doors ≤ MOST_DOORS) × (N.launcher ≡ doors + 1) }
+    requires declared { vec_len keepers ≡ length N.site.proxies }
+    requires keepers { AreBacked N.site N.steady N.keeper_faults 0 (map (keeper_of K.tables K.told K.faults K.steady) keepers.items) }
+    requires log { IfSome (S.given sink) (λ given. given ≡ []) }
+    requires faults { N.sink_faults ≡ S.faults sink }
+    ensures cells { IfOk result (λ k. (k.cells.numbers ≡ N.launcher + 1) × AllCount (N.launcher + 1) k.cells.turns × (length k.cells.turns ≡ length N.site.services)) }
+    ensures stock { IfOk result (λ k. IsStock N.site N.run_seed doors k.stock) }
+{
+    let columns = make_columns(alloc, site, seed, doors + 1, keeps, keepers, sink)?;
+    let cells = make_cell_locks(alloc, site, seed, doors + 2, keeps)?;
+    let stock = make_stock(alloc, site, seed, doors, keeps)?;
+    Ok(Kit {
+        columns,
+        cells,
+        stock,
+    })
+}
+
+/// A run that began, and what is beside it: the site, the reader of its console's lines, and room for its end.
+pub struct Begun<N: Backed, J: Site, C: CellNames, K: Keeper, S: Sink, F: Children, D: Door> {
+    pub run: Run<N, J, C, K, S, F, D>,
+    pub site: Arc<Config, Global>,
+    pub reader: Reader,
+    pub room: Room<N, K, F::Link>,
+}
+
+/// Gives the locks their names, and begins the run. Where memory is refused, the doors and the children come
+/// back.
+pub fn begin<
+    N: Backed,
+    J: Site,
+    C: CellNames,
+    K: Keeper + Drop,
+    S: Sink + Drop,
+    F: Children + Drop,
+    D: Door,
+>(
+    alloc: Global,
+    kit: Kit<N, K, S, F::Link>,
+    doors: Vec<D>,
+    children: F,
+    keeps: bool,
+) -> Result<Begun<N, J, C, K, S, F, D>, (Vec<D>, F)>
+    requires names { (ids_of kit.columns ≡ J.ids) × (kit.cells.turns ≡ C.cell_turns) }
+    requires cells { (kit.cells.numbers ≡ N.launcher + 1) × AllCount (N.launcher + 1) kit.cells.turns × (length kit.cells.turns ≡ length N.site.services) }
+    requires stock { IsStock N.site N.run_seed (vec_len doors) kit.stock }
+    requires launcher { N.launcher ≡ vec_len doors + 1 }
+    requires servable { IsServable N.site }
+    requires doors { (0 < vec_len doors) × (vec_len doors ≤ MOST_DOORS) }
+    requires idle { AllIdle (map D.entrance doors.items) }
+    ensures ready { IfOk result (λ b. IsReady N.site N.launcher b.run.hall.turn b.run.hall.numbers b.run.hall.cells b.run.chairs b.run.places) }
+    ensures doors { IfOk result (λ b. b.run.places.entrances ≡ map D.entrance doors.items) }
+    ensures beside { IfOk result (λ b. (arc_value b.site ≡ N.site) × (b.reader ≡ 0) × (b.room + 1 ≡ N.launcher)) }
+    ensures back { IfErr result (λ b. (b.0.items ≡ doors.items) × (F.family b.1 ≡ F.family children)) }
+{
+    let Kit {
+        columns,
+        cells,
+        stock,
+    } = kit;
+    let Stock {
+        site,
+        papers,
+        office,
+        reader,
+        room,
+    } = stock;
+    match name::<N, J, C, K, S, F::Link>(alloc, columns, cells, keeps) {
+        Err(_) => Err((doors, children)),
+        Ok(named) => {
+            let run = Run::new(alloc, named, papers, office, doors, children, keeps)?;
+            Ok(Begun {
+                run,
+                site,
+                reader,
+                room,
+            })
+        }
+    }
+}

@@ -1,0 +1,239 @@
+//! All that a run has between its beginning and its end.
+
+ghost use Rattle.std.specs.Prelude.{◌≡◌, ◌≤◌, ◌<◌, ◌+◌, length, map, IfOk, vec_len, vec_capacity, IfErr};
+ghost use Rattle.std.specs.Arc.{arc_value};
+ghost use Rattle.okws_base.specs.declared.limit.TheConstants.{MOST_SERVICES, MOST_PROXIES, MOST_DOORS};
+ghost use Rattle.turn_lock.specs.Rows.{AllCount};
+ghost use Rattle.live_board.specs.Seats.{AllAt};
+ghost use Rattle.site_locks.specs.Sat.{ids_of};
+ghost use Rattle.site_run.specs.Closing.{WritesLog, AllKept};
+ghost use Rattle.site_run.specs.Journals.{KeepLaws, NameNumbers, AreCounts};
+ghost use Rattle.site_run.specs.Keepers.{keeper_of};
+ghost use Rattle.site_run.specs.Places.{AllIdle};
+ghost use Rattle.site_run.specs.Rooms.{HasRoom, ArePapers, AreOffered};
+ghost use Rattle.site_run.specs.Whole.{AreNamed, IsHeld, IsReady, AllDrawn};
+
+use crate::closing::{LauncherEnd, end_cells, end_columns, end_launcher};
+use crate::ended::{Ended, LocksEnd, counted};
+use crate::hiring::{Hired, Papers, hire};
+use crate::order::turned;
+use crate::places::Doors;
+use crate::room::{Desk, Office, Room};
+use crate::row::Chairs;
+use cell_locks::locks::CellLocks;
+use cell_locks::making::{NewCells, name_cells};
+use cell_locks::named::CellNames;
+use cell_locks::seats::CellSeats;
+use live_board::{Board, Seat as Place};
+use named_columns::named::Backed;
+use okld_launch::launcher::Launcher;
+use okws_outer::children::Children;
+use okws_outer::door::Door;
+use okws_outer::keeper::Keeper;
+use okws_outer::stream::{Link, Sink};
+use site_locks::locks::{Locks, Seats};
+use site_locks::making::Made;
+use site_locks::named::Site;
+use std::alloc::{AllocError, Global};
+use std::sync::Wait;
+use turn_lock::Turn;
+
+/// The locks of a run's columns and of its cells, and the seats of all numbers at them, those of number 0
+/// first.
+#[derive(Drop)]
+pub(crate) struct Named<N: Backed, J: Site, C: CellNames, K: Keeper, S: Sink, L: Link> {
+    locks: Locks<N, J, K, S>,
+    cells: CellLocks<N, C, L>,
+    seats: Vec<Seats<N, J, K, S>>,
+    at_cells: Vec<CellSeats<N, C, L>>,
+}
+
+/// Gives the locks their names, and each number its seats.
+pub(crate) fn name<
+    N: Backed,
+    J: Site,
+    C: CellNames,
+    K: Keeper + Drop,
+    S: Sink + Drop,
+    L: Link + Drop,
+>(
+    alloc: Global,
+    columns: Made<N, K, S>,
+    cells: NewCells<N, L>,
+    keeps: bool,
+) -> Result<Named<N, J, C, K, S, L>, AllocError>
+    requires columns { ids_of columns ≡ J.ids }
+    requires cells { cells.turns ≡ C.cell_turns }
+    requires counts { (cells.numbers ≡ N.launcher + 1) × AllCount (N.launcher + 1) cells.turns }
+    requires services { length cells.turns ≡ length N.site.services }
+    ensures { IfOk result (λ m. AreNamed N.site N.launcher m.cells m.seats.items m.at_cells.items (vec_capacity m.seats) (vec_capacity m.at_cells)) }
+{
+    let (locks, seats) = columns.share(alloc, keeps)?;
+    let (cells, at_cells) = name_cells(alloc, cells)?;
+    Ok(Named {
+        locks,
+        cells,
+        seats,
+        at_cells: turned(at_cells),
+    })
+}
+
+/// What the workers of a run share: its locks, and the board of its connections' numbers.
+pub struct Hall<N: Backed, J: Site, C: CellNames, K: Keeper, S: Sink, F: Children> {
+    pub locks: Locks<N, J, K, S>,
+    pub cells: CellLocks<N, C, F::Link>,
+    pub turn: Turn<Launcher<N, J, C, K, S, F>>,
+    pub numbers: Board,
+}
+
+/// A run: what its workers share, their seats, and its doors.
+pub struct Run<N: Backed, J: Site, C: CellNames, K: Keeper, S: Sink, F: Children, D: Door> {
+    pub hall: Hall<N, J, C, K, S, F>,
+    pub chairs: Chairs<N, J, C, K, S, F>,
+    pub places: Doors<D>,
+}
+
+impl<
+    N: Backed,
+    J: Site,
+    C: CellNames,
+    K: Keeper + Drop,
+    S: Sink + Drop,
+    F: Children + Drop,
+    D: Door,
+> Run<N, J, C, K, S, F, D> {
+    /// A run in which nothing happened. Where memory is refused, the doors and the children come back.
+    pub(crate) fn new(
+        alloc: Global,
+        named: Named<N, J, C, K, S, F::Link>,
+        papers: Papers,
+        office: Office,
+        doors: Vec<D>,
+        children: F,
+        keeps: bool,
+    ) -> Result<Self, (Vec<D>, F)>
+        requires named { AreNamed N.site N.launcher named.cells named.seats.items named.at_cells.items (vec_capacity named.seats) (vec_capacity named.at_cells) }
+        requires papers { ArePapers N.site N.run_seed papers.journal (arc_value papers.site) papers.seed }
+        requires few { (length N.site.proxies ≤ MOST_PROXIES) × (length N.site.services ≤ MOST_SERVICES) }
+        requires launcher { N.launcher ≡ vec_len doors + 1 }
+        requires doors { (0 < vec_len doors) × (vec_len doors ≤ MOST_DOORS) }
+        requires idle { AllIdle (map D.entrance doors.items) }
+        requires office { AreOffered (vec_len doors) office.numbers (map (λ (d : Desk). d.place) office.desks.items) }
+        ensures ready { IfOk result (λ r. IsReady N.site N.launcher r.hall.turn r.hall.numbers r.hall.cells r.chairs r.places) }
+        ensures doors { IfOk result (λ r. r.places.entrances ≡ map D.entrance doors.items) }
+        ensures back { IfErr result (λ b. (b.0.items ≡ doors.items) × (F.family b.1 ≡ F.family children)) }
+    {
+        let Named {
+            locks,
+            cells,
+            mut seats,
+            mut at_cells,
+        } = named;
+        let Some(own) = seats.pop() else {
+            unreachable!()
+        };
+        let Some(own_cells) = at_cells.pop() else {
+            unreachable!()
+        };
+        let workers = doors.len() as u16 + 1;
+        match hire(alloc, papers, own, own_cells, children, workers, keeps) {
+            Err(children) => Err((doors, children)),
+            Ok(Hired { turn, turns }) => {
+                let Office { numbers, desks } = office;
+                Ok(Run {
+                    hall: Hall {
+                        locks,
+                        cells,
+                        turn,
+                        numbers,
+                    },
+                    chairs: Chairs::of(seats, at_cells, turns),
+                    places: Doors { doors, desks },
+                })
+            }
+        }
+    }
+}
+
+// Ends the board of the connections' numbers by its seats.
+fn end_numbers(numbers: Board, mut desks: Vec<Desk>, room: Vec<Place>) -> u64
+    requires some { 0 < vec_len desks }
+    requires at { AllAt numbers.id (map (λ (d : Desk). d.place) desks.items) }
+    requires room { HasRoom (vec_len desks) (vec_len room) (vec_capacity room) }
+    ensures { AllDrawn numbers.count (map (λ (d : Desk). d.place) desks.items) }
+{
+    let mut places = room;
+    while let Some(desk) = desks.pop() {
+        places.push_reserved(desk.place);
+    }
+    numbers.close(places)
+}
+
+impl<N: Backed, J: Site, C: CellNames, K: Keeper, S: Sink, F: Children, D: Door> Run<
+    N,
+    J,
+    C,
+    K,
+    S,
+    F,
+    D,
+> {
+    /// Stops and finishes all children, and ends all locks. So many connections were served.
+    pub fn end<R: Wait>(
+        self,
+        rt: &R,
+        alloc: Global,
+        room: Room<N, K, F::Link>,
+        connections: u64,
+    ) -> Ended<K, S, F, D>
+        requires held { IsHeld N.site N.launcher self.hall.turn self.hall.numbers self.hall.cells self.chairs self.places }
+        requires room { room + 1 ≡ N.launcher }
+        ensures doors { map D.entrance result.doors.items ≡ self.places.entrances }
+        ensures drawn { AllDrawn self.hall.numbers.count self.places.places }
+        ensures laws { KeepLaws N.site N.run_seed N.launcher result.record }
+        ensures numbers { NameNumbers N.launcher result.record }
+        ensures counts { AreCounts N.site result.record result.counts }
+        ensures connections { result.counts.connections ≡ connections }
+        ensures kept { AllKept N.site N.steady N.keeper_faults 0 (map (keeper_of K.tables K.told K.faults K.steady) result.keepers.items) result.record.proxies }
+        ensures written { WritesLog N.site result.record.oklogd (S.given result.log) N.sink_faults (S.faults result.log) result.log_failed }
+    {
+        let Run {
+            hall,
+            chairs,
+            places,
+        } = self;
+        let Hall {
+            locks,
+            cells,
+            turn,
+            numbers,
+        } = hall;
+        let Chairs {
+            mut seats,
+            cells: mut at_cells,
+            turns,
+        } = chairs;
+        let Doors { doors, desks } = places;
+        let count = doors.len() as u16 + 2;
+        let LauncherEnd { past, stopped } = end_launcher(rt, &cells, turn, turns);
+        let Room {
+            doors: _,
+            columns,
+            cells: cells_room,
+            places,
+        } = room;
+        let _drawn = end_numbers(numbers, desks, places);
+        seats.push_reserved(stopped.seats);
+        at_cells.push_reserved(stopped.cells);
+        let columns = end_columns(locks, seats, count, columns);
+        let cells = end_cells(cells, at_cells, count, cells_room);
+        let counts = counted(&columns, connections);
+        let kept = LocksEnd {
+            columns,
+            cells,
+            launcher: past,
+            launches: stopped.own,
+        };
+        kept.told(alloc, counts, doors, stopped.children)
+    }
+}

@@ -7,8 +7,10 @@ use monitor_model::verdict::{Got, Noted, Push, Verdict};
 use okws_base::items::Items;
 use okws_base::journal::{Entry, Journal};
 use okws_base::value::Token;
+use okws_outer::pinned::Listed;
 use okws_plan::event::{Call, PubdEvent};
 use service_cell::columns::Columns;
+use started_call::Started;
 use std::alloc::{AllocError, Global};
 
 /// The entries and the items of number 0, what the board shows, and how many incarnations are begun while
@@ -36,6 +38,8 @@ impl Bare {
 
 impl Columns for Bare {
     ghost use Rattle.std.specs.Prelude.{[], ◌∷◌, false};
+
+    type Pin = Listed;
 
     ghost asker = { λ b. record {
       config = record { proxies = record { name = []; tables = []; queries = [] } ∷ []; services = record { name = []; words = [] } ∷ []; templates = []; retry = 0; paths = []; grants = []; readables = []; loggers = [] };
@@ -103,7 +107,7 @@ impl Columns for Bare {
         Err(AllocError)
     }
 
-    fn call(&mut self, _proxy: u16, _call: Call) -> Result<Verdict, AllocError> {
+    fn call(&mut self, _proxy: u16, _call: Call) -> Result<Started<Listed>, AllocError> {
         Err(AllocError)
     }
 

@@ -9,6 +9,8 @@ mod log;
 #[cfg(test)]
 mod proxy;
 #[cfg(test)]
+mod reads;
+#[cfg(test)]
 mod site;
 #[cfg(test)]
 mod templates;

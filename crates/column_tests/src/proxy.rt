@@ -4,18 +4,19 @@
 ghost use Rattle.std.specs.Prelude.{◌≡◌, IfOk, Some};
 ghost use Rattle.okws_plan.specs.Configuration.{tables, first_rows};
 
-use crate::site::{bytes, config};
-use db_proxy::{Finished, Proxy, Started, finish};
+use crate::site::{bytes, config, first_value};
+use db_proxy::Proxy;
 use monitor_model::verdict::Verdict;
 use okws_base::denial::Rule;
 use okws_base::items::Items;
 use okws_base::limit::{MOST_INCARNATIONS, MOST_SESSIONS};
 use okws_base::value::{Token, Value};
 use okws_outer::keeper::Keeper;
-use okws_outer::pinned::{Listed, Pinned};
+use okws_outer::pinned::Listed;
 use okws_plan::configuration::{Config, Table};
 use okws_plan::event::Call;
 use row_keeper::ListKeeper;
+use started_call::{Finished, Started, finish};
 use std::alloc::{AllocError, Global};
 use std::marker::Model;
 use std::sync::Arc;
@@ -189,20 +190,6 @@ fn opened(alloc: Global, failing: &[u64]) -> Result<Column, Fail> {
     column.install(OTHER, 1)?;
     let _ = column.open(1, first(GUEST))?;
     Ok(column)
-}
-
-// The first value of the answer, which is found here.
-fn first_value(pin: &mut Listed) -> Option<&Value> {
-    match finish(pin) {
-        Finished::Rows(count) => {
-            if count > 0 && pin.columns() > 0 {
-                Some(pin.value(0, 0))
-            } else {
-                None
-            }
-        }
-        Finished::Denied(_) => None,
-    }
 }
 
 #[test]

@@ -17,7 +17,7 @@ use Rattle.okws_plan.specs.declared.statement.Answer.{Answer}
 use Rattle.okws_plan.specs.declared.statement.Answer.TheVariants.{Rows}
 use Rattle.okws_plan.specs.declared.statement.Statement.{Statement}
 use Rattle.okws_plan.specs.Meaning.{mean, mean_on, inserted, columns_of}
-use Rattle.okws_outer.specs.Keeping.{Runs, Pins, IsAnswerOf, MayAnswer, is_select}
+use Rattle.okws_outer.specs.Keeping.{Runs, Pins, MayAnswer, is_select}
 use Rattle.monitor_model.specs.Proxy.{granted, query_denial}
 use Rattle.db_proxy.specs.Permit.{denial_at}
 

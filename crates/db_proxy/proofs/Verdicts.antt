@@ -1,5 +1,5 @@
 -- What a call answers that was started and done.
-use Rattle.std.proofs.Common.{◌≡◌, ◌∙◌, ℕ, List, ap, refl, sym}
+use Rattle.std.proofs.Common.{◌≡◌, ◌∙◌, ℕ, List, ap, sym}
 use Rattle.std.specs.Prelude.{Option, Some, None, IfSome, Ok}
 use Rattle.okws_base.specs.declared.journal.Entry.{Entry}
 use Rattle.okws_base.specs.declared.value.Value.{Value}
@@ -16,8 +16,8 @@ use Rattle.okws_plan.specs.declared.event.ProxyEvent.{ProxyEvent}
 use Rattle.okws_plan.specs.declared.statement.Answer.{Answer}
 use Rattle.okws_outer.specs.Keeping.{Runs}
 use Rattle.monitor_model.specs.Proxy.{within_frame, call_answer, call_denial, call_mean, call_verdict, query_mean, granted, rows}
-use Rattle.db_proxy.specs.declared.starting.Started.{Started}
-use Rattle.db_proxy.specs.Starting.{verdict_of}
+use Rattle.started_call.specs.declared.started.Started.{Started}
+use Rattle.started_call.specs.Starting.{verdict_of}
 
 -- A call that breaks no rule and is done answers what its statement does.
 pub done_answers : {P : Type 0} (of : P → Answer) (m : Mark × Started P) (s : Started P) (denial : Option Rule) (answer : Answer)

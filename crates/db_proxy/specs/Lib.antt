@@ -2,4 +2,3 @@ pub mod Seen
 pub mod Permit
 pub mod Tied
 pub mod Example
-pub mod Starting

@@ -3,11 +3,8 @@
 #![tactic(auto)]
 
 mod answering;
-mod finishing;
 mod granting;
 mod proxy;
 mod starting;
 
-pub use finishing::{Finished, finish};
 pub use proxy::Proxy;
-pub use starting::Started;

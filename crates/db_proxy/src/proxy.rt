@@ -18,11 +18,11 @@ ghost use Rattle.monitor_model.specs.Proxy.{open_verdict, call_answer, call_verd
 ghost use Rattle.monitor_model.specs.declared.verdict.Verdict.{Verdict};
 ghost use Rattle.db_proxy.specs.Permit.{MayBeAnswered};
 ghost use Rattle.db_proxy.specs.Seen.{entered};
-ghost use Rattle.db_proxy.specs.Starting.{verdict_of, LeavesLength};
+ghost use Rattle.started_call.specs.Starting.{verdict_of, LeavesLength};
 
 use crate::answering::within;
 use crate::granting::{allowed, denial};
-use crate::starting::{Started, begin};
+use crate::starting::begin;
 use grant_column::{Granting, Head};
 use monitor_model::verdict::Verdict;
 use okws_base::journal::{Entry, Past};
@@ -32,6 +32,7 @@ use okws_outer::keeper::{Keeper, RunError};
 use okws_outer::pinned::Pinned;
 use okws_plan::configuration::Config;
 use okws_plan::event::{Call, Mark, ProxyEvent};
+use started_call::Started;
 use std::alloc::{AllocError, Global};
 use std::marker::Model;
 use std::sync::Arc;

@@ -8,25 +8,14 @@ ghost use Rattle.okws_plan.specs.declared.statement.Answer.TheVariants.{Rows};
 ghost use Rattle.okws_outer.specs.Keeping.{Runs, is_select};
 ghost use Rattle.okws_outer.specs.Streams.{Counts};
 ghost use Rattle.monitor_model.specs.Proxy.{within_frame};
-ghost use Rattle.db_proxy.specs.Starting.{verdict_of, LeavesLength};
+ghost use Rattle.started_call.specs.Starting.{verdict_of, LeavesLength};
 
-use okws_base::denial::Rule;
 use okws_base::value::Value;
 use okws_outer::keeper::{Keeper, RunError};
 use okws_outer::pinned::Pinned;
 use okws_plan::statement::{Action, Answer, Statement};
+use started_call::Started;
 use std::alloc::Global;
-
-/// What a call answers that was decided. An answer of rows is ready to be found, by `finish`, once
-/// the turn is given back.
-#[derive(Drop)]
-pub enum Started<P> {
-    Ready(P),
-    Changed(u64),
-    Duplicate,
-    Denied(Rule),
-    Failed,
-}
 
 fn lists_rows(action: &Action) -> bool
     ensures { result ≡ is_select action.now }

@@ -16,17 +16,18 @@ ghost use Rattle.site_columns.specs.Site.{KeepsRules};
 ghost use Rattle.monitor_model.specs.Proxy.{open_verdict, call_answer, call_verdict, call_denial, rows};
 ghost use Rattle.token_core.specs.Token.{token_of};
 ghost use Rattle.db_proxy.specs.Permit.{MayBeAnswered};
-ghost use Rattle.db_proxy.specs.Starting.{verdict_of, LeavesLength};
+ghost use Rattle.started_call.specs.Starting.{verdict_of, LeavesLength};
 ghost use Rattle.named_columns.specs.Launched.{by_entry, LaunchedBy};
 ghost use Rattle.named_columns.specs.Held.{proxy_entered};
 
 use crate::named::Backed;
-use db_proxy::{Proxy, Started};
+use db_proxy::Proxy;
 use monitor_model::verdict::Verdict;
 use okws_base::journal::{Entry, Past};
 use okws_base::value::Token;
 use okws_outer::keeper::Keeper;
 use okws_plan::event::{Call, ProxyEvent};
+use started_call::Started;
 use std::alloc::AllocError;
 use std::marker::{Model, PhantomData};
 use turn_lock::Journaled;
@@ -143,34 +144,12 @@ impl<N: Backed, K: Keeper> SiteProxy<N, K> {
         self.proxy.open_session(service, incarnation, shown)
     }
 
-    /// Decides a call, and has the keeper run its query where it is allowed. Its entry is marked as a
-    /// fault where the keeper failed, which leaves the rows as they were. A call that breaks a rule
-    /// leaves the count of faults. Over a keeper that tells no rows, what is answered is what the query
-    /// may answer: Duplicate comes of an INSERT into a table with a KEY alone. Rows have 1 to 255
-    /// columns. Where memory is refused, all is as before.
-    pub fn call(&mut self, call: Call) -> Result<Verdict, AllocError>
-        requires { call.service < length N.site.services }
-        ensures entry { IfOk result (λ v. (mark : Mark) × (self.new.past ≡ record { worker = self.old.holder; event = event.Call call mark } ∷ self.old.past)
-            × (mark ≡ Mark.Fault → (call_denial N.site self.old.number self.old.past call ≡ None) × Rose self.old.faults self.new.faults)
-            × (self.old.steady ≡ true → mark ≡ Mark.Done)
-            × ((answer : Answer) × (v ≡ call_answer (call_denial N.site self.old.number self.old.past call) mark answer)
-            × (call_denial N.site self.old.number self.old.past call ≡ None → mark ≡ Mark.Done → self.old.told ≡ None → MayBeAnswered N.site self.old.number call answer))
-            × IfSome self.old.told (λ _. v ≡ call_verdict N.site self.old.number self.old.past call mark)) }
-        ensures narrow { IfOk result IsNarrow }
-        ensures rows { OnOk result (self.new.told ≡ option_map (λ _. rows N.site self.new.number self.new.past) self.old.told) }
-        ensures same { self.new ≡ record self.old { past = self.new.past; told = self.new.told; faults = self.new.faults } }
-        ensures later { self.old.faults ≤ self.new.faults }
-        ensures denied { IsSome (call_denial N.site self.old.number self.old.past call) → self.new.faults ≡ self.old.faults }
-        ensures err { OnErr result (self.new ≡ self.old) }
-        ensures adds { AddsBy by_entry self.old.holder self.old.past self.new.past }
-    {
-        self.proxy.call(call)
-    }
-
-    /// Decides a call and enters it, as `call` does, but leaves rows to be found by `finish` when the
-    /// turn is given back: the answer of a SELECT is pinned before the entry. Whether the rows' frame
-    /// is too long is left to `finish` too; what the two tell together is what `call` answers. Where
-    /// memory is refused, all is as before.
+    /// Decides a call and enters it, marked as a fault where the keeper failed, which leaves the rows as
+    /// they were. Rows are left to be found by `finish` when the turn is given back: the answer of a
+    /// SELECT is pinned before the entry. Whether the rows' frame is too long is left to `finish` too.
+    /// A call that breaks a rule leaves the count of faults. Over a keeper that tells no rows, what is
+    /// answered is what the query may answer: Duplicate comes of an INSERT into a table with a KEY alone.
+    /// Rows have 1 to 255 columns. Where memory is refused, all is as before.
     pub fn start(&mut self, call: Call) -> Result<Started<K::Pin>, AllocError>
         requires { call.service < length N.site.services }
         ensures entry { IfOk result (λ s. (mark : Mark) × (self.new.past ≡ record { worker = self.old.holder; event = event.Call call mark } ∷ self.old.past)
@@ -179,6 +158,7 @@ impl<N: Backed, K: Keeper> SiteProxy<N, K> {
             × ((answer : Answer) × (verdict_of (λ p. Rows (K.Pin.width p) (K.Pin.rows p)) s ≡ call_answer (call_denial N.site self.old.number self.old.past call) mark answer)
             × (call_denial N.site self.old.number self.old.past call ≡ None → mark ≡ Mark.Done → self.old.told ≡ None → MayBeAnswered N.site self.old.number call answer))
             × IfSome self.old.told (λ _. verdict_of (λ p. Rows (K.Pin.width p) (K.Pin.rows p)) s ≡ call_verdict N.site self.old.number self.old.past call mark)) }
+        ensures narrow { IfOk result (λ s. IsNarrow (verdict_of (λ p. Rows (K.Pin.width p) (K.Pin.rows p)) s)) }
         ensures length { IfOk result (λ s. LeavesLength s) }
         ensures rows { OnOk result (self.new.told ≡ option_map (λ _. rows N.site self.new.number self.new.past) self.old.told) }
         ensures same { self.new ≡ record self.old { past = self.new.past; told = self.new.told; faults = self.new.faults } }

@@ -70,7 +70,8 @@ crash_linked C w old new J K cause.BadFrame before items linked crash = (passed 
 crash_linked C w old new J K cause.Ended before items linked crash = (passed old new [] [] crash.0 linked).linked
 crash_linked C w old new J K cause.LinkFault before items linked crash = absurd (no_fault C w old new J K before items linked crash)
 crash_linked C w old new J K cause.FrameLimit before items linked crash = (passed old new crash.1 [] crash.4 linked).linked
-crash_linked C w old new J K cause.Starved before items linked crash = (passed old new crash.0 [] crash.1 linked).linked
+crash_linked C w old new J K cause.Starved before items linked (inl crash) = (passed old new crash.0 [] crash.1 linked).linked
+crash_linked C w old new J K cause.Starved before items linked (inr crash) = (passed old new crash.1 [] crash.3 linked).linked
 
 crash_empties : (why : Cause) (k : ℕ) → after_end (crash_end why) k ≡ 0
 crash_empties cause.BadFrame k = refl

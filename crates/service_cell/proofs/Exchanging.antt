@@ -26,4 +26,5 @@ exchanged C w old mid new items said taken J (Crashed cause.FrameLimit) items' n
     (said, taken, spells, a.0, took_then_put old mid new taken [] before a.3, a.2, a.1)
 exchanged C w old mid new items said taken J (Crashed cause.BadFrame) items' now spells before a = absurd a
 exchanged C w old mid new items said taken J (Crashed cause.Ended) items' now spells before a = absurd a
-exchanged C w old mid new items said taken J (Crashed cause.Starved) items' now spells before a = absurd a
+exchanged C w old mid new items said taken J (Crashed cause.Starved) items' now spells before a =
+    inr (said, taken, (spells, a.0), took_then_put old mid new taken [] before a.3, a.1, a.2)

@@ -181,8 +181,10 @@ exchange_heard heard k C w old new sent items items' J now (exchanged.Crashed ca
     same_heard heard true (all_sent k (Some new) sent) _ items' e.6 (broken_heard heard k (heard_text items) e.2 (server_spelling e.1) old new sent whole e.4 (inr (e.1, refl)) g)
 exchange_heard heard k C w old new sent items items' J now (exchanged.Crashed cause.FrameLimit) whole e g =
     same_heard heard false (all_sent k (Some new) sent) _ items' e.5 (silent_heard heard k (heard_text items) e.1 old new sent whole e.4 g)
-exchange_heard heard k C w old new sent items items' J now (exchanged.Crashed cause.Starved) whole e g =
+exchange_heard heard k C w old new sent items items' J now (exchanged.Crashed cause.Starved) whole (inl e) g =
     same_heard heard false (all_sent k (Some new) sent) items items' e.2 (silent_heard heard k (heard_text items) e.0 old new sent whole e.1 g)
+exchange_heard heard k C w old new sent items items' J now (exchanged.Crashed cause.Starved) whole (inr e) g =
+    same_heard heard false (all_sent k (Some new) sent) _ items' e.5 (silent_heard heard k (heard_text items) e.1 old new sent whole e.3 g)
 
 -- a Boot on a fresh link
 boot_given : (old new : Option (List ℕ)) (text : List ℕ) → Appends old new text → (old ≡ None → new ≡ None) → IfSome old (λ (given : List ℕ). given ≡ []) → IsGiven text false new

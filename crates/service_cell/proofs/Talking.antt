@@ -17,11 +17,11 @@ use Rattle.monitor_model.specs.declared.record.Item.TheVariants.{Heard, Said}
 use Rattle.monitor_model.specs.declared.record.End.{End}
 use Rattle.monitor_model.specs.declared.record.End.TheVariants as end
 use Rattle.monitor_model.specs.Cell.{incarnation}
-use Rattle.monitor_model.specs.Course.{Speaker, Answers, Ends, IsAnswered, opening, push_frame, heard_text, said_count, said_text}
+use Rattle.monitor_model.specs.Course.{Speaker, Answers, Ends, IsAnswered, Unanswered, opening, push_frame, heard_text, said_count, said_text}
 use Rattle.monitor_model.specs.Seen.{Seen}
 use Rattle.service_cell.specs.Asking.{Asker, Drains, KeepsBoard}
 use Rattle.service_cell.specs.Standing.{Open, Standing, speaker, going, finished, Passes, Fails}
-use Rattle.service_cell.specs.Steps.{crash_end, IsSpeaking, IsCurrent, OpeningBreaks, OpensCell, Begins, Crashes, Steps, Advances, AdvancesOpen}
+use Rattle.service_cell.specs.Steps.{crash_end, IsSpeaking, IsCurrent, OpeningBreaks, OpensCell, Begins, EntersUnanswered, Crashes, Steps, Advances, AdvancesOpen}
 use Rattle.service_cell.specs.Dialogs.{GoesOver, HasDialog, EndsAs, Dialogs, Talks, may_say}
 use Rattle.service_cell.specs.declared.answer.Begun.TheVariants as begun
 use Rattle.service_cell.specs.declared.answer.Advanced.TheVariants as advanced
@@ -30,6 +30,15 @@ use Rattle.service_cell.specs.declared.answer.Spoken.TheVariants as spoken
 use Rattle.service_cell.specs.declared.exchange.Exchanged.TheVariants as exchanged
 use Rattle.monitor_model.proofs.Lawful.Plain.{each_reverse}
 use Rattle.service_cell.proofs.Wires.{moves_then, breaks_after}
+
+-- ---- a call that was entered and isn't answered
+
+unanswered : (C : Config) (w : Speaker) (text : ServiceFrame) (J now : Seen) → EntersUnanswered C w text J now → Unanswered C w text J now
+unanswered C w (said.Call p n q args) J now h = inr (h.0, h.1, h.2, h.3, h.4)
+unanswered C w (said.Open p shown) J now h = absurd h
+unanswered C w (said.Get name) J now h = absurd h
+unanswered C w (said.Log text) J now h = absurd h
+unanswered C w (said.Reply status content_type location content) J now h = absurd h
 
 -- ---- an opening says nothing
 
@@ -232,10 +241,15 @@ module _ (who : Asker) (n : ℕ) (head content : List ℕ) (c : Standing) (J : S
         (h.0, t.items, h.5, rw h.6 t.answered, h.3) is
         (rw h.5 (subst (λ (bytes : List ℕ). Passes c.link y.link bytes (heard_text t.items)) (taken_is h.0 h.1 h.2.spelled)
         (took_more c.link x.link y.link (said_text t.items) h.1 (heard_text t.items) t.link h.4)))
-    crashed_so cause.Starved y now items h is =
+    crashed_so cause.Starved y now items (inl h) is =
         ended y now [] [] items end.Starved
         (rw h.2 t.few, inr (inl (rw (h.2, h.3) t.answered))) is
         (h.0, rw h.2 (took_more c.link x.link y.link (said_text t.items) h.0 (heard_text t.items) t.link h.1))
+    crashed_so cause.Starved y now items (inr h) is =
+        let took = took_more c.link x.link y.link (said_text t.items) h.1 (heard_text t.items) t.link h.3 in
+        ended y now [] [] items end.Starved
+        (rw h.5 (omega (arith, h.2.1)), inr (inr (h.0, t.items, seen, h.5, t.answered, subst (λ (w : Speaker). Unanswered who.config w h.0 seen now) speaks (unanswered who.config (speaker x who.worker) h.0 seen now h.4)))) is
+        ([], rw h.5 (subst (λ (bytes : List ℕ). Passes c.link y.link bytes (heard_text t.items)) (taken_is h.0 h.1 h.2.0.spelled ∙ sym (append-nil (said_text (Said h.0 ∷ t.items)))) took))
 
     pub goes_talks : (shows : ℕ → Type 0) (y : Standing) (now : Seen) → AdvancesOpen who shows x x.open_dialog seen advanced.Goes y now → Talks who n head content c J y now
     goes_talks shows y now a =

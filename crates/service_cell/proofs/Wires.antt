@@ -39,6 +39,9 @@ appends_none a b e = subst (λ (o : Option (List ℕ)). Appends a o []) (sym e) 
 pub stood : (old new : Wire) → GainsRoom old new → Moves old new [] []
 stood old new s = record { takes = consumes_none old.left new.left s.left; puts = appends_none old.given new.given s.given; untold = λ none. s.given ∙ none; faults = omega (arith, s.faults); steady = s.steady; ended = s.ended }
 
+pub unmoved : (w : Wire) → Moves w w [] []
+unmoved w = record { takes = Consumes-nil w.left; puts = Appends-nil w.given; untold = λ none. none; faults = omega arith; steady = refl; ended = refl }
+
 pub moves_then : (a b c : Wire) (t u p q : List ℕ) → Moves a b t p → Moves b c u q → Moves a c (t ++ u) (p ++ q)
 moves_then a b c t u p q x y = record {
   takes = Consumes-trans a.left b.left c.left t u x.takes y.takes;

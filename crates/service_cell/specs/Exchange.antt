@@ -1,6 +1,7 @@
 -- One exchange of a dialog, between a link and the columns.
 use Rattle.std.specs.Prelude.{◌≡◌, ◌≤◌, ◌<◌, ℕ, List, [], ◌∷◌, ◌++◌, Option, Some, None, ◌==◌, length, IsTrue}
 use Rattle.std.specs.List.{list_all}
+use Rattle.std.specs.declared.alloc.AllocError.{AllocError}
 use Rattle.std.specs.declared.result.Result.{Result}
 use Rattle.std.specs.declared.result.Result.TheVariants.{Ok, Err}
 use Rattle.okws_base.specs.Runs.{Each}
@@ -23,7 +24,7 @@ use Rattle.monitor_model.specs.Course.{Speaker, Answers, heard_text, said_count}
 use Rattle.monitor_model.specs.Seen.{Seen}
 use Rattle.service_cell.specs.Ending.{IsReply}
 use Rattle.service_cell.specs.Standing.{Open, Moves, Breaks}
-use Rattle.service_cell.specs.Steps.{TakesOne, Crashes}
+use Rattle.service_cell.specs.Steps.{TakesOne, EntersUnanswered, Crashes}
 use Rattle.service_cell.specs.declared.exchange.Exchanged.{Exchanged}
 use Rattle.service_cell.specs.declared.exchange.Exchanged.TheVariants.{Goes, Reply, Crashed}
 
@@ -36,6 +37,15 @@ FitsFrame (Changed n) = Unit {0}
 FitsFrame Duplicate = Unit {0}
 FitsFrame (Denied broken) = Unit {0}
 FitsFrame Failed = Unit {0}
+
+-- The verdict tells rows.
+abbrev pub HasRows : Verdict → Type 0
+HasRows (Rows columns T) = Unit {0}
+HasRows (Opened n) = ⊥
+HasRows (Changed n) = ⊥
+HasRows Duplicate = ⊥
+HasRows (Denied broken) = ⊥
+HasRows Failed = ⊥
 
 -- A frame that was heard has a spelling.
 abbrev pub IsSpelled : Item → Type 0
@@ -91,6 +101,17 @@ Exchanges C w old items J Reply new items' now =
     (said : ServiceFrame) × (taken : List ℕ) × TakesOne said items taken × IsReply said × (now ≡ J) × (items' ≡ Said said ∷ items) × Moves old new taken []
 Exchanges C w old items J (Crashed why) new items' now = Crashes C w (Some old) (Some new) items J why items' now
 
+-- A frame answers what was said; or memory was refused for the rows that answer it.
+abbrev pub GivesAnswer : Config → Speaker → ServiceFrame → Seen → Result ServerFrame AllocError → Seen → Type 0
+GivesAnswer C w said J (Ok heard) now = HasSpelling heard × Answers C w said J heard now
+GivesAnswer C w said J (Err refused) now = EntersUnanswered C w said J now
+
+-- The same; a Reply has no answer.
+abbrev pub AnswersSaid : Config → Speaker → ServiceFrame → Seen → Result (Option ServerFrame) AllocError → Seen → Type 0
+AnswersSaid C w said J (Ok (Some heard)) now = HasSpelling heard × Answers C w said J heard now
+AnswersSaid C w said J (Ok None) now = IsReply said × (now ≡ J)
+AnswersSaid C w said J (Err refused) now = EntersUnanswered C w said J now
+
 -- The same of a frame that was just taken from the link, of which `old` is what is left.
 abbrev pub AnswersFrame : Config → Speaker → Wire → List Item → ServiceFrame → Seen → Exchanged → Wire → List Item → Seen → Type 0
 AnswersFrame C w old items said J Goes new items' now =
@@ -105,4 +126,5 @@ AnswersFrame C w old items said J (Crashed cause.FrameLimit) new items' now =
     (said_count items ≡ MOST_FRAMES) × (now ≡ J) × (items' ≡ Said said ∷ items) × Moves old new [] []
 AnswersFrame C w old items said J (Crashed cause.BadFrame) new items' now = ⊥
 AnswersFrame C w old items said J (Crashed cause.Ended) new items' now = ⊥
-AnswersFrame C w old items said J (Crashed cause.Starved) new items' now = ⊥
+AnswersFrame C w old items said J (Crashed cause.Starved) new items' now =
+    (said_count items < MOST_FRAMES) × EntersUnanswered C w said J now × (items' ≡ Said said ∷ items) × Moves old new [] []

@@ -1,10 +1,14 @@
 -- What each call makes of a cell and of what its worker has seen.
-use Rattle.std.specs.Prelude.{◌≡◌, ◌≢◌, ◌≤◌, ◌<◌, ℕ, List, [], ◌∷◌, ◌++◌, Option, Some, None, ◌⊎◌, ◌==◌, if◌then◌else◌}
+use Rattle.std.specs.Prelude.{◌≡◌, ◌≢◌, ◌≤◌, ◌<◌, ℕ, List, [], ◌∷◌, ◌++◌, Option, Some, None, ◌⊎◌, ◌==◌, if◌then◌else◌, IsTrue}
 use Rattle.std.specs.Io.KnownBytes.{IsAtEnd}
 use Rattle.okws_base.specs.declared.limit.TheConstants.{MOST_FRAMES}
 use Rattle.okws_base.specs.declared.crash.Cause.{Cause}
 use Rattle.okws_base.specs.declared.crash.Cause.TheVariants as cause
+use Rattle.okws_base.specs.declared.journal.Entry.{Entry}
 use Rattle.okws_plan.specs.declared.configuration.Config.{Config}
+use Rattle.okws_plan.specs.declared.event.Mark.{Mark}
+use Rattle.okws_plan.specs.declared.event.ProxyEvent.{ProxyEvent}
+use Rattle.okws_plan.specs.declared.event.ProxyEvent.TheVariants as proxy
 use Rattle.frame_codec.specs.Spelling.{Spells, server_spelling}
 use Rattle.frame_codec.specs.Stream.{IsBadStop}
 use Rattle.frame_codec.specs.declared.frame.ServiceFrame.{ServiceFrame}
@@ -20,8 +24,9 @@ use Rattle.monitor_model.specs.declared.record.End.TheVariants as end
 use Rattle.monitor_model.specs.declared.record.CellEvent.TheVariants as cell
 use Rattle.monitor_model.specs.declared.record.Own.TheVariants as own
 use Rattle.monitor_model.specs.Cell.{incarnation, last_booted}
-use Rattle.monitor_model.specs.Course.{Speaker, Answers, opening, heard_text, said_count}
-use Rattle.monitor_model.specs.Seen.{Seen, noted}
+use Rattle.monitor_model.specs.Course.{Speaker, Answers, called, is_select, opening, heard_text, said_count}
+use Rattle.monitor_model.specs.Proxy.{allowed, granted}
+use Rattle.monitor_model.specs.Seen.{Seen, AtProxy, noted}
 use Rattle.service_cell.specs.Asking.{Asker, Drains}
 use Rattle.service_cell.specs.Standing.{Open, Standing, all_sent, speaker, going, finished, Passes, Fails, left_of}
 use Rattle.service_cell.specs.declared.answer.Booting.{Booting}
@@ -102,9 +107,19 @@ Begins who shows n request wanted c J begun.NoMemory d now = (d ≡ c) × (now �
 abbrev pub TakesOne : ServiceFrame → List Item → List ℕ → Type 0
 TakesOne said items taken = Spells taken said × (said_count items < MOST_FRAMES)
 
+-- What was said is a Call of a SELECT that was allowed and entered: rows answer it.
+abbrev pub EntersUnanswered : Config → Speaker → ServiceFrame → Seen → Seen → Type 0
+EntersUnanswered C w (said.Call p n q args) J now =
+    (before : List (Entry ProxyEvent)) × (mark : Mark) × IsTrue (allowed C p before (called w n q args)) × IsTrue (is_select (granted C p w.service q))
+    × AtProxy w.worker p (proxy.Call (called w n q args) mark) J before now
+EntersUnanswered C w (said.Open p shown) J now = ⊥
+EntersUnanswered C w (said.Get name) J now = ⊥
+EntersUnanswered C w (said.Log text) J now = ⊥
+EntersUnanswered C w (said.Reply status content_type location content) J now = ⊥
+
 -- How a step of an open dialog crashes it: which items it has then, and what the worker has seen.
 -- BadFrame, Ended: as `next` tells. LinkFault: before a frame was taken whole, or while its answer was put. FrameLimit: the 4,097th frame was taken.
--- Starved: memory was refused before a frame was taken whole.
+-- Starved: memory was refused before a frame was taken whole; or behind the entry of a Call, for the rows that answer it.
 abbrev pub Crashes : Config → Speaker → Option Wire → Option Wire → List Item → Seen → Cause → List Item → Seen → Type 0
 Crashes C w old new items J cause.BadFrame items' now =
     (since left : List ℕ) × Passes old new since [] × AreLeft (left_of new) left × IsBadStop since left × IsBadFront (left_of old) (left_of new)
@@ -117,7 +132,10 @@ Crashes C w old new items J cause.LinkFault items' now =
 Crashes C w old new items J cause.FrameLimit items' now =
     (said : ServiceFrame) × (taken : List ℕ) × Spells taken said × (said_count items ≡ MOST_FRAMES) × Passes old new taken []
     × (items' ≡ Said said ∷ items) × (now ≡ J)
-Crashes C w old new items J cause.Starved items' now = (taken : List ℕ) × Passes old new taken [] × (items' ≡ items) × (now ≡ J)
+Crashes C w old new items J cause.Starved items' now =
+    ((taken : List ℕ) × Passes old new taken [] × (items' ≡ items) × (now ≡ J))
+    ⊎ ((said : ServiceFrame) × (taken : List ℕ) × TakesOne said items taken × Passes old new taken []
+    × EntersUnanswered C w said J now × (items' ≡ Said said ∷ items))
 
 -- What one exchange of the open dialog o makes of the cell c and of what its worker had seen, J.
 abbrev pub Steps : Asker → Standing → Open → Seen → Exchanged → Standing → Seen → Type 0

@@ -13,6 +13,8 @@ ghost use Rattle.okws_plan.specs.declared.event.LogEvent.TheVariants as oklogd;
 ghost use Rattle.monitor_model.specs.Proxy.{open_verdict, call_verdict};
 ghost use Rattle.monitor_model.specs.Pubd.{get_verdict};
 ghost use Rattle.monitor_model.specs.Logd.{log_verdict};
+ghost use Rattle.okws_plan.specs.declared.statement.Answer.TheVariants.{Rows};
+ghost use Rattle.started_call.specs.Starting.{verdict_of};
 ghost use Rattle.monitor_model.specs.Seen.{Seen, AtProxy, AtPubd, AtLog, noted};
 ghost use Rattle.service_cell.specs.Asking.{Asker, KeepsBoard, Drains, IsNextBy, IsNarrow, IsShortPush, IsShortGot};
 
@@ -20,12 +22,17 @@ use monitor_model::record::Own;
 use monitor_model::verdict::{Got, Noted, Push, Verdict};
 use okws_base::items::Items;
 use okws_base::value::Token;
+use okws_outer::pinned::Pinned;
 use okws_plan::event::Call;
+use started_call::Started;
 use std::alloc::AllocError;
 
 /// The columns as one worker has them. Each call enters at most one event, under the worker's number,
 /// with its own item beside it; where memory is refused, nothing is entered and noted.
 pub trait Columns {
+    /// The answer of a call that lists rows, which is found after its entry.
+    type Pin: Pinned + Drop;
+
     /// The site's configuration, the worker's number, and whether nobody else enters anything.
     ghost asker: { Self → Asker };
 
@@ -89,13 +96,14 @@ pub trait Columns {
         ensures next { IsTrue (asker self.old).alone → IsNextBy (asker self.old).worker (seen self.old) (seen self.new) }
         ensures board { KeepsBoard asker shows token_seed self.old self.new };
 
-    /// Enters a Call at a proxy, and gives its verdict.
-    fn call(&mut self, proxy: u16, call: Call) -> Result<Verdict, AllocError>
+    /// Enters a Call at a proxy. What lists rows is ready to be found, whatever is entered since; with its
+    /// rows, what is given tells the verdict of the entry.
+    fn call(&mut self, proxy: u16, call: Call) -> Result<Started<Self::Pin>, AllocError>
         requires proxy { proxy < length (asker self.old).config.proxies }
         requires service { call.service < length (asker self.old).config.services }
-        ensures ok { IfOk result (λ v. (before : List (Entry ProxyEvent)) × (mark : Mark) × (v ≡ call_verdict (asker self.old).config proxy before call mark)
+        ensures ok { IfOk result (λ s. (before : List (Entry ProxyEvent)) × (mark : Mark) × (verdict_of (λ p. Rows (Self.Pin.width p) (Self.Pin.rows p)) s ≡ call_verdict (asker self.old).config proxy before call mark)
             × AtProxy (asker self.old).worker proxy (proxied.Call call mark) (seen self.old) before (seen self.new)) }
-        ensures narrow { IfOk result IsNarrow }
+        ensures narrow { IfOk result (λ s. IsNarrow (verdict_of (λ p. Rows (Self.Pin.width p) (Self.Pin.rows p)) s)) }
         ensures err { OnErr result (seen self.new ≡ seen self.old) }
         ensures next { IsTrue (asker self.old).alone → IsNextBy (asker self.old).worker (seen self.old) (seen self.new) }
         ensures board { KeepsBoard asker shows token_seed self.old self.new };

@@ -11,7 +11,6 @@ use monitor_model::record::Item;
 use okws_base::journal::Journal;
 use std::alloc::{AllocError, Global};
 use std::marker::Model;
-use std::mem;
 
 /// The items of a dialog: those of its last step, and a journal of those before them.
 #[derive(Drop)]
@@ -35,13 +34,15 @@ impl Model for Course {
     ghost invariant = { λ a. vec_len a.last ≤ a.journal.room };
 }
 
-// Enters items, the oldest of which comes first.
-fn enter_all(journal: &mut Journal<Item>, items: Vec<Item>)
-    requires { length items.items ≤ journal.old.room }
-    ensures past { journal.new.past ≡ reverse items.items ++ journal.old.past }
-    ensures room { journal.new.room + length items.items ≡ journal.old.room }
+// Enters items, the oldest of which comes first, and leaves their places empty.
+fn enter_all(journal: &mut Journal<Item>, items: &mut Vec<Item>)
+    requires { length items.old.items ≤ journal.old.room }
+    ensures past { journal.new.past ≡ reverse items.old.items ++ journal.old.past }
+    ensures room { journal.new.room + length items.old.items ≡ journal.old.room }
+    ensures empty { items.new.items ≡ [] }
 {
-    for item in items {
+    items.reverse();
+    while let Some(item) = items.pop() {
         journal.enter(item);
     }
 }
@@ -70,12 +71,11 @@ impl Course {
 
     /// Begins a step of at most n items: those of the one before it go to the journal, and room is made
     /// for its own. Where memory is refused all items are still those that were.
-    pub(crate) fn begin_step(&mut self, alloc: Global, n: usize) -> Result<(), AllocError>
+    pub(crate) fn begin_step(&mut self, n: usize) -> Result<(), AllocError>
         ensures past { self.new.past ≡ self.old.past }
         ensures ok { OnOk result ((self.new.newest ≡ []) × (n ≤ self.new.room)) }
     {
-        let last = mem::replace(&mut self.last, Vec::new(alloc));
-        enter_all(&mut self.journal, last);
+        enter_all(&mut self.journal, &mut self.last);
         self.make_room(n)
     }
 
@@ -101,8 +101,11 @@ impl Course {
     pub(crate) fn into_journal(self) -> Journal<Item>
         ensures { result.past ≡ self.past }
     {
-        let Course { mut journal, last } = self;
-        enter_all(&mut journal, last);
+        let Course {
+            mut journal,
+            mut last,
+        } = self;
+        enter_all(&mut journal, &mut last);
         journal
     }
 
@@ -120,7 +123,7 @@ impl Course {
         let Some(Item::Said(reply)) = last.pop() else {
             unreachable!()
         };
-        enter_all(&mut journal, last);
+        enter_all(&mut journal, &mut last);
         (reply, journal)
     }
 }

@@ -1,21 +1,22 @@
 //! One exchange of a dialog, between a link and the columns.
 
-ghost use Rattle.std.specs.Prelude.{◌≡◌, ◌≤◌, ◌<◌, ℕ, ◌+◌, [], true, length, take, MatchOption, IsTrue, OnOk};
+ghost use Rattle.std.specs.Prelude.{◌≡◌, ◌≤◌, ◌<◌, ℕ, ◌+◌, [], true, length, take, IsTrue, OnOk};
 ghost use Rattle.okws_base.specs.Runs.{Each};
 ghost use Rattle.frame_codec.specs.Spelling.{server_spelling, HasSpelling};
-ghost use Rattle.monitor_model.specs.Course.{Answers, opening, said_count, verdict_frame as frame_of_verdict, got_frame as frame_of_got, noted_frame as frame_of_noted, push_frame as frame_of_push};
-ghost use Rattle.service_cell.specs.Asking.{Asker, KeepsBoard, IsNextBy, IsShortPush, IsShortGot};
-ghost use Rattle.service_cell.specs.Ending.{IsReply, EndsInReply};
-ghost use Rattle.service_cell.specs.Exchange.{FitsFrame, IsSpelled, IsHeardLast, PutsFrame, Hears, Opens, Exchanges, AnswersFrame};
+ghost use Rattle.monitor_model.specs.Course.{Answers, opening, said_count};
+ghost use Rattle.service_cell.specs.Asking.{Asker, KeepsBoard, IsNextBy, IsShortPush};
+ghost use Rattle.service_cell.specs.Ending.{EndsInReply};
+ghost use Rattle.service_cell.specs.Exchange.{IsSpelled, IsHeardLast, PutsFrame, Hears, Opens, Exchanges, GivesAnswer, AnswersSaid, AnswersFrame};
 
 use crate::columns::Columns;
 use crate::course::Course;
+use crate::telling::{told_call, told_got, told_noted, told_push, told_verdict};
 use frame_codec::frame::{ServerFrame, ServiceFrame};
 use frame_codec::making;
 use frame_link::receiving::{NextFrame, next};
 use frame_link::sending::{LinkFault, send};
 use monitor_model::record::Item;
-use monitor_model::verdict::{Got, Noted, Push, Verdict};
+use monitor_model::verdict::Push;
 use okws_base::crash::Cause;
 use okws_base::denial::Rule;
 use okws_base::items::{Exact, Items};
@@ -40,54 +41,6 @@ pub(crate) enum Exchanged {
     Crashed(Cause),
 }
 
-/// The frame that tells a verdict.
-fn told_verdict(verdict: Verdict) -> ServerFrame
-    requires { FitsFrame verdict }
-    ensures frame { result ≡ frame_of_verdict verdict }
-    ensures spelling { HasSpelling result }
-{
-    match verdict {
-        Verdict::Opened(session) => making::opened(session),
-        Verdict::Rows { columns, rows } => making::rows(columns as u8, rows),
-        Verdict::Changed(rows) => making::changed(rows),
-        Verdict::Duplicate => making::duplicate(),
-        Verdict::Denied(rule) => making::denied(rule.number()),
-        Verdict::Failed => making::failed(),
-    }
-}
-
-/// The frame that tells what a Get is answered.
-fn told_got(got: Got) -> ServerFrame
-    requires { IsShortGot got }
-    ensures frame { result ≡ frame_of_got got }
-    ensures spelling { HasSpelling result }
-{
-    match got {
-        Got::Template { edition, content } => making::template(edition, content),
-        Got::Denied(rule) => making::denied(rule.number()),
-    }
-}
-
-/// The frame that tells what a Log is answered.
-fn told_noted(noted: Noted) -> ServerFrame
-    ensures frame { result ≡ frame_of_noted noted }
-    ensures spelling { HasSpelling result }
-{
-    match noted {
-        Noted::Logged => making::logged(),
-        Noted::Denied(rule) => making::denied(rule.number()),
-    }
-}
-
-/// The frame of a push.
-fn told_push(push: Push) -> ServerFrame
-    requires { IsShortPush push }
-    ensures frame { result ≡ frame_of_push push }
-    ensures spelling { HasSpelling result }
-{
-    making::push(push.template, push.edition, push.content)
-}
-
 fn answer_open<C: Columns>(columns: &mut C, who: Who, proxy: u16, shown: Token) -> ServerFrame
     requires { who.service < length (C.asker columns.old).config.services }
     ensures answer { Answers (C.asker columns.old).config (record { worker = (C.asker columns.old).worker; service = who.service; incarnation = who.incarnation }) (ServiceFrame.Open proxy shown) (C.seen columns.old) result (C.seen columns.new) }
@@ -104,19 +57,23 @@ fn answer_open<C: Columns>(columns: &mut C, who: Who, proxy: u16, shown: Token) 
     }
 }
 
-fn answer_call<C: Columns>(columns: &mut C, proxy: u16, call: Call) -> ServerFrame
+fn answer_call<C: Columns>(
+    alloc: Global,
+    columns: &mut C,
+    proxy: u16,
+    call: Call,
+) -> Result<ServerFrame, AllocError>
     requires { call.service < length (C.asker columns.old).config.services }
-    ensures answer { Answers (C.asker columns.old).config (record { worker = (C.asker columns.old).worker; service = call.service; incarnation = call.incarnation }) (ServiceFrame.Call proxy call.session call.query call.args) (C.seen columns.old) result (C.seen columns.new) }
-    ensures spelling { HasSpelling result }
+    ensures answer { GivesAnswer (C.asker columns.old).config (record { worker = (C.asker columns.old).worker; service = call.service; incarnation = call.incarnation }) (ServiceFrame.Call proxy call.session call.query call.args) (C.seen columns.old) result (C.seen columns.new) }
     ensures next { IsTrue (C.asker columns.old).alone → IsNextBy (C.asker columns.old).worker (C.seen columns.old) (C.seen columns.new) }
     ensures board { KeepsBoard C.asker C.shows C.token_seed columns.old columns.new }
 {
     if proxy as usize >= columns.proxies() {
-        return making::denied(Rule::NoSuchProxy.number());
+        return Ok(making::denied(Rule::NoSuchProxy.number()));
     }
     match columns.call(proxy, call) {
-        Ok(verdict) => told_verdict(verdict),
-        Err(_) => making::no_memory(),
+        Ok(started) => told_call(alloc, started),
+        Err(_) => Ok(making::no_memory()),
     }
 }
 
@@ -155,20 +112,20 @@ fn answer_copied_call<C: Columns>(
     session: u32,
     query: u16,
     args: &Items<Value>,
-) -> ServerFrame
+) -> Result<ServerFrame, AllocError>
     requires { who.service < length (C.asker columns.old).config.services }
-    ensures answer { Answers (C.asker columns.old).config (record { worker = (C.asker columns.old).worker; service = who.service; incarnation = who.incarnation }) (ServiceFrame.Call proxy session query args.now) (C.seen columns.old) result (C.seen columns.new) }
-    ensures spelling { HasSpelling result }
+    ensures answer { GivesAnswer (C.asker columns.old).config (record { worker = (C.asker columns.old).worker; service = who.service; incarnation = who.incarnation }) (ServiceFrame.Call proxy session query args.now) (C.seen columns.old) result (C.seen columns.new) }
     ensures next { IsTrue (C.asker columns.old).alone → IsNextBy (C.asker columns.old).worker (C.seen columns.old) (C.seen columns.new) }
     ensures board { KeepsBoard C.asker C.shows C.token_seed columns.old columns.new }
 {
     if proxy as usize >= columns.proxies() {
-        return making::denied(Rule::NoSuchProxy.number());
+        return Ok(making::denied(Rule::NoSuchProxy.number()));
     }
     let Ok(args) = args.copy(alloc) else {
-        return making::no_memory();
+        return Ok(making::no_memory());
     };
     answer_call(
+        alloc,
         columns,
         proxy,
         Call {
@@ -181,35 +138,36 @@ fn answer_copied_call<C: Columns>(
     )
 }
 
-/// Answers what was said by one frame; a Reply has none.
+/// Answers what was said by one frame; a Reply has none. Memory is refused only behind the entry of a
+/// call that has rows.
 fn answer<C: Columns>(
     alloc: Global,
     columns: &mut C,
     who: Who,
     said: &ServiceFrame,
-) -> Option<ServerFrame>
+) -> Result<Option<ServerFrame>, AllocError>
     requires { who.service < length (C.asker columns.old).config.services }
-    ensures answer { MatchOption result (IsReply said.now × (C.seen columns.new ≡ C.seen columns.old)) (λ heard. HasSpelling heard × Answers (C.asker columns.old).config (record { worker = (C.asker columns.old).worker; service = who.service; incarnation = who.incarnation }) said.now (C.seen columns.old) heard (C.seen columns.new)) }
+    ensures answer { AnswersSaid (C.asker columns.old).config (record { worker = (C.asker columns.old).worker; service = who.service; incarnation = who.incarnation }) said.now (C.seen columns.old) result (C.seen columns.new) }
     ensures next { IsTrue (C.asker columns.old).alone → IsNextBy (C.asker columns.old).worker (C.seen columns.old) (C.seen columns.new) }
     ensures board { KeepsBoard C.asker C.shows C.token_seed columns.old columns.new }
 {
     match said {
-        ServiceFrame::Open { proxy, shown } => Some(answer_open(columns, who, *proxy, *shown)),
+        ServiceFrame::Open { proxy, shown } => Ok(Some(answer_open(columns, who, *proxy, *shown))),
         ServiceFrame::Call {
             proxy,
             session,
             query,
             args,
-        } => Some(answer_copied_call(alloc, columns, who, *proxy, *session, *query, args)),
+        } => Ok(Some(answer_copied_call(alloc, columns, who, *proxy, *session, *query, args)?)),
         ServiceFrame::Get(name) => match name.copy(alloc) {
-            Ok(name) => Some(answer_get(columns, who, name)),
-            Err(_) => Some(making::no_memory()),
+            Ok(name) => Ok(Some(answer_get(columns, who, name))),
+            Err(_) => Ok(Some(making::no_memory())),
         },
         ServiceFrame::Log(text) => match text.copy(alloc) {
-            Ok(text) => Some(answer_log(columns, who, text)),
-            Err(_) => Some(making::no_memory()),
+            Ok(text) => Ok(Some(answer_log(columns, who, text))),
+            Err(_) => Ok(Some(making::no_memory())),
         },
-        ServiceFrame::Reply { .. } => None,
+        ServiceFrame::Reply { .. } => Ok(None),
     }
 }
 
@@ -295,8 +253,10 @@ fn exchange_frame<L: Link, C: Columns>(
     }
     let reply = answer(alloc, columns, who, &said);
     items.enter(Item::Said(said));
-    let Some(heard) = reply else {
-        return Exchanged::Reply;
+    let heard = match reply {
+        Ok(Some(heard)) => heard,
+        Ok(None) => return Exchanged::Reply,
+        Err(_) => return Exchanged::Crashed(Cause::Starved),
     };
     match put_frame(link, &heard) {
         Ok(()) => {
@@ -327,7 +287,7 @@ pub(crate) fn exchange<L: Link, C: Columns>(
     ensures next { IsTrue (C.asker columns.old).alone → IsNextBy (C.asker columns.old).worker (C.seen columns.old) (C.seen columns.new) }
     ensures board { KeepsBoard C.asker C.shows C.token_seed columns.old columns.new }
 {
-    if items.begin_step(alloc, 2).is_err() || link.make_room(LONGEST_FRAME + 4).is_err() {
+    if items.begin_step(2).is_err() || link.make_room(LONGEST_FRAME + 4).is_err() {
         return Exchanged::Crashed(Cause::Starved);
     }
     match next(alloc, link) {

@@ -13,4 +13,5 @@ pub mod ending;
 mod exchange;
 mod links;
 pub mod memory;
+mod telling;
 pub mod tokens;

@@ -175,13 +175,13 @@ pub record Answered (w : ℕ) (P : Pasts) (p : ℕ) (x y : Seen) (call : Called)
   pub more : IsMore w x y (Call call Done)
   pub verdict : v ≡ call_verdict P.config p (proxy_past P.pasts p) call Done
 
-pub answered : {E : Type 0} (r : Result Verdict E) (w : ℕ) (P : Pasts) (p : ℕ) (x m y : Seen) (call : Called) (F : Mark → Type 0) (G : Verdict → Mark → Type 0) → IsColumnOf P p m → m ≡ record x { holder = w }
+pub answered : {A E : Type 0} (r : Result A E) (tells : A → Verdict) (w : ℕ) (P : Pasts) (p : ℕ) (x m y : Seen) (call : Called) (F : Mark → Type 0) (G : A → Mark → Type 0) → IsColumnOf P p m → m ≡ record x { holder = w }
     → IfOk r (λ v. (mark : Mark) × (y.past ≡ record { worker = m.holder; event = Call call mark } ∷ m.past) × F mark × (m.steady ≡ true → mark ≡ Done) × G v mark
-    × IfSome m.told (λ _. v ≡ call_verdict m.config m.number m.past call mark))
+    × IfSome m.told (λ _. tells v ≡ call_verdict m.config m.number m.past call mark))
     → OnOk r (y.told ≡ option_map (λ _. rows y.config y.number y.past) m.told) → y ≡ record m { past = y.past; told = y.told; faults = y.faults }
-    → IfOk r (Answered w P p x y call)
-answered (Err e) w P p x m y call F G at held h new same = tt
-answered (Ok v) w P p x m y call F G at held h new same =
+    → IfOk r (λ v. Answered w P p x y call (tells v))
+answered (Err e) tells w P p x m y call F G at held h new same = tt
+answered (Ok v) tells w P p x m y call F G at held h new same =
     let done : h.0 ≡ Done = h.3 at.steady_is in
     let past : y.past ≡ record { worker = m.holder; event = Call call Done } ∷ m.past = h.1 ∙ ap (λ (k : Mark). record { worker = m.holder; event = Call call k } ∷ m.past) done in record {
       more = record {
@@ -195,13 +195,14 @@ answered (Ok v) w P p x m y call F G at held h new same =
       verdict = told_by m.told at.told_is h.5 ∙ rw (done, at.config_is, at.number_is, at.past_is) refl;
     }
 
-pub more_ok : {E : Type 0} (r : Result Verdict E) (w : ℕ) (P : Pasts) (p : ℕ) (x y : Seen) (call : Called) → IfOk r (Answered w P p x y call) → OnOk r (IsMore w x y (Call call Done))
-more_ok (Ok v) w P p x y call h = h.more
-more_ok (Err e) w P p x y call h = tt
+pub more_ok : {A E : Type 0} (r : Result A E) (tells : A → Verdict) (w : ℕ) (P : Pasts) (p : ℕ) (x y : Seen) (call : Called) → IfOk r (λ v. Answered w P p x y call (tells v)) → OnOk r (IsMore w x y (Call call Done))
+more_ok (Ok v) tells w P p x y call h = h.more
+more_ok (Err e) tells w P p x y call h = tt
 
-pub verdict_ok : {E : Type 0} (r : Result Verdict E) (w : ℕ) (P : Pasts) (p : ℕ) (x y : Seen) (call : Called) → IfOk r (Answered w P p x y call) → IfOk r (λ v. v ≡ call_verdict P.config p (proxy_past P.pasts p) call Done)
-verdict_ok (Ok v) w P p x y call h = h.verdict
-verdict_ok (Err e) w P p x y call h = tt
+pub verdict_ok : {A E : Type 0} (r : Result A E) (tells : A → Verdict) (w : ℕ) (P : Pasts) (p : ℕ) (x y : Seen) (call : Called) → IfOk r (λ v. Answered w P p x y call (tells v))
+    → IfOk r (λ v. tells v ≡ call_verdict P.config p (proxy_past P.pasts p) call Done)
+verdict_ok (Ok v) tells w P p x y call h = h.verdict
+verdict_ok (Err e) tells w P p x y call h = tt
 
 -- ---- columns that are added
 

@@ -1,4 +1,11 @@
-use Rattle.std.proofs.Common.{Bool, List, ◌≡◌, ◌∙◌, ℕ, zero, suc, ◌<◌, ◌≤◌, [], length, get_or, replicate, refl, ap, subst, arith}
+use Rattle.std.proofs.Common.{Bool, List, ◌≡◌, ◌∙◌, ℕ, zero, suc, ◌<◌, ◌≤◌, [], ◌∷◌, length, get_or, replicate, refl, ap, subst, arith}
+use Rattle.std.specs.Prelude.{slice_set}
+use Rattle.std.proofs.lemmas.List.{length-set}
+use Rattle.okws_base.specs.declared.journal.Entry.{Entry}
+use Rattle.okws_plan.specs.declared.event.Call.{Call as Called}
+use Rattle.okws_plan.specs.declared.event.Mark.{Mark}
+use Rattle.okws_plan.specs.declared.event.ProxyEvent.{ProxyEvent}
+use Rattle.okws_plan.specs.declared.event.ProxyEvent.TheVariants.{Call}
 use Rattle.okws_base.specs.Past.{last_by}
 use Rattle.okws_plan.specs.Configuration.{template_name}
 use Rattle.okws_plan.specs.declared.configuration.Config.{Config}
@@ -8,7 +15,7 @@ use Rattle.okd_dispatch.specs.Seen.{Seen as OkdSeen}
 use Rattle.pubd_core.specs.Seen.{Seen as PubdSeen}
 use Rattle.log_daemon.specs.Seen.{Seen as LogSeen}
 use Rattle.site_columns.specs.Launches.{Launched}
-use Rattle.site_columns.specs.Proxies.{Pasts}
+use Rattle.site_columns.specs.Proxies.{Pasts, entered_at}
 use Rattle.site_columns.specs.Site.{AreBegun, IsSite, KeepsRules, are_short, are_numbered}
 
 none_entered : (n p : ℕ) → proxy_past (replicate n []) p ≡ []
@@ -63,3 +70,33 @@ names_same C D e h = let P : Config → Type 0 = λ X. (t : ℕ) → length (tem
 
 pub launched_same : (C D : Config) (l : Launched) → C ≡ D → l ≡ record { services = length C.services; past = []; holder = 0 } → l ≡ record { services = length D.services; past = []; holder = 0 }
 launched_same C D l e h = rw (← e) h
+
+-- a Call installs nothing
+last_called : (pasts : List (List (Entry ProxyEvent))) (w p q s : ℕ) (call : Called) (mark : Mark)
+    → last_by proxy_grant (proxy_past (slice_set pasts p (record { worker = w; event = Call call mark } ∷ proxy_past pasts p)) q) s ≡ last_by proxy_grant (proxy_past pasts q) s
+last_called [] w p q s call mark = refl
+last_called (J ∷ pasts) w zero zero s call mark = refl
+last_called (J ∷ pasts) w zero (suc q) s call mark = refl
+last_called (J ∷ pasts) w (suc p) zero s call mark = refl
+last_called (J ∷ pasts) w (suc p) (suc q) s call mark = last_called pasts w p q s call mark
+
+-- the columns stay those of one site where a Call was entered
+pub called_site : (C : Config) (seed : List ℕ) (okd : OkdSeen) (P held Q : Pasts) (pubd : PubdSeen) (oklogd : LogSeen) (launched : Launched) (w p : ℕ) (call : Called) (mark : Mark) → IsSite C seed okd P pubd oklogd launched
+    → held ≡ record P { holder = w } → Q ≡ entered_at held p (Call call mark) → IsSite C seed okd Q pubd oklogd launched
+called_site C seed okd P held Q pubd oklogd launched w p call mark h hold is = rw (is, hold) (record {
+  okd_config = h.okd_config;
+  proxies_config = h.proxies_config;
+  proxies_seed = h.proxies_seed;
+  proxies_are = length-set P.pasts p _ ∙ h.proxies_are;
+  pubd_config = h.pubd_config;
+  log_config = h.log_config;
+  services_are = h.services_are;
+  begun_are = record {
+    at_proxies = λ q s. rw (last_called P.pasts w p q s call mark) (h.begun_are.at_proxies q s);
+    at_pubd = h.begun_are.at_pubd;
+    at_log = h.begun_are.at_log;
+  };
+  rules_are = h.rules_are;
+  short_are = h.short_are;
+  ups_are = h.ups_are;
+})

@@ -4,12 +4,14 @@ ghost use Rattle.std.specs.Prelude.{◌≡◌, IfOk, true};
 ghost use Rattle.monitor_model.specs.Launcher.{begun};
 
 use crate::columns::SiteColumns;
+use index_keeper::IndexPin;
 use monitor_model::record::Own;
 use monitor_model::verdict::{Got, Noted, Push, Verdict};
 use okws_base::items::{Exact, Items};
 use okws_base::value::Token;
 use okws_plan::event::{Call, LogEvent, Mark, ProxyEvent, PubdEvent};
 use service_cell::columns::Columns;
+use started_call::Started;
 use std::alloc::{AllocError, Global};
 use turn_lock::Journaled;
 
@@ -27,6 +29,8 @@ fn copy_of_call(alloc: Global, call: &Call) -> Result<Call, AllocError>
 }
 
 impl Columns for SiteColumns {
+    type Pin = IndexPin;
+
     ghost asker = { λ a. record { config = a.config; worker = a.worker; alone = true } };
 
     ghost token_seed = { λ a. a.seed };
@@ -87,12 +91,12 @@ impl Columns for SiteColumns {
         )
     }
 
-    fn call(&mut self, proxy: u16, call: Call) -> Result<Verdict, AllocError> {
+    fn call(&mut self, proxy: u16, call: Call) -> Result<Started<IndexPin>, AllocError> {
         let called = ProxyEvent::Call(copy_of_call(self.alloc, &call)?, Mark::Done);
         in_turn!(
             self.proxies,
             Own::Proxy(proxy, called),
-            self.proxies.call(proxy, call)?
+            self.proxies.start(proxy, call)?
         )
     }
 

@@ -8,20 +8,24 @@ ghost use Rattle.okws_plan.specs.Rules.{QueriesKeepRules};
 ghost use Rattle.monitor_model.specs.Columns.{faults};
 ghost use Rattle.okws_plan.specs.declared.event.Mark.{Mark};
 ghost use Rattle.okws_plan.specs.declared.event.ProxyEvent.TheVariants as event;
+ghost use Rattle.okws_plan.specs.declared.statement.Answer.TheVariants.{Rows};
 ghost use Rattle.monitor_model.specs.Seen.{proxy_past};
 ghost use Rattle.monitor_model.specs.Standing.{proxy_grant};
 ghost use Rattle.monitor_model.specs.Proxy.{open_verdict, call_verdict};
+ghost use Rattle.started_call.specs.Starting.{verdict_of};
 ghost use Rattle.token_core.specs.Token.{token_of};
 ghost use Rattle.site_columns.specs.Proxies.{entered_at};
 
 use crate::opening::proxy_column;
 use db_proxy::Proxy;
-use index_keeper::IndexKeeper;
+use index_keeper::{IndexKeeper, IndexPin};
 use monitor_model::verdict::Verdict;
 use okws_base::journal::{Entry, Past};
 use okws_base::value::Token;
+use okws_outer::pinned::Pinned;
 use okws_plan::configuration::Config;
 use okws_plan::event::{Call, Mark, ProxyEvent};
+use started_call::Started;
 use std::alloc::{AllocError, Global};
 use std::marker::Model;
 use std::sync::Arc;
@@ -168,17 +172,17 @@ impl Proxies {
         column.open_session(service, incarnation, shown)
     }
 
-    /// Decides a call at a proxy, and runs its query where it is allowed. Where memory is refused, all
-    /// is as before.
-    pub fn call(&mut self, proxy: u16, call: Call) -> Result<Verdict, AllocError>
+    /// Decides a call at a proxy, and enters it; what lists rows is found later. Where memory is refused,
+    /// all is as before.
+    pub fn start(&mut self, proxy: u16, call: Call) -> Result<Started<IndexPin>, AllocError>
         requires proxy { proxy < length self.old.pasts }
         requires service { call.service < length self.old.config.services }
-        ensures verdict { IfOk result (λ v. v ≡ call_verdict self.old.config proxy (proxy_past self.old.pasts proxy) call Mark.Done) }
+        ensures verdict { IfOk result (λ s. verdict_of (λ p. Rows (⟦<IndexPin as Pinned>⟧.width p) (⟦<IndexPin as Pinned>⟧.rows p)) s ≡ call_verdict self.old.config proxy (proxy_past self.old.pasts proxy) call Mark.Done) }
         ensures ok { OnOk result (self.new ≡ entered_at self.old proxy (event.Call call Mark.Done)) }
         ensures err { OnErr result (self.new ≡ self.old) }
     {
         let column = &mut self.columns[proxy as usize];
         column.hold(self.holder);
-        column.call(call)
+        column.start(call)
     }
 }

@@ -10,11 +10,12 @@ use Rattle.okws_plan.specs.declared.statement.Answer.{Answer}
 use Rattle.monitor_model.specs.Proxy.{call_answer, call_verdict, call_denial}
 use Rattle.monitor_model.specs.Seen.{Seen, AtPubd}
 use Rattle.monitor_model.specs.declared.verdict.Verdict.{Verdict}
-use Rattle.monitor_model.specs.declared.verdict.Verdict.TheVariants as verdict
 use Rattle.okws_plan.specs.declared.event.PubdEvent.{PubdEvent}
 use Rattle.okws_plan.specs.declared.event.PubdEvent.TheVariants.{Publish}
 use Rattle.monitor_model.specs.declared.verdict.Published.{Published}
 use Rattle.monitor_model.specs.declared.verdict.Published.TheVariants.{Edition, NoSuchTemplate, TooLong, EditionsSpent}
+use Rattle.started_call.specs.declared.started.Started.{Started}
+use Rattle.started_call.specs.declared.started.Started.TheVariants.{Ready, Changed, Duplicate, Denied, Failed}
 use Rattle.turn_lock.specs.Seats.{SeatIs}
 use Rattle.named_columns.specs.Held.{Held, entered}
 use Rattle.site_locks.specs.Sat.{Sat}
@@ -30,13 +31,12 @@ pub record Answered (C : Config) (tells steady : Bool) (p : ℕ) (J : List (Entr
   pub means : tells ≡ true → v ≡ call_verdict C p J call mark
 
 -- The mark of a call that was answered so: a fault where it failed.
-abbrev pub mark_of : Verdict → Mark
-mark_of verdict.Failed = Fault
-mark_of (verdict.Opened n) = Done
-mark_of (verdict.Rows columns rows) = Done
-mark_of (verdict.Changed n) = Done
-mark_of verdict.Duplicate = Done
-mark_of (verdict.Denied rule) = Done
+abbrev pub mark_of : {P : Type 0} → Started P → Mark
+mark_of Failed = Fault
+mark_of (Ready pin) = Done
+mark_of (Changed n) = Done
+mark_of Duplicate = Done
+mark_of (Denied rule) = Done
 
 -- pubd after a publication of template t: an edition makes an entry, and nothing else does.
 abbrev pub after_edition : Held PubdEvent → ℕ → List ℕ → Published → Held PubdEvent

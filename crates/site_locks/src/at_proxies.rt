@@ -6,10 +6,12 @@ ghost use Rattle.okws_base.specs.declared.journal.Entry.{Entry};
 ghost use Rattle.okws_plan.specs.declared.event.Mark.{Mark};
 ghost use Rattle.okws_plan.specs.declared.event.ProxyEvent.{ProxyEvent};
 ghost use Rattle.okws_plan.specs.declared.event.ProxyEvent.TheVariants as event;
+ghost use Rattle.okws_plan.specs.declared.statement.Answer.TheVariants.{Rows};
 ghost use Rattle.monitor_model.specs.Proxy.{open_verdict};
 ghost use Rattle.monitor_model.specs.Seen.{proxy_past};
 ghost use Rattle.monitor_model.specs.Standing.{proxy_grant};
 ghost use Rattle.service_cell.specs.Asking.{IsNarrow};
+ghost use Rattle.started_call.specs.Starting.{verdict_of};
 ghost use Rattle.token_core.specs.Token.{token_of};
 ghost use Rattle.site_locks.specs.Calls.{Answered, mark_of};
 ghost use Rattle.site_locks.specs.Sat.{AreSeats, sat_of};
@@ -26,8 +28,10 @@ use okws_base::items::Exact;
 use okws_base::value::Token;
 use okws_outer::gate::Gate;
 use okws_outer::keeper::Keeper;
+use okws_outer::pinned::Pinned;
 use okws_outer::stream::Sink;
 use okws_plan::event::{Call, Mark, ProxyEvent};
+use started_call::Started;
 use std::alloc::{AllocError, Global};
 use std::sync::Wait;
 
@@ -45,16 +49,13 @@ fn copy_of_call(alloc: Global, call: &Call) -> Result<Call, AllocError>
 }
 
 // The mark of a call that was answered so: a fault where it failed.
-fn mark_of(verdict: &Verdict) -> Mark
-    ensures { result ≡ mark_of verdict.now }
+fn mark_of<P>(started: &Started<P>) -> Mark
+    ensures { result ≡ mark_of started.now }
 {
-    match verdict {
-        Verdict::Failed => Mark::Fault,
-        Verdict::Opened(_)
-        | Verdict::Rows { .. }
-        | Verdict::Changed(_)
-        | Verdict::Duplicate
-        | Verdict::Denied(_) => Mark::Done,
+    match started {
+        Started::Failed => Mark::Fault,
+        Started::Ready(_) | Started::Changed(_) | Started::Duplicate | Started::Denied(_) =>
+            Mark::Done,
     }
 }
 
@@ -90,30 +91,30 @@ impl<N: Backed, J: Site, K: Keeper, S: Sink> Seats<N, J, K, S> {
         Ok(verdict)
     }
 
-    /// Decides a call at a proxy, and has its keeper run the query where it is allowed. The call is marked
-    /// as a fault where the keeper failed. Where memory is refused, nothing is entered.
-    pub fn call<R: Wait, G: Gate>(
+    /// Decides a call at a proxy, and enters it. The call is marked as a fault where its keeper failed.
+    /// Rows are found when the proxy's turn was given back. Where memory is refused, nothing is entered.
+    pub fn start<R: Wait, G: Gate>(
         &mut self,
         rt: &R,
         gate: &G,
         locks: &Locks<N, J, K, S>,
         proxy: u16,
         call: Call,
-    ) -> Result<Verdict, AllocError>
+    ) -> Result<Started<K::Pin>, AllocError>
         requires proxy { proxy < length N.site.proxies }
         requires service { call.service < length N.site.services }
-        ensures ok { IfOk result (λ v. (before : List (Entry ProxyEvent)) × (mark : Mark) × Answered N.site N.tells N.steady proxy before call mark v × NotesProxy proxy (event.Call call mark) before self.old self.new) }
-        ensures narrow { IfOk result IsNarrow }
+        ensures ok { IfOk result (λ s. (before : List (Entry ProxyEvent)) × (mark : Mark) × Answered N.site N.tells N.steady proxy before call mark (verdict_of (λ p. Rows (K.Pin.width p) (K.Pin.rows p)) s) × NotesProxy proxy (event.Call call mark) before self.old self.new) }
+        ensures narrow { IfOk result (λ s. IsNarrow (verdict_of (λ p. Rows (K.Pin.width p) (K.Pin.rows p)) s)) }
         ensures err { OnErr result ((before : List (Entry ProxyEvent)) × SeesProxy proxy before self.old self.new) }
     {
         self.own.make_room(1)?;
         let copy = copy_of_call(self.alloc, &call)?;
         let turn = &locks.proxies[proxy as usize];
         let seat = &mut self.proxies[proxy as usize];
-        let verdict = proxy_turn::call(rt, gate, proxy, turn, seat, call)?;
-        let called = ProxyEvent::Call(copy, mark_of(&verdict));
+        let started = proxy_turn::start(rt, gate, proxy, turn, seat, call)?;
+        let called = ProxyEvent::Call(copy, mark_of(&started));
         self.own.enter(Own::Proxy(proxy, called));
-        Ok(verdict)
+        Ok(started)
     }
 
     /// The launcher installs an incarnation at a proxy, with its token there, and notes nothing here. Where

@@ -28,6 +28,7 @@ use okws_outer::keeper::Keeper;
 use okws_outer::stream::Sink;
 use okws_plan::event::Call;
 use service_cell::columns::Columns;
+use started_call::Started;
 use std::alloc::AllocError;
 use std::marker::Model;
 use std::sync::Wait;
@@ -127,6 +128,8 @@ impl<'a, R: Wait, G: Gate, N: Backed, J: Site, K: Keeper, S: Sink> Columns
     ghost use Rattle.std.specs.Prelude.{◌≤◌, false, slice_index};
     ghost use Rattle.site_locks.specs.Sat.{seen_of};
 
+    type Pin = K::Pin;
+
     ghost asker = { λ h. record { config = N.site; worker = h.number; alone = false } };
 
     ghost token_seed = { λ h. N.run_seed };
@@ -170,8 +173,9 @@ impl<'a, R: Wait, G: Gate, N: Backed, J: Site, K: Keeper, S: Sink> Columns
             .open_session(self.rt, self.locks, proxy, service, incarnation, shown)
     }
 
-    fn call(&mut self, proxy: u16, call: Call) -> Result<Verdict, AllocError> {
-        self.seats.call(self.rt, self.gate, self.locks, proxy, call)
+    fn call(&mut self, proxy: u16, call: Call) -> Result<Started<K::Pin>, AllocError> {
+        self.seats
+            .start(self.rt, self.gate, self.locks, proxy, call)
     }
 
     fn get(&mut self, service: u16, incarnation: u32, name: Items<u8>) -> Result<Got, AllocError> {

@@ -7,10 +7,12 @@ ghost use Rattle.okws_base.specs.declared.journal.Entry.{Entry};
 ghost use Rattle.okws_plan.specs.declared.event.Mark.{Mark};
 ghost use Rattle.okws_plan.specs.declared.event.ProxyEvent.{ProxyEvent};
 ghost use Rattle.okws_plan.specs.declared.event.ProxyEvent.TheVariants as event;
+ghost use Rattle.okws_plan.specs.declared.statement.Answer.TheVariants.{Rows};
 ghost use Rattle.monitor_model.specs.Standing.{proxy_grant};
 ghost use Rattle.monitor_model.specs.Proxy.{open_verdict};
 ghost use Rattle.named_columns.specs.Launched.{by_entry};
 ghost use Rattle.service_cell.specs.Asking.{IsNarrow};
+ghost use Rattle.started_call.specs.Starting.{verdict_of};
 ghost use Rattle.token_core.specs.Token.{token_of};
 ghost use Rattle.site_locks.specs.Calls.{Answered};
 ghost use Rattle.site_locks.specs.Turns.{Enters, Sees, EntersAny, Stays, past_after};
@@ -21,7 +23,9 @@ use named_columns::proxy::SiteProxy;
 use okws_base::value::Token;
 use okws_outer::gate::{Gate, Point};
 use okws_outer::keeper::Keeper;
+use okws_outer::pinned::Pinned;
 use okws_plan::event::Call;
+use started_call::Started;
 use std::alloc::AllocError;
 use std::sync::Wait;
 use turn_lock::{Seat, Turn};
@@ -47,28 +51,29 @@ pub fn open_session<N: Backed, K: Keeper, R: Wait>(
     answer
 }
 
-/// Decides a call and runs its query, in a turn, in which the gate is passed with the proxy's number.
-pub fn call<N: Backed, K: Keeper, R: Wait, G: Gate>(
+/// Decides a call and enters it, in a turn, in which the gate is passed with the proxy's number. Rows are
+/// found when the turn was given back.
+pub fn start<N: Backed, K: Keeper, R: Wait, G: Gate>(
     rt: &R,
     gate: &G,
     proxy: u16,
     turn: &Turn<SiteProxy<N, K>>,
     seat: &mut Seat<SiteProxy<N, K>>,
     call: Call,
-) -> Result<Verdict, AllocError>
+) -> Result<Started<K::Pin>, AllocError>
     requires lock { seat.old.lock ≡ turn.now.id }
     requires free { seat.old.held ≡ false }
     requires service { call.service < length N.site.services }
-    ensures ok { IfOk result (λ v. (before : List (Entry ProxyEvent)) × (mark : Mark) × Answered N.site N.tells N.steady seat.old.label before call mark v × Enters (event.Call call mark) before seat.old seat.new) }
-    ensures narrow { IfOk result IsNarrow }
+    ensures ok { IfOk result (λ s. (before : List (Entry ProxyEvent)) × (mark : Mark) × Answered N.site N.tells N.steady seat.old.label before call mark (verdict_of (λ p. Rows (K.Pin.width p) (K.Pin.rows p)) s) × Enters (event.Call call mark) before seat.old seat.new) }
+    ensures narrow { IfOk result (λ s. IsNarrow (verdict_of (λ p. Rows (K.Pin.width p) (K.Pin.rows p)) s)) }
     ensures err { OnErr result ((before : List (Entry ProxyEvent)) × Sees before seat.old seat.new) }
 {
     let mut column = turn.take(rt, seat);
     gate.pass(Point::Called, u64::from(proxy));
     column.launched();
-    let answer = column.call(call);
+    let started = column.start(call);
     turn.give(seat, column);
-    answer
+    started
 }
 
 /// Installs an incarnation in a turn.

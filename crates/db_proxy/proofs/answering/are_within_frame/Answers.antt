@@ -1,5 +1,5 @@
-use Rattle.std.proofs.Common.{arith, lit<}
-use Rattle.db_proxy.proofs.Capped.{capped_within}
+use Rattle.std.proofs.Common.{lit<}
+use Rattle.started_call.proofs.Capped.{capped_within}
 use Rattle.db_proxy.proofs.answering.are_within_frame.Goals as goal
 
 pub returns : goal.returns

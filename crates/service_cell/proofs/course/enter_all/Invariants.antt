@@ -3,7 +3,9 @@ use Rattle.service_cell.proofs.course.enter_all.Given as goal
 
 abbrev pub invariant-loop-item : goal.invariant-loop-item
 invariant-loop-item l = record {
-  past : l.journal.past ≡ reverse l.yielded ++ l.fn.journal.past;
-  all : l.fn.items.items ≡ l.yielded ++ l.item-iterator.rest.items;
-  room : l.journal.room + length l.yielded ≡ l.fn.journal.room;
+  past : l.items.items ++ l.journal.past ≡ reverse l.fn.items.items ++ l.fn.journal.past;
+  room : l.journal.room + length l.fn.items.items ≡ l.fn.journal.room + length l.items.items;
 }
+
+abbrev pub decreases-loop-item : goal.decreases-loop-item
+decreases-loop-item l = length l.items.items

@@ -1,6 +1,7 @@
-use Rattle.std.proofs.Common.{inl, refl}
-use Rattle.service_cell.proofs.Wires.{took, broke_taking}
+use Rattle.std.proofs.Common.{[], inl, refl}
+use Rattle.service_cell.proofs.Wires.{took, broke_taking, stood, unmoved}
 use Rattle.service_cell.proofs.Exchanging.{exchanged}
+use Rattle.service_cell.proofs.exchange.exchange.Goals.{then-is_err-via-then-is_err, then-is_err-via-else-is_err+then-is_err-2}
 use Rattle.service_cell.proofs.exchange.exchange.Goals as goal
 
 pub returns-in-Frame-clause-exchanged : goal.returns-in-Frame-clause-exchanged
@@ -14,3 +15,15 @@ pub returns-in-LinkFault-clause-exchanged : goal.returns-in-LinkFault-clause-exc
 returns-in-LinkFault-clause-exchanged g c =
     let n = c.in-LinkFault.ensures in
     inl (n.next.0, broke_taking (g.L.Link.wire c.args.link.now) (g.L.Link.wire c.make_room.new.self) (g.L.Link.wire c.next.new.link) n.next.0 _ c.make_room.ensures.link n.next.1 n.link refl, c.begin_step.ensures.past, refl)
+
+pub returns-then-is_err-clause-exchanged : goal.returns-then-is_err-clause-exchanged
+returns-then-is_err-clause-exchanged g c =
+    inl (
+      [],
+      elim c.then-is_err.branch [
+        | then-is_err-via-then-is_err w ↦ rw w.link-is (unmoved (g.L.Link.wire c.args.link.now))
+        | then-is_err-via-else-is_err+then-is_err-2 w ↦ rw w.link-is (stood (g.L.Link.wire c.args.link.now) (g.L.Link.wire w.make_room.new.self) w.make_room.ensures.link)
+      ],
+      c.begin_step.ensures.past,
+      refl,
+    )

@@ -1,10 +1,9 @@
 use Rattle.std.proofs.Common.{◌≡◌, ◌+◌, refl, arith, take, length}
 use Rattle.std.specs.Prelude.{flat_map}
-use Rattle.std.proofs.Math.Seq.{take-length}
 use Rattle.std.proofs.lemmas.Grind.{common_steps}
 use Rattle.frame_codec.specs.Spelling.{values, size, four}
 use Rattle.frame_codec.proofs.Sizes.{size_from, length-four}
-use Rattle.db_proxy.proofs.finishing.frame_length.Goals as goal
+use Rattle.started_call.proofs.finishing.frame_length.Goals as goal
 
 pub returns : goal.returns
 returns g c = λ columns.

@@ -6,10 +6,10 @@ use Rattle.okws_plan.specs.declared.statement.Answer.{Answer}
 use Rattle.monitor_model.specs.declared.verdict.Verdict.{Verdict}
 use Rattle.monitor_model.specs.declared.verdict.Verdict.TheVariants as verdict
 use Rattle.monitor_model.specs.Proxy.{within_frame}
-use Rattle.db_proxy.specs.declared.starting.Started.{Started}
-use Rattle.db_proxy.specs.declared.starting.Started.TheVariants.{Ready, Changed, Duplicate, Denied, Failed}
-use Rattle.db_proxy.specs.declared.finishing.Finished.{Finished}
-use Rattle.db_proxy.specs.declared.finishing.Finished.TheVariants as finished
+use Rattle.started_call.specs.declared.started.Started.{Started}
+use Rattle.started_call.specs.declared.started.Started.TheVariants.{Ready, Changed, Duplicate, Denied, Failed}
+use Rattle.started_call.specs.declared.finishing.Finished.{Finished}
+use Rattle.started_call.specs.declared.finishing.Finished.TheVariants as finished
 
 -- The verdict on a call, where `of` says which answer a pin has: an answer that is ready is denied where its frame is too long.
 abbrev pub verdict_of : {P : Type 0} → (P → Answer) → Started P → Verdict

@@ -6,7 +6,7 @@ ghost use Rattle.frame_codec.specs.Spelling.{size, server_parts, value, values};
 ghost use Rattle.frame_codec.specs.declared.frame.ServerFrame.TheVariants as ServerFrame;
 ghost use Rattle.okws_plan.specs.declared.statement.Answer.TheVariants as Answer;
 ghost use Rattle.monitor_model.specs.Proxy.{within_frame};
-ghost use Rattle.db_proxy.specs.Starting.{Finishes};
+ghost use Rattle.started_call.specs.Starting.{Finishes};
 
 use okws_base::denial::Rule;
 use okws_base::limit::LONGEST_FRAME;

@@ -1,6 +1,6 @@
-use Rattle.std.proofs.Common.{◌≡◌, arith, ap, length}
-use Rattle.db_proxy.proofs.Lengths.{int_length, text_length, bytes_length}
-use Rattle.db_proxy.proofs.finishing.value_length.Goals as goal
+use Rattle.std.proofs.Common.{arith, ap, length}
+use Rattle.started_call.proofs.Lengths.{int_length, text_length, bytes_length}
+use Rattle.started_call.proofs.finishing.value_length.Goals as goal
 
 pub returns-in-Int : goal.returns-in-Int
 returns-in-Int c = rw c.in-Int.is (omega (arith, int_length c.in-Int.field-0))

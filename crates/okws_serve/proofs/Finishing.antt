@@ -12,19 +12,21 @@ use Rattle.site_worker.specs.declared.console.Overseen.{Overseen}
 use Rattle.site_worker.specs.declared.door.Attended.{Attended}
 use Rattle.turn_lock.specs.Seats.{TurnIs}
 use Rattle.site_run.specs.Places.{PlacesAre}
-use Rattle.site_run.specs.Rows.{WorksAs}
-use Rattle.okws_serve.specs.Doors.{ServesConsole, is_fault}
+use Rattle.site_run.specs.Rows.{ChairsAre, WorksAs}
+use Rattle.site_run.specs.Tied.{SeatsOf}
+use Rattle.okws_serve.specs.Doors.{is_fault}
 use Rattle.okws_serve.specs.Posts.{DoorIs, ConsoleIs, WorksAt}
-use Rattle.okws_serve.specs.Manned.{AreManned, ArePosted, AllDone, AllWork, AllAttended, doors_of}
+use Rattle.okws_serve.specs.Manned.{AreManned, ArePosted, AllDone, AllWork, AllAttended, ConsoleDone, doors_of, lives_of}
 use Rattle.okws_serve.specs.declared.post.Post.{Post}
 use Rattle.okws_serve.specs.declared.post.Post.TheVariants.{Door, Console}
 use Rattle.okws_serve.proofs.Running.{AllServed, all_back, attended_at, console_served, here_overseen, posted_many, works_many}
 
 -- the posts of a run, once the console's is there
-pub posted : (t : TurnIs) (z : TableId) (most : ℕ) (es : List Entrance) (w : ConnWire) (ps all : List (Post DoorIs ConsoleIs)) (c : ConsoleIs) (J : Life) (lines k : ℕ)
+pub posted : (t : TurnIs) (z : TableId) (most : ℕ) (chairs : ChairsAre) (es : List Entrance) (w : ConnWire) (ps all : List (Post DoorIs ConsoleIs)) (c : ConsoleIs) (J : Life) (lines k : ℕ)
     → all ≡ ps ++ Console c ∷ [] → AreManned t z most 0 ps → map (λ (d : DoorIs). d.entrance) (doors_of ps) ≡ es → length ps ≡ length es
-    → c ≡ record { wire = w; lines = lines; life = J; overseen = None } → lines ≡ 0 → k ≡ length es → WorksAs t k J → ArePosted t z most es w all
-posted t z most es w ps all c J lines k e h f m is first q works = record {
+    → c ≡ record { wire = w; lines = lines; life = J; overseen = None } → lines ≡ 0 → k ≡ length es → WorksAs t k J
+    → SeatsOf (lives_of (doors_of ps) ++ J ∷ []) chairs → ArePosted t z most chairs es w all
+posted t z most chairs es w ps all c J lines k e h f m is first q works seats = record {
   doors = ps;
   console = c;
   posts_are = e;
@@ -35,6 +37,7 @@ posted t z most es w ps all c J lines k e h f m is first q works = record {
   wire_is = ap (λ (x : ConsoleIs). x.wire) is;
   first = ap (λ (x : ConsoleIs). x.lines) is ∙ first;
   none = ap (λ (x : ConsoleIs). x.overseen) is;
+  seats = subst (λ L. SeatsOf (lives_of (doors_of ps) ++ L ∷ []) chairs) (sym (ap (λ (x : ConsoleIs). x.life) is)) seats;
 }
 
 -- a post that is done is at a door
@@ -48,12 +51,12 @@ last_console wire C n c (Door d) w f = w
 last_console wire C n c (Console d) w f = f d refl
 
 -- there is a last one
-pub some_posts : {X : Type 0} (wire : X → ConnWire) (C : Config) (n : ℕ) (t : TurnIs) (z : TableId) (most : ℕ) (es : List Entrance) (w : ConnWire) (before after : List (Post DoorIs ConsoleIs))
-    → ArePosted t z most es w before → AllWork wire C n before after → length after ≡ suc (length es)
-some_posts wire C n t z most es w before after h work = works_many wire C n before after work ∙ posted_many t z most es w before h
+pub some_posts : {X : Type 0} (wire : X → ConnWire) (C : Config) (n : ℕ) (t : TurnIs) (z : TableId) (most : ℕ) (chairs : ChairsAre) (es : List Entrance) (w : ConnWire) (before after : List (Post DoorIs ConsoleIs))
+    → ArePosted t z most chairs es w before → AllWork wire C n before after → length after ≡ suc (length es)
+some_posts wire C n t z most chairs es w before after h work = works_many wire C n before after work ∙ posted_many t z most chairs es w before h
 
 -- as many doors as were attended
-attended_same : {X : Type 0} (wire : X → ConnWire) (C : Config) (n : ℕ) (z : TableId) (most k : ℕ) (ds : List DoorIs) (as' : List Attended) (es : List DoorIs) → AllAttended wire C n z most k ds as' es → length es ≡ length ds
+pub attended_same : {X : Type 0} (wire : X → ConnWire) (C : Config) (n : ℕ) (z : TableId) (most k : ℕ) (ds : List DoorIs) (as' : List Attended) (es : List DoorIs) → AllAttended wire C n z most k ds as' es → length es ≡ length ds
 attended_same wire C n z most k [] [] [] h = refl
 attended_same wire C n z most k [] [] (e ∷ es) h = absurd h
 attended_same wire C n z most k [] (a ∷ as') es h = absurd h
@@ -81,6 +84,6 @@ overseer_back wire C n t z most es w qs q d k h e m =
 
 -- and the console was served
 pub console_back : {X : Type 0} (wire : X → ConnWire) (C : Config) (n : ℕ) (t : TurnIs) (z : TableId) (most : ℕ) (es : List Entrance) (w x : ConnWire) (qs : List (Post DoorIs ConsoleIs)) (q : Post DoorIs ConsoleIs) (d : ConsoleIs) (how : Overseen)
-    → AllServed wire C n t z most es w qs q → q ≡ Console d → d.overseen ≡ Some how → x ≡ d.wire → ServesConsole C w x (is_fault how)
+    → AllServed wire C n t z most es w qs q → q ≡ Console d → d.overseen ≡ Some how → x ≡ d.wire → ConsoleDone C (length es) d.life w x (is_fault how)
 console_back wire C n t z most es w x qs q d how h e s f =
-    console_served C h.console.overseen h.console d how w x h.none (here_overseen wire C n h.console q d h.overseen e) s h.wire_is (sym f) h.first
+    console_served C (length es) h.console.overseen h.console d how w x h.begins h.none (here_overseen wire C n h.console q d h.overseen e) s h.wire_is (sym f) h.first

@@ -8,3 +8,4 @@ pub mod Finishing
 pub mod Stationing
 pub mod Serving
 pub mod Surviving
+pub mod Listing

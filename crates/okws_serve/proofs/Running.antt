@@ -1,5 +1,6 @@
 -- Workers at their posts, from the beginning of a run to its end.
 use Rattle.std.proofs.Common.{◌≡◌, ℕ, suc, ◌+◌, ◌≤◌, Bool, ◌||◌, List, [], ◌∷◌, ◌++◌, length, map, refl, sym, ap, ◌∙◌, subst, arith, append_assoc, append-nil}
+use Rattle.std.proofs.lemmas.List.{length-map}
 use Rattle.std.specs.Prelude.{Some, None, IsSome, IsNone, option_to_list}
 use Rattle.std.specs.declared.option.Option.{Option}
 use Rattle.atomic_table.specs.Seated.{TableId}
@@ -11,16 +12,19 @@ use Rattle.okws_outer.specs.Conns.{ConnWire}
 use Rattle.okws_outer.specs.Doors.{Entrance}
 use Rattle.okws_plan.specs.declared.configuration.Config.{Config}
 use Rattle.site_worker.specs.Commands.{Oversees}
+use Rattle.site_worker.specs.Lives.{Life}
 use Rattle.site_worker.specs.declared.console.Overseen.{Overseen}
 use Rattle.site_worker.specs.declared.door.Attended.{Attended}
 use Rattle.turn_lock.specs.Seats.{TurnIs}
 use Rattle.site_run.specs.Places.{AllIdle, PlacesAre, Placed, HasPlaces, SamePlaces}
 use Rattle.site_run.specs.Rows.{ChairsAre, Spacious, SameRoom, WorksAs}
+use Rattle.site_run.specs.Tied.{AllBegin, LifeBegins, MoreOf, Unused}
 use Rattle.site_run.proofs.Lists.{rising_pop}
 use Rattle.site_run.proofs.Seating.{push_length}
-use Rattle.okws_serve.specs.Doors.{ServesConsole, any_starved, is_fault}
+use Rattle.site_run.proofs.Tying.{begin_pop, lives_begin, more_then}
+use Rattle.okws_serve.specs.Doors.{any_starved, is_fault}
 use Rattle.okws_serve.specs.Posts.{DoorIs, ConsoleIs, OverseenBy, OverseenIf, WorksAt}
-use Rattle.okws_serve.specs.Manned.{ArePosted, AllWork, AllAttended, DoorsDone, doors_of, attended_of, served_of}
+use Rattle.okws_serve.specs.Manned.{ArePosted, AllWork, AllAttended, ConsoleDone, DoorsDone, doors_of, lives_of, attended_of, served_of}
 use Rattle.okws_serve.specs.declared.post.Post.{Post}
 use Rattle.okws_serve.specs.declared.post.Post.TheVariants.{Door, Console}
 use Rattle.okws_serve.proofs.Left.{served_push, counts_on, starved_push}
@@ -57,10 +61,12 @@ pub record AllServed {X : Type 0} (wire : X → ConnWire) (C : Config) (n : ℕ)
   pub wire_is : console.wire ≡ w
   pub first : console.lines ≡ 0
   pub none : console.overseen ≡ None
+  pub begin : AllBegin C 0 (lives_of (doors_of doors))
+  pub begins : LifeBegins C (length es) console.life
 
-pub all_served : {X : Type 0} (wire : X → ConnWire) (C : Config) (n : ℕ) (t : TurnIs) (z : TableId) (most : ℕ) (es : List Entrance) (w : ConnWire) (before after qs : List (Post DoorIs ConsoleIs)) (q : Post DoorIs ConsoleIs)
-    → ArePosted t z most es w before → AllWork wire C n before after → after ≡ qs ++ q ∷ [] → AllServed wire C n t z most es w qs q
-all_served wire C n t z most es w before after qs q h work f =
+pub all_served : {X : Type 0} (wire : X → ConnWire) (C : Config) (n : ℕ) (t : TurnIs) (z : TableId) (most : ℕ) (chairs : ChairsAre) (es : List Entrance) (w : ConnWire) (before after qs : List (Post DoorIs ConsoleIs)) (q : Post DoorIs ConsoleIs)
+    → Unused C chairs → ArePosted t z most chairs es w before → AllWork wire C n before after → after ≡ qs ++ q ∷ [] → AllServed wire C n t z most es w qs q
+all_served wire C n t z most chairs es w before after qs q unused h work f =
     let ps = h.doors in
     let c = h.console in
     let v = subst (λ xs. AllWork wire C n xs (qs ++ q ∷ [])) h.posts_are (subst (AllWork wire C n before) f work) in
@@ -69,6 +75,9 @@ all_served wire C n t z most es w before after qs q h work f =
     let b = push_length qs q in
     let many = h.many in
     let p = works_pop wire C n ps (Console c) qs q (omega arith) v in
+    let lives = lives_of (doors_of ps) in
+    let size : length lives ≡ length es = length-map (doors_of ps) (λ (d : DoorIs). d.life) ∙ (sym (length-map (doors_of ps) (λ (d : DoorIs). d.entrance)) ∙ ap length h.entrances_are) in
+    let first = begin_pop C 0 (length es) lives c.life (omega arith) (lives_begin C 0 (lives ++ c.life ∷ []) chairs.seats chairs.cells chairs.turns unused h.seats) in
     record {
       doors = ps;
       console = c;
@@ -80,11 +89,13 @@ all_served wire C n t z most es w before after qs q h work f =
       wire_is = h.wire_is;
       first = h.first;
       none = h.none;
+      begin = first.0;
+      begins = first.1;
     }
 
 -- posts of a run are as many as the doors and one
-pub posted_many : (t : TurnIs) (z : TableId) (most : ℕ) (es : List Entrance) (w : ConnWire) (ps : List (Post DoorIs ConsoleIs)) → ArePosted t z most es w ps → length ps ≡ suc (length es)
-posted_many t z most es w ps h = ap length h.posts_are ∙ (push_length h.doors (Console h.console) ∙ ap suc h.many)
+pub posted_many : (t : TurnIs) (z : TableId) (most : ℕ) (chairs : ChairsAre) (es : List Entrance) (w : ConnWire) (ps : List (Post DoorIs ConsoleIs)) → ArePosted t z most chairs es w ps → length ps ≡ suc (length es)
+posted_many t z most chairs es w ps h = ap length h.posts_are ∙ (push_length h.doors (Console h.console) ∙ ap suc h.many)
 
 -- the last post is at the console
 pub last_overseen : {X : Type 0} (wire : X → ConnWire) (C : Config) (n : ℕ) (c : ConsoleIs) (q : Post DoorIs ConsoleIs) → WorksAt wire C n (Console c) q → (d : DoorIs) → q ≡ Door d → ⊥
@@ -95,15 +106,17 @@ here_overseen wire C n c q d w e = subst (λ x. WorksAt wire C n (Console c) x) 
 
 -- the doors of a run were attended
 pub doors_done : {X : Type 0} (wire : X → ConnWire) (C : Config) (n : ℕ) (t : TurnIs) (z : TableId) (most : ℕ) (old new : PlacesAre) (ps qs : List (Post DoorIs ConsoleIs)) (connections : ℕ) (starved : Bool)
-    → Done wire C n t z most 0 ps qs → map (λ (d : DoorIs). d.entrance) (doors_of ps) ≡ old.entrances
+    → Done wire C n t z most 0 ps qs → AllBegin C 0 (lives_of (doors_of ps)) → map (λ (d : DoorIs). d.entrance) (doors_of ps) ≡ old.entrances
     → new.entrances ≡ map (λ (d : DoorIs). d.entrance) (doors_of qs) → new.places ≡ map (λ (d : DoorIs). d.place) (doors_of qs)
     → connections ≡ capped (served_of (attended_of (doors_of qs))) → starved ≡ any_starved (attended_of (doors_of qs)) → AllIdle new.entrances
-    → DoorsDone wire C n z most old new connections starved
-doors_done wire C n t z most old new ps qs connections starved h e f p c s i = record {
+    → DoorsDone wire C n z most (lives_of (doors_of qs)) old new connections starved
+doors_done wire C n t z most old new ps qs connections starved h b e f p c s i = record {
   before = doors_of ps;
   attended = attended_of (doors_of qs);
   after = doors_of qs;
+  begin = b;
   each = h.attended;
+  lives_are = refl;
   old_is = sym e;
   new_is = f;
   places_are = p;
@@ -123,15 +136,15 @@ same_some : {A : Type 0} (x y : A) → Some x ≡ Some y → x ≡ y
 same_some x y e = cc
 
 -- and served from its first line
-pub console_served : (C : Config) (o : Option Overseen) (c d : ConsoleIs) (how : Overseen) (w x : ConnWire) → o ≡ None → OverseenIf C c o d → d.overseen ≡ Some how → c.wire ≡ w → d.wire ≡ x → c.lines ≡ 0 → ServesConsole C w x (is_fault how)
-console_served C o c d how w x e i s p q f =
+pub console_served : (C : Config) (k : ℕ) (o : Option Overseen) (c d : ConsoleIs) (how : Overseen) (w x : ConnWire) → LifeBegins C k c.life → o ≡ None → OverseenIf C c o d → d.overseen ≡ Some how → c.wire ≡ w → d.wire ≡ x → c.lines ≡ 0 → ConsoleDone C k d.life w x (is_fault how)
+console_served C k o c d how w x l e i s p q f =
     let b = overseen_by C o c d e i in
     let same : b.0 ≡ how = same_some b.0 how (sym b.1.done ∙ s) in
     record {
       lines = d.lines;
       before = c.life;
-      after = d.life;
       how = how;
+      begins = l;
       oversees = subst (λ k. Oversees C w x k d.lines c.life d.life how) f (subst (λ v. Oversees C w v c.lines d.lines c.life d.life how) q (subst (λ v. Oversees C v d.wire c.lines d.lines c.life d.life how) p
           (subst (λ h. Oversees C c.wire d.wire c.lines d.lines c.life d.life h) same b.1.oversees)));
       failed_is = refl;
@@ -212,3 +225,19 @@ still_places m n x y l h s =
 
 pub same_places : (x y z : PlacesAre) → SamePlaces x y → SamePlaces y z → SamePlaces x z
 same_places x y z h i = record { doors = i.doors ∙ h.doors; desks = i.desks ∙ h.desks }
+
+-- the seats of the lives that came back from their posts
+pub record LivesBack (all : List Life) (left : List (Post DoorIs ConsoleIs)) (x y : ChairsAre) : Type 0 where
+  pub before : List Life
+  pub all_is : before ++ lives_of (doors_of left) ≡ all
+  pub seats : MoreOf before x y
+
+pub lives_next : (all : List Life) (more left : List (Post DoorIs ConsoleIs)) (d : DoorIs) (x y z : ChairsAre) → more ≡ left ++ Door d ∷ [] → MoreOf (d.life ∷ []) y z → LivesBack all more x y → LivesBack all left x z
+lives_next all more left d x y z q m h = record {
+  before = h.before ++ d.life ∷ [];
+  all_is = doors_left (λ (e : DoorIs). e.life) all h.before (h.before ++ d.life ∷ []) more left d h.all_is q refl;
+  seats = more_then h.before (d.life ∷ []) x y z h.seats m;
+}
+
+pub lives_all : (all : List Life) (left : List (Post DoorIs ConsoleIs)) (x y : ChairsAre) → left ≡ [] → LivesBack all left x y → MoreOf all x y
+lives_all all left x y e h = subst (λ Js. MoreOf Js x y) (doors_all (λ (d : DoorIs). d.life) all h.before left e h.all_is) h.seats

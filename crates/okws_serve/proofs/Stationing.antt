@@ -8,13 +8,15 @@ use Rattle.okws_outer.specs.Doors.{Entrance}
 use Rattle.site_worker.specs.Lives.{Life}
 use Rattle.turn_lock.specs.Seats.{TurnIs}
 use Rattle.site_run.specs.Places.{PlacesAre, Placed}
-use Rattle.site_run.specs.Rows.{WorksAs}
+use Rattle.site_run.specs.Rows.{ChairsAre, WorksAs}
+use Rattle.site_run.specs.Tied.{MoreOf}
 use Rattle.site_run.proofs.Seating.{push_length}
+use Rattle.site_run.proofs.Tying.{more_then}
 use Rattle.okws_serve.specs.Posts.{DoorIs, ConsoleIs}
-use Rattle.okws_serve.specs.Manned.{IsManned, AreManned, doors_of}
+use Rattle.okws_serve.specs.Manned.{IsManned, AreManned, doors_of, lives_of}
 use Rattle.okws_serve.specs.declared.post.Post.{Post}
 use Rattle.okws_serve.specs.declared.post.Post.TheVariants.{Door}
-use Rattle.okws_serve.proofs.Manned.{entrances_next, manned_push}
+use Rattle.okws_serve.proofs.Manned.{doors_push, entrances_next, manned_push}
 use Rattle.okws_serve.proofs.Running.{placed_pop}
 
 -- a worker is put to the last door of the row
@@ -41,3 +43,10 @@ doors_next all x y ps qs d e q is h s =
     let f = λ (v : DoorIs). v.entrance in
     subst (λ rs. all ≡ y.entrances ++ map f (doors_of rs)) (sym s)
     (entrances_next f all y.entrances ps d (h ∙ ap (λ es. es ++ map f (doors_of ps)) (q ∙ ap (λ v. y.entrances ++ v ∷ []) (sym is))))
+
+-- and the seats that are left are those of the others
+pub seats_next : (x y all : ChairsAre) (ps qs : List (Post DoorIs ConsoleIs)) (d : DoorIs) (J : Life) → d.life ≡ J → qs ≡ ps ++ Door d ∷ [] → MoreOf (J ∷ []) y x → MoreOf (lives_of (doors_of ps)) x all → MoreOf (lives_of (doors_of qs)) y all
+seats_next x y all ps qs d J is s h i =
+    subst (λ rs. MoreOf (lives_of (doors_of rs)) y all) (sym s)
+    (subst (λ ds. MoreOf (lives_of ds) y all) (sym (doors_push ps d))
+    (subst (λ L. MoreOf (L ∷ lives_of (doors_of ps)) y all) (sym is) (more_then (J ∷ []) (lives_of (doors_of ps)) y x all h i)))

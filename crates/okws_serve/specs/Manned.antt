@@ -7,10 +7,14 @@ use Rattle.okws_outer.specs.Doors.{Entrance}
 use Rattle.turn_lock.specs.Seats.{TurnIs}
 use Rattle.live_board.specs.Seats.{IsFresh}
 use Rattle.named_columns.specs.Counts.{capped}
+use Rattle.site_worker.specs.Commands.{Oversees}
+use Rattle.site_worker.specs.Lives.{Life}
+use Rattle.site_worker.specs.declared.console.Overseen.{Overseen}
 use Rattle.site_worker.specs.declared.door.Attended.{Attended}
 use Rattle.site_run.specs.Places.{AllIdle, PlacesAre}
-use Rattle.site_run.specs.Rows.{WorksAs}
-use Rattle.okws_serve.specs.Doors.{any_starved}
+use Rattle.site_run.specs.Rows.{ChairsAre, WorksAs}
+use Rattle.site_run.specs.Tied.{AllBegin, LifeBegins, SeatsOf}
+use Rattle.okws_serve.specs.Doors.{any_starved, is_fault}
 use Rattle.okws_serve.specs.Posts.{DoorIs, ConsoleIs, AttendedBy, WorksAt}
 use Rattle.okws_serve.specs.declared.post.Post.{Post}
 use Rattle.okws_serve.specs.declared.post.Post.TheVariants.{Door, Console}
@@ -34,8 +38,12 @@ doors_of [] = []
 doors_of (Door d ∷ ps) = doors_of ps ++ d ∷ []
 doors_of (Console c ∷ ps) = doors_of ps
 
--- Posts of a run: a worker at each of these doors, which it did not attend yet, and after them one at the console, of which no line was read; it has the next number.
-pub record ArePosted (t : TurnIs) (z : TableId) (most : ℕ) (entrances : List Entrance) (wire : ConnWire) (posts : List (Post DoorIs ConsoleIs)) : Type 0 where
+-- The lives of the workers at these doors.
+abbrev pub lives_of : List DoorIs → List Life
+lives_of ds = map (λ (d : DoorIs). d.life) ds
+
+-- Posts of a run: a worker at each of these doors, which it did not attend yet, and after them one at the console, of which no line was read; it has the next number. They have these seats.
+pub record ArePosted (t : TurnIs) (z : TableId) (most : ℕ) (chairs : ChairsAre) (entrances : List Entrance) (wire : ConnWire) (posts : List (Post DoorIs ConsoleIs)) : Type 0 where
   pub doors : List (Post DoorIs ConsoleIs)
   pub console : ConsoleIs
   pub posts_are : posts ≡ doors ++ Console console ∷ []
@@ -46,6 +54,7 @@ pub record ArePosted (t : TurnIs) (z : TableId) (most : ℕ) (entrances : List E
   pub wire_is : console.wire ≡ wire
   pub first : console.lines ≡ 0
   pub none : console.overseen ≡ None
+  pub seats : SeatsOf (lives_of (doors_of doors) ++ console.life ∷ []) chairs
 
 -- These are posts at doors alone, which were attended.
 abbrev pub AllDone : List (Post DoorIs ConsoleIs) → Type 0
@@ -86,15 +95,34 @@ AllAttended wire C n z most k (d ∷ ds) (a ∷ as') [] = ⊥
 AllAttended wire C n z most k (d ∷ ds) (a ∷ as') (e ∷ es) =
     IsFresh z k d.place × (d.most ≡ most) × AttendedBy wire C n d a e × AllAttended wire C n z most (suc k) ds as' es
 
--- All doors of a run were attended, by workers that drew numbers below `most` from this board: so many connections were served, and memory was refused to a worker or not.
-pub record DoorsDone {X : Type 0} (wire : X → ConnWire) (C : Config) (n : ℕ) (z : TableId) (most : ℕ) (old new : PlacesAre) (connections : ℕ) (starved : Bool) : Type 0 where
+-- All doors of a run were attended, by workers whose lives began there and are these now, and that drew numbers below `most` from this board: so many connections were served, and memory was refused to a worker or not.
+pub record DoorsDone {X : Type 0} (wire : X → ConnWire) (C : Config) (n : ℕ) (z : TableId) (most : ℕ) (lives : List Life) (old new : PlacesAre) (connections : ℕ) (starved : Bool) : Type 0 where
   pub before : List DoorIs
   pub attended : List Attended
   pub after : List DoorIs
+  pub begin : AllBegin C 0 (lives_of before)
   pub each : AllAttended wire C n z most 0 before attended after
+  pub lives_are : lives ≡ lives_of after
   pub old_is : old.entrances ≡ map (λ (d : DoorIs). d.entrance) before
   pub new_is : new.entrances ≡ map (λ (d : DoorIs). d.entrance) after
   pub places_are : new.places ≡ map (λ (d : DoorIs). d.place) after
   pub connections_are : connections ≡ capped (served_of attended)
   pub starved_is : starved ≡ any_starved attended
   pub idle : AllIdle new.entrances
+
+-- A console was overseen from its first line, by a worker of number w whose life began there and is this now.
+pub record ConsoleDone (C : Config) (w : ℕ) (life : Life) (old new : ConnWire) (failed : Bool) : Type 0 where
+  pub lines : ℕ
+  pub before : Life
+  pub how : Overseen
+  pub begins : LifeBegins C w before
+  pub oversees : Oversees C old new 0 lines before life how
+  pub failed_is : failed ≡ is_fault how
+
+-- All workers of a run left their posts, at the doors and at the console, and these are the seats of their lives.
+pub record WorkDone {X : Type 0} (wire : X → ConnWire) (C : Config) (n : ℕ) (z : TableId) (most : ℕ) (chairs : ChairsAre) (old new : PlacesAre) (before after : ConnWire) (connections : ℕ) (starved failed : Bool) : Type 0 where
+  pub lives : List Life
+  pub last : Life
+  pub seats : SeatsOf (lives ++ last ∷ []) chairs
+  pub doors : DoorsDone wire C n z most lives old new connections starved
+  pub console : ConsoleDone C (length old.entrances) last before after failed

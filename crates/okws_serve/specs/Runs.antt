@@ -1,12 +1,17 @@
 -- What a run does with its objects.
-use Rattle.std.specs.Prelude.{ℕ, Bool, List}
+use Rattle.std.specs.Prelude.{◌≤◌, ℕ, Bool, List, length}
 use Rattle.std.specs.declared.option.Option.{Option}
 use Rattle.okws_plan.specs.declared.configuration.Config.{Config}
 use Rattle.okws_outer.specs.Conns.{ConnWire}
 use Rattle.okws_outer.specs.Doors.{Entrance}
+use Rattle.monitor_model.specs.Lawful.{AllStandThere}
+use Rattle.monitor_model.specs.Merged.{LaunchesAlone}
+use Rattle.monitor_model.specs.Missing.{MissesAreTrue}
+use Rattle.monitor_model.specs.Placed.{EachFrom}
 use Rattle.site_run.specs.Journals.{KeepLaws, NameNumbers, AreCounts}
 use Rattle.site_run.specs.Keepers.{KeeperIs}
 use Rattle.site_run.specs.Closing.{WritesLog, AllKept}
+use Rattle.site_run.specs.Tied.{LaunchesAreOwn, ListIsOwn}
 use Rattle.okws_serve.specs.Doors.{ServesConsole, ServesDoors}
 use Rattle.okws_serve.specs.declared.outfit.Ran.{Ran}
 
@@ -24,10 +29,15 @@ pub record StartIs : Type 0 where
   pub keeper_faults : ℕ → ℕ
   pub sink_faults : ℕ
 
--- A run of a site with tokens of this seed, in which number n launched and at most `most` connections were begun, from doors and a console as they were to objects as they are then.
+-- A run of a site with tokens of this seed, in which number n launched and at most `most` connections were begun, from doors and a console as they were to objects as they are then. Its record is that in which the lives of its workers ended: door w is number w's, and the console that of the number behind them.
 pub record Runs {X : Type 0} (wire : X → ConnWire) (C : Config) (seed : List ℕ) (n most : ℕ) (start : StartIs) (doors : List Entrance) (console : ConnWire) (ran : Ran) (left : ObjectsAre) : Type 0 where
-  pub served : ServesDoors wire C n most doors left.entrances ran.counts.connections ran.starved
-  pub steered : ServesConsole C console left.console ran.console_failed
+  pub served : ServesDoors wire C n most ran.record doors left.entrances ran.counts.connections ran.starved
+  pub steered : ServesConsole C n ran.record (length doors) console left.console ran.console_failed
+  pub launched : LaunchesAreOwn n ran.record
+  pub lists : (w : ℕ) → w ≤ n → ListIsOwn n w ran.record
+  pub alone : LaunchesAlone ran.record
+  pub missed : MissesAreTrue ran.record
+  pub stands : EachFrom (λ s J. AllStandThere J) 0 ran.record.cells
   pub laws : KeepLaws C seed n ran.record
   pub numbers : NameNumbers n ran.record
   pub counts : AreCounts C ran.record ran.counts

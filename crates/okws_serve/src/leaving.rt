@@ -5,8 +5,9 @@ ghost use Rattle.turn_lock.specs.Seats.{TurnIs};
 ghost use Rattle.named_columns.specs.Counts.{capped};
 ghost use Rattle.site_run.specs.Places.{AllIdle, HasPlaces, SamePlaces};
 ghost use Rattle.site_run.specs.Rows.{Seated, Spacious, SameRoom, WorksAs};
+ghost use Rattle.site_run.specs.Tied.{MoreOf};
 ghost use Rattle.okws_serve.specs.Doors.{any_starved};
-ghost use Rattle.okws_serve.specs.Manned.{doors_of, AllDone, AreAt, attended_of, served_of};
+ghost use Rattle.okws_serve.specs.Manned.{doors_of, lives_of, AllDone, AreAt, attended_of, served_of};
 ghost use Rattle.okws_serve.specs.Posts.{DoorIs};
 
 use crate::post::{ConsolePost, DoorPost, Post, PostOf};
@@ -69,6 +70,7 @@ fn leave_door<
     ensures attended { post.entry.attended ≡ Some result }
     ensures seated { (t : TurnIs) → WorksAs t (length chairs.old.seats) post.entry.life → Seated t (length N.site.services) chairs.old → Seated t (length N.site.services) chairs.new }
     ensures more { (length chairs.new.seats ≡ length chairs.old.seats + 1) × (length chairs.new.cells ≡ length chairs.old.seats + 1) × (length chairs.new.turns ≡ length chairs.old.seats + 1) }
+    ensures whose { MoreOf (post.entry.life ∷ []) chairs.old chairs.new }
     ensures door { places.new.entrances ≡ places.old.entrances ++ post.entry.entrance ∷ [] }
     ensures place { places.new.places ≡ places.old.places ++ post.entry.place ∷ [] }
     ensures idle { IsNone post.entry.entrance.out }
@@ -105,6 +107,7 @@ pub(crate) fn leave_doors<
     requires room { Spacious (vec_len posts) chairs.old × HasPlaces (vec_len posts) places.old }
     ensures seated { (t : TurnIs) → AreAt t 0 posts.entry.items → Seated t (length N.site.services) chairs.new }
     ensures many { (length chairs.new.seats ≡ vec_len posts.entry) × (length chairs.new.cells ≡ vec_len posts.entry) × (length chairs.new.turns ≡ vec_len posts.entry) }
+    ensures lives { MoreOf (lives_of (doors_of posts.entry.items)) chairs.old chairs.new }
     ensures doors { places.new.entrances ≡ map (λ (d : DoorIs). d.entrance) (doors_of posts.entry.items) }
     ensures places { places.new.places ≡ map (λ (d : DoorIs). d.place) (doors_of posts.entry.items) }
     ensures idle { AllIdle places.new.entrances }
@@ -148,6 +151,7 @@ pub(crate) fn leave_console<
     ensures overseen { post.entry.overseen ≡ Some result.1 }
     ensures console { O.wire result.0 ≡ post.entry.wire }
     ensures seated { (t : TurnIs) → WorksAs t (length chairs.old.seats) post.entry.life → Seated t (length N.site.services) chairs.old → Seated t (length N.site.services) chairs.new }
+    ensures whose { MoreOf (post.entry.life ∷ []) chairs.old chairs.new }
     ensures many { length chairs.new.seats ≡ length chairs.old.seats + 1 }
     ensures room { SameRoom chairs.old chairs.new }
 {

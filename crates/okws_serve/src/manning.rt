@@ -5,7 +5,8 @@ ghost use Rattle.okws_base.specs.declared.limit.TheConstants.{MOST_SERVICES, MOS
 ghost use Rattle.site_run.specs.Places.{Placed, SamePlaces};
 ghost use Rattle.site_run.specs.Rooms.{HasRoom};
 ghost use Rattle.site_run.specs.Rows.{Seated, SameRoom};
-ghost use Rattle.okws_serve.specs.Manned.{AreManned, doors_of, ArePosted};
+ghost use Rattle.site_run.specs.Tied.{MoreOf};
+ghost use Rattle.okws_serve.specs.Manned.{AreManned, doors_of, lives_of, ArePosted};
 ghost use Rattle.okws_serve.specs.Posts.{DoorIs};
 
 use crate::post::{ConsolePost, DoorPost, Post, PostOf};
@@ -59,6 +60,7 @@ fn man_doors<
     ensures manned { AreManned ground.now.turn.now ground.now.numbers.now.id ground.now.most 0 posts.new.items }
     ensures doors { map (λ (d : DoorIs). d.entrance) (doors_of posts.new.items) ≡ places.old.entrances }
     ensures many { vec_len posts.new ≡ length places.old.entrances }
+    ensures lives { MoreOf (lives_of (doors_of posts.new.items)) chairs.new chairs.old }
     ensures empty { (chairs.new.seats ≡ []) × (chairs.new.cells ≡ []) × (chairs.new.turns ≡ []) × (places.new.entrances ≡ []) × (places.new.places ≡ []) }
     ensures room { SameRoom chairs.old chairs.new × SamePlaces places.old places.new × (vec_capacity posts.new ≡ vec_capacity posts.old) }
 {
@@ -99,7 +101,7 @@ pub(crate) fn man_all<
     requires alike { length chairs.old.seats ≡ length places.old.entrances + 1 }
     requires posts { HasRoom (length places.old.entrances + 1) (vec_len posts.old) (vec_capacity posts.old) }
     requires first { console.reader ≡ 0 }
-    ensures posted { ArePosted ground.now.turn.now ground.now.numbers.now.id ground.now.most places.old.entrances (O.wire console.console) posts.new.items }
+    ensures posted { ArePosted ground.now.turn.now ground.now.numbers.now.id ground.now.most chairs.old places.old.entrances (O.wire console.console) posts.new.items }
     ensures empty { (chairs.new.seats ≡ []) × (chairs.new.cells ≡ []) × (chairs.new.turns ≡ []) × (places.new.entrances ≡ []) × (places.new.places ≡ []) }
     ensures room { SameRoom chairs.old chairs.new × SamePlaces places.old places.new }
 {

@@ -11,8 +11,8 @@ ghost use Rattle.site_run.specs.Making.{IsServable};
 ghost use Rattle.site_run.specs.Places.{AllIdle, PlacesAre};
 ghost use Rattle.site_run.specs.Rooms.{HasRoom, IsStock};
 ghost use Rattle.site_run.specs.Whole.{IsHeld, IsReady};
-ghost use Rattle.okws_serve.specs.Doors.{is_fault, ServesConsole};
-ghost use Rattle.okws_serve.specs.Manned.{DoorsDone};
+ghost use Rattle.okws_serve.specs.Doors.{is_fault};
+ghost use Rattle.okws_serve.specs.Manned.{WorkDone};
 ghost use Rattle.okws_serve.specs.Runs.{Runs};
 
 use crate::leaving::Served;
@@ -207,8 +207,7 @@ where
     requires first { console.reader ≡ 0 }
     ensures held { IsHeld N.site N.launcher scene.now.hall.turn scene.now.hall.numbers scene.now.hall.cells chairs.new places.new }
     ensures idle { AllIdle places.new.entrances }
-    ensures doors { DoorsDone D.Conn.wire N.site N.launcher scene.now.hall.numbers.id most places.old places.new result.1.connections result.1.starved }
-    ensures console { ServesConsole N.site (O.wire console.console) (O.wire result.0) (is_fault result.2) }
+    ensures done { WorkDone D.Conn.wire N.site N.launcher scene.now.hall.numbers.id most chairs.new places.old places.new (O.wire console.console) (O.wire result.0) result.1.connections result.1.starved (is_fault result.2) }
 {
     let common = scene.ground(alloc, most);
     run(&common, chairs, places, console, posts)
@@ -242,7 +241,7 @@ pub(crate) fn end_run<
     ensures idle { AllIdle (map D.entrance result.doors.items) }
     ensures some { IsSome result.ran × IsSome result.log }
     ensures ran { IfSome result.ran (λ ran. IfSome result.log (λ log. (most : ℕ) (old : PlacesAre) (w : ConnWire) → most ≤ MOST_CONNECTIONS
-        → DoorsDone D.Conn.wire N.site N.launcher scene.hall.numbers.id most old places served.connections served.starved → ServesConsole N.site w (O.wire console) (is_fault overseen)
+        → WorkDone D.Conn.wire N.site N.launcher scene.hall.numbers.id most chairs old places w (O.wire console) served.connections served.starved (is_fault overseen)
         → Runs D.Conn.wire N.site N.run_seed N.launcher most (record { steady = N.steady; keeper_faults = N.keeper_faults; sink_faults = N.sink_faults }) old.entrances w ran
         (record { entrances = map D.entrance result.doors.items; console = O.wire result.console; keepers = map (keeper_of K.tables K.told K.faults K.steady) result.keepers.items; given = S.given log; faults = S.faults log }))) }
 {

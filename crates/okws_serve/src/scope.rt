@@ -6,8 +6,9 @@ ghost use Rattle.live_board.specs.Seats.{AllAt};
 ghost use Rattle.site_run.specs.Places.{AllIdle, Placed, HasPlaces};
 ghost use Rattle.site_run.specs.Rooms.{HasRoom};
 ghost use Rattle.site_run.specs.Rows.{Seated, Spacious, SameRoom};
-ghost use Rattle.okws_serve.specs.Doors.{is_fault, ServesConsole};
-ghost use Rattle.okws_serve.specs.Manned.{AllWork, DoorsDone};
+ghost use Rattle.site_run.specs.Tied.{Unused};
+ghost use Rattle.okws_serve.specs.Doors.{is_fault};
+ghost use Rattle.okws_serve.specs.Manned.{AllWork, WorkDone};
 
 use crate::leaving::{Served, leave_console, leave_doors};
 use crate::manning::{Console, man_all};
@@ -122,6 +123,7 @@ where
     requires few { (length N.site.services ≤ MOST_SERVICES) × (length N.site.templates ≤ MOST_TEMPLATES) }
     requires most { ground.now.most ≤ MOST_CONNECTIONS }
     requires seated { Seated ground.now.turn.now (length N.site.services) chairs.old }
+    requires unused { Unused N.site chairs.old }
     requires placed { Placed ground.now.numbers.now.id places.old }
     requires alike { length chairs.old.seats ≡ length places.old.entrances + 1 }
     requires some { 0 < length places.old.entrances }
@@ -133,8 +135,7 @@ where
     ensures room { SameRoom chairs.old chairs.new }
     ensures idle { AllIdle places.new.entrances }
     ensures places { (length places.new.entrances ≡ length places.old.entrances) × (length places.new.places ≡ length places.old.entrances) × AllAt ground.now.numbers.now.id places.new.places }
-    ensures doors { DoorsDone D.Conn.wire N.site N.launcher ground.now.numbers.now.id ground.now.most places.old places.new result.1.connections result.1.starved }
-    ensures console { ServesConsole N.site (O.wire console.console) (O.wire result.0) (is_fault result.2) }
+    ensures done { WorkDone D.Conn.wire N.site N.launcher ground.now.numbers.now.id ground.now.most chairs.new places.old places.new (O.wire console.console) (O.wire result.0) result.1.connections result.1.starved (is_fault result.2) }
 {
     let mut posts = posts;
     launch_all(ground, chairs);

@@ -20,6 +20,7 @@ use Rattle.turn_lock.specs.Seats.{TurnIs, SeatIs, IsFresh, AreFresh, AllRest, So
 use Rattle.site_run.specs.Places.{AllIdle}
 use Rattle.site_run.specs.Rooms.{AreOffered}
 use Rattle.site_run.specs.Rows.{AreChairs}
+use Rattle.site_run.specs.Tied.{AreUnused}
 use Rattle.site_run.specs.Whole.{AreNewFrom, AreNamed, IsReady}
 use Rattle.site_run.proofs.Seating.{push_length}
 
@@ -84,6 +85,22 @@ pub first_chairs : (t : TurnIs) (proxies cells : ℕ) (ss : List Sat) (cs : List
     → length cs ≡ length ss → length as' ≡ length ss → AreFreshFrom proxies 0 ss → AreNewFrom cells 0 cs → AreFresh t.id t.label 0 (reverse as') → AreChairs t cells 0 ss cs as'
 first_chairs t proxies cells ss cs as' p q h i j =
     chairs_from t proxies cells 0 ss cs as' p q h i (subst (TurnsFrom t.id t.label 0) (reverse-reverse as') (turns_turned t.id t.label 0 (reverse as') j))
+
+-- they are unused
+unused_from : (C : Config) (z : TableId) (label k : ℕ) (ss : List Sat) (cs : List CellsSeen) (as' : List (SeatIs (Entry LauncherEvent)))
+    → length cs ≡ length ss → length as' ≡ length ss → AreFreshFrom (length C.proxies) k ss → AreNewFrom (length C.services) k cs → TurnsFrom z label k as' → AreUnused C k ss cs as'
+unused_from C z label k [] [] [] p q h i j = tt
+unused_from C z label k [] [] (a ∷ as') p q h i j = absurd (omega arith)
+unused_from C z label k [] (c ∷ cs) as' p q h i j = absurd (omega arith)
+unused_from C z label k (s ∷ ss) [] as' p q h i j = absurd (omega arith)
+unused_from C z label k (s ∷ ss) (c ∷ cs) [] p q h i j = absurd (omega arith)
+unused_from C z label k (s ∷ ss) (c ∷ cs) (a ∷ as') p q h i j =
+    (record { sat_is = h.0; cells = i.0; turn = λ l. j.0.seen }, unused_from C z label (suc k) ss cs as' (omega arith) (omega arith) h.1 i.1 j.1)
+
+pub first_unused : (C : Config) (t : TurnIs) (ss : List Sat) (cs : List CellsSeen) (as' : List (SeatIs (Entry LauncherEvent)))
+    → length cs ≡ length ss → length as' ≡ length ss → AreFreshFrom (length C.proxies) 0 ss → AreNewFrom (length C.services) 0 cs → AreFresh t.id t.label 0 (reverse as') → AreUnused C 0 ss cs as'
+first_unused C t ss cs as' p q h i j =
+    unused_from C t.id t.label 0 ss cs as' p q h i (subst (TurnsFrom t.id t.label 0) (reverse-reverse as') (turns_turned t.id t.label 0 (reverse as') j))
 
 -- places that are fresh are at their board
 pub rising_at : (z : TableId) (k : ℕ) (as' : List Place) → AreRising z k as' → AllAt z as'
@@ -159,6 +176,7 @@ ready C n doors t b cell_turns all ss s all_cs cs c as' es places all_room seats
         cells_count = named.counts;
         services = named.services;
       };
+      unused = first_unused C t ss cs as' (omega arith) (omega arith) seats.0 cells.0 fresh;
       turns_roomy = tr;
       placed = record { idle = idle; fresh = offered.rising; alike = omega arith };
       roomy = record { doors = omega arith; desks = omega arith };

@@ -4,3 +4,10 @@ pub mod Making
 pub mod Holding
 pub mod Closed
 pub mod Backing
+pub mod Tying
+pub mod Leaving
+pub mod Rounding
+pub mod Owning
+pub mod Showing
+pub mod Alone
+pub mod Shown

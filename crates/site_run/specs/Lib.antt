@@ -6,3 +6,4 @@ pub mod Places
 pub mod Journals
 pub mod Closing
 pub mod Whole
+pub mod Tied

@@ -12,6 +12,7 @@ use Rattle.turn_lock.specs.Rows.{AllCount}
 use Rattle.turn_lock.specs.Seats.{TurnIs}
 use Rattle.site_run.specs.Rows.{ChairsAre, Seated}
 use Rattle.site_run.specs.Places.{PlacesAre, HasPlaces, Placed}
+use Rattle.site_run.specs.Tied.{Unused}
 
 -- Seats at so many cells, of which nothing was seen, of numbers that rise by one from k.
 abbrev pub AreNewFrom : ℕ → ℕ → List CellsSeen → Type 0
@@ -48,6 +49,7 @@ pub record IsHeld (C : Config) (n : ℕ) (turn : TurnIs) (numbers : BoardIs) (ce
 -- The same before the workers began, with room for what they take.
 pub record IsReady (C : Config) (n : ℕ) (turn : TurnIs) (numbers : BoardIs) (cell_turns : List TurnIs) (chairs : ChairsAre) (places : PlacesAre) : Type 0 where
   pub held : IsHeld C n turn numbers cell_turns chairs places
+  pub unused : Unused C chairs
   pub turns_roomy : n ≤ chairs.turns_room
   pub placed : Placed numbers.id places
   pub roomy : HasPlaces (length places.entrances) places

@@ -1,24 +1,26 @@
 //! Closing the locks of a run's columns, cells and launcher.
 
-ghost use Rattle.std.specs.Prelude.{◌≡◌, ◌≤◌, ◌<◌, ◌+◌, ℕ, [], length, map, reverse, vec_len, vec_capacity};
+ghost use Rattle.std.specs.Prelude.{◌≡◌, ◌≤◌, ◌<◌, ◌+◌, ℕ, List, [], length, map, reverse, slice_index, vec_len, vec_capacity};
 ghost use Rattle.okws_base.specs.Turns.{of};
-ghost use Rattle.cell_locks.specs.Closing.{HasNumber};
+ghost use Rattle.cell_locks.specs.Closing.{AllCellsGrow, HasNumber};
+ghost use Rattle.launch_crew.specs.Recorded.{AreOwn};
 ghost use Rattle.log_daemon.specs.Stopped.{is_stopped};
 ghost use Rattle.monitor_model.specs.Columns.{OkdLaw, PubdLaw, LogLaw};
-ghost use Rattle.monitor_model.specs.Launcher.{LauncherLaw};
+ghost use Rattle.monitor_model.specs.Launcher.{LauncherLaw, begun};
 ghost use Rattle.monitor_model.specs.Standing.{okd_grant, pubd_grant, log_grant};
 ghost use Rattle.named_columns.specs.Counts.{capped, accepts, ups, publications, logged};
 ghost use Rattle.named_columns.specs.Held.{HeldProxy};
 ghost use Rattle.named_columns.specs.Launched.{by_entry, LaunchedBy};
 ghost use Rattle.site_cell.specs.Held.{by_event};
-ghost use Rattle.site_locks.specs.Closing.{SomeIs};
+ghost use Rattle.site_locks.specs.Closing.{AllSaw, SomeIs};
 ghost use Rattle.site_locks.specs.Sat.{RiseFrom};
 ghost use Rattle.turn_lock.specs.Rows.{AllCount, NoneFrom};
-ghost use Rattle.turn_lock.specs.Seats.{AllRest, SomeHas};
+ghost use Rattle.turn_lock.specs.Seats.{AllClosed, AllRest, SomeHas};
 ghost use Rattle.site_run.specs.Journals.{AllProxies, AllCells};
 ghost use Rattle.site_run.specs.Keepers.{keeper_of};
 ghost use Rattle.site_run.specs.Rooms.{HasRoom};
 ghost use Rattle.site_run.specs.Closing.{AllKept, WritesLog};
+ghost use Rattle.site_run.specs.Tied.{ColumnsGrown, AreLists};
 
 use crate::order::turned;
 use cell_locks::closing::close_cells;
@@ -213,6 +215,9 @@ pub(crate) fn end_columns<N: Backed, J: Site, K: Keeper, S: Sink>(
     ensures logged { result.oklogd.logged ≡ capped (logged N.site result.oklogd.past) }
     ensures written { WritesLog N.site result.oklogd.past (S.given result.oklogd.sink) N.sink_faults (S.faults result.oklogd.sink) result.oklogd.failed }
     ensures workers { vec_len result.workers ≡ N.launcher }
+    ensures grown { ColumnsGrown seats.items result.okd.past result.proxies.pasts.items result.pubd.past result.oklogd.past }
+    ensures lists { AreLists seats.items result.workers.items }
+    ensures saw { (greatest : List ℕ) × AllSaw count greatest seats.items }
 {
     let ColumnsRoom {
         numbers: _,
@@ -271,6 +276,7 @@ pub(crate) fn end_cells<N: Backed, C: CellNames, L: Link + Drop>(
     ensures cells { AllCells N.site N.run_seed 0 result.events.items result.sents.items }
     ensures none { NoneFrom (by_event N.launcher) count result.events.items }
     ensures many { vec_len result.events ≡ length N.site.services }
+    ensures grown { AllCellsGrow N.launcher seats.items result.events.items }
 {
     let CellsRoom { cells, room } = room;
     let mut cells = turned(close_cells(locks, seats, cells, count));
@@ -311,6 +317,9 @@ pub(crate) fn end_launcher<
     ensures law { LauncherLaw N.site result.past }
     ensures none { (k : ℕ) → turn.count ≤ k → of by_entry k result.past ≡ [] }
     ensures numbers { (result.stopped.seats.number ≡ N.launcher) × (result.stopped.cells.number ≡ N.launcher) }
+    ensures grown { AllClosed by_entry turns.items result.past }
+    ensures shown { (s : ℕ) → s < length N.site.services → slice_index result.stopped.seats.board s ≡ begun result.past s }
+    ensures own { AreOwn N.launcher result.stopped.seats result.stopped.cells result.stopped.own }
 {
     let launcher = turn.close(turns);
     let (past, crew) = launcher.close();

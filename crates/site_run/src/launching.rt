@@ -4,6 +4,7 @@ ghost use Rattle.std.specs.Prelude.{◌≡◌, ◌≤◌, ◌<◌, length};
 ghost use Rattle.okws_base.specs.declared.limit.TheConstants.{MOST_SERVICES};
 ghost use Rattle.turn_lock.specs.Rows.{RestsAt};
 ghost use Rattle.site_run.specs.Rows.{Seated, SameRoom};
+ghost use Rattle.site_run.specs.Tied.{Unused};
 
 use crate::row::{Chairs, Ground};
 use cell_locks::named::CellNames;
@@ -58,6 +59,7 @@ pub fn launch_all<
     requires some { 0 < length chairs.old.turns }
     requires seated { Seated ground.now.turn.now (length N.site.services) chairs.old }
     ensures seated { Seated ground.now.turn.now (length N.site.services) chairs.new }
+    ensures unused { Unused N.site chairs.old → Unused N.site chairs.new }
     ensures room { SameRoom chairs.old chairs.new }
     ensures many { (length chairs.new.seats ≡ length chairs.old.seats) × (length chairs.new.turns ≡ length chairs.old.turns) }
 {

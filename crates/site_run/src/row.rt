@@ -1,9 +1,10 @@
 //! The seats of a run's workers, by their numbers.
 
-ghost use Rattle.std.specs.Prelude.{◌≡◌, ◌≤◌, ◌<◌, ◌+◌, length, true, vec_capacity};
+ghost use Rattle.std.specs.Prelude.{◌≡◌, ◌≤◌, ◌<◌, ◌+◌, [], ◌∷◌, length, true, vec_capacity};
 ghost use Rattle.okws_base.specs.declared.limit.TheConstants.{MOST_SERVICES};
 ghost use Rattle.turn_lock.specs.Seats.{TurnIs};
 ghost use Rattle.site_run.specs.Rows.{Seated, Spacious, SameRoom, WorksAs};
+ghost use Rattle.site_run.specs.Tied.{MoreOf};
 
 use cell_locks::locks::CellLocks;
 use cell_locks::named::CellNames;
@@ -96,6 +97,7 @@ impl<N: Backed, J: Site, C: CellNames, K: Keeper, S: Sink, F: Children> Chairs<N
         ensures less { length self.new.seats + 1 ≡ length self.old.seats }
         ensures room { SameRoom self.old self.new }
         ensures worker { WorksAs ground.now.turn.now (length self.new.seats) result }
+        ensures whose { MoreOf (result ∷ []) self.new self.old }
     {
         let Some(seats) = self.seats.pop() else {
             unreachable!()
@@ -122,6 +124,7 @@ impl<N: Backed, J: Site, C: CellNames, K: Keeper, S: Sink, F: Children> Chairs<N
         requires alike { (length self.old.cells ≡ length self.old.seats) × (length self.old.turns ≡ length self.old.seats) }
         ensures seated { (t : TurnIs) → WorksAs t (length self.old.seats) worker.entry → Seated t (length N.site.services) self.old → Seated t (length N.site.services) self.new }
         ensures more { (length self.new.seats ≡ length self.old.seats + 1) × (length self.new.cells ≡ length self.old.seats + 1) × (length self.new.turns ≡ length self.old.seats + 1) }
+        ensures whose { MoreOf (worker.entry ∷ []) self.old self.new }
         ensures room { SameRoom self.old self.new }
     {
         let (seats, at_cells, at_launcher) = worker.into_seats();

@@ -1,16 +1,18 @@
 //! All that a run has between its beginning and its end.
 
-ghost use Rattle.std.specs.Prelude.{◌≡◌, ◌≤◌, ◌<◌, ◌+◌, length, map, IfOk, vec_len, vec_capacity, IfErr};
+ghost use Rattle.std.specs.Prelude.{◌≡◌, ◌≤◌, ◌<◌, ◌+◌, List, length, map, IfOk, vec_len, vec_capacity, IfErr};
 ghost use Rattle.std.specs.Arc.{arc_value};
 ghost use Rattle.okws_base.specs.declared.limit.TheConstants.{MOST_SERVICES, MOST_PROXIES, MOST_DOORS};
 ghost use Rattle.turn_lock.specs.Rows.{AllCount};
 ghost use Rattle.live_board.specs.Seats.{AllAt};
 ghost use Rattle.site_locks.specs.Sat.{ids_of};
+ghost use Rattle.site_worker.specs.Lives.{Life};
 ghost use Rattle.site_run.specs.Closing.{WritesLog, AllKept};
 ghost use Rattle.site_run.specs.Journals.{KeepLaws, NameNumbers, AreCounts};
 ghost use Rattle.site_run.specs.Keepers.{keeper_of};
 ghost use Rattle.site_run.specs.Places.{AllIdle};
 ghost use Rattle.site_run.specs.Rooms.{HasRoom, ArePapers, AreOffered};
+ghost use Rattle.site_run.specs.Tied.{AllEnd, LaunchesAreOwn, SeatsOf};
 ghost use Rattle.site_run.specs.Whole.{AreNamed, IsHeld, IsReady, AllDrawn};
 
 use crate::closing::{LauncherEnd, end_cells, end_columns, end_launcher};
@@ -192,6 +194,8 @@ impl<N: Backed, J: Site, C: CellNames, K: Keeper, S: Sink, F: Children, D: Door>
         ensures drawn { AllDrawn self.hall.numbers.count self.places.places }
         ensures laws { KeepLaws N.site N.run_seed N.launcher result.record }
         ensures numbers { NameNumbers N.launcher result.record }
+        ensures lives { (lives : List Life) → SeatsOf lives self.chairs → AllEnd N.launcher 0 lives result.record }
+        ensures launched { LaunchesAreOwn N.launcher result.record }
         ensures counts { AreCounts N.site result.record result.counts }
         ensures connections { result.counts.connections ≡ connections }
         ensures kept { AllKept N.site N.steady N.keeper_faults 0 (map (keeper_of K.tables K.told K.faults K.steady) result.keepers.items) result.record.proxies }

@@ -2,14 +2,15 @@ use Rattle.std.proofs.Common.{rules, arith, ◌≡◌, ◌≤◌, ◌+◌, suc, 
 use Rattle.std.specs.Prelude.{vec_len}
 use Rattle.site_run.specs.Places.{AllIdle}
 use Rattle.site_run.proofs.Seating.{none_seated, push_length}
+use Rattle.site_run.proofs.Tying.{more_none}
 use Rattle.okws_serve.specs.Posts.{DoorIs, ConsoleIs}
-use Rattle.okws_serve.specs.Manned.{AreAt, AllDone, doors_of, attended_of}
+use Rattle.okws_serve.specs.Manned.{AreAt, AllDone, doors_of, lives_of, attended_of}
 use Rattle.okws_serve.specs.declared.post.Post.{Post}
 use Rattle.okws_serve.specs.declared.post.Post.TheVariants.{Door}
 use Rattle.okws_serve.proofs.Finishing.{done_door}
 use Rattle.okws_serve.proofs.Left.{done_pop, at_pop}
 use Rattle.okws_serve.proofs.Posting.{idle_push}
-use Rattle.okws_serve.proofs.Running.{counted_next, counted_all, doors_left, doors_all, none_of, same_places, same_room, still_places, still_spacious}
+use Rattle.okws_serve.proofs.Running.{counted_next, counted_all, doors_left, doors_all, lives_all, lives_next, none_of, same_places, same_room, still_places, still_spacious}
 use Rattle.okws_serve.proofs.leaving.leave_doors.Goals as goal
 
 pub loop-post-init : goal.loop-post-init
@@ -28,6 +29,7 @@ loop-post-init g c =
       seated = λ t h. (none_seated t (length g.N.Numbered.site.services) x e.0 e.1 e.2, subst (λ k. AreAt t k ps) (sym none) h);
       many = search rules;
       alike = (cells ∙ sym none, turns ∙ sym none, doors ∙ sym none, places ∙ sym none);
+      lives = record { before = []; all_is = refl; seats = more_none x };
       doors = ap (λ xs. xs ++ map (λ (d : DoorIs). d.entrance) (doors_of ps)) e.3;
       places = ap (λ xs. xs ++ map (λ (d : DoorIs). d.place) (doors_of ps)) e.4;
       idle = subst AllIdle (sym e.3) tt;
@@ -81,6 +83,7 @@ loop-post-preserved g c =
           (l.seated t p.1 s.0, subst (λ m. AreAt t m left) next p.0);
       many = let m = i.many in search (arith, rules);
       alike = (l.more.1 ∙ sym l.more.0, l.more.2 ∙ sym l.more.0, ents ∙ (ap suc i.alike.2 ∙ next), plcs ∙ (ap suc i.alike.3 ∙ next));
+      lives = lives_next (lives_of (doors_of all)) more left d c.args.chairs.now c.loop-post.chairs x e l.whose i.lives;
       doors = doors_left (λ (x : DoorIs). x.entrance) (map (λ (x : DoorIs). x.entrance) (doors_of all)) c.loop-post.places.entrances y.entrances more left d i.doors e l.door;
       places = doors_left (λ (x : DoorIs). x.place) (map (λ (x : DoorIs). x.place) (doors_of all)) c.loop-post.places.places y.places more left d i.places e l.place;
       idle = subst AllIdle (sym l.door) (idle_push c.loop-post.places.entrances d.entrance i.idle l.idle);
@@ -91,6 +94,11 @@ loop-post-preserved g c =
 
 pub returns-clause-seated : goal.returns-clause-seated
 returns-clause-seated g c = λ t h. (c.loop-post.invariant.seated t h).0
+
+pub returns-clause-lives : goal.returns-clause-lives
+returns-clause-lives g c =
+    let left = c.loop-post.posts.items in
+    lives_all (lives_of (doors_of c.args.posts.items)) left c.args.chairs.now c.loop-post.chairs (none_of left (search rules)) c.loop-post.invariant.lives
 
 pub returns-clause-doors : goal.returns-clause-doors
 returns-clause-doors g c =

@@ -1,10 +1,12 @@
 use Rattle.std.proofs.Common.{rules, arith, append-nil, ◌≡◌, ◌<◌, ◌+◌, suc, ◌∙◌, [], ◌++◌, length, map, refl, sym, ap, subst}
 use Rattle.std.specs.Prelude.{vec_len, vec_capacity}
+use Rattle.site_run.specs.Tied.{MoreOf}
 use Rattle.site_run.proofs.Seating.{chairs_many, push_length}
+use Rattle.site_run.proofs.Tying.{more_none}
 use Rattle.okws_serve.specs.Posts.{DoorIs}
-use Rattle.okws_serve.specs.Manned.{AreManned, doors_of}
+use Rattle.okws_serve.specs.Manned.{AreManned, doors_of, lives_of}
 use Rattle.okws_serve.proofs.Running.{none_of, placed_pop, same_places, same_room}
-use Rattle.okws_serve.proofs.Stationing.{doors_next, manned_next}
+use Rattle.okws_serve.proofs.Stationing.{doors_next, manned_next, seats_next}
 use Rattle.okws_serve.proofs.manning.man_doors.Goals as goal
 
 pub loop-next-init : goal.loop-next-init
@@ -19,6 +21,7 @@ loop-next-init g c =
       placed = c.requires.placed;
       manned = subst (AreManned ground.turn.now ground.numbers.now.id ground.most (length x.entrances)) (sym none) tt;
       doors = sym (ap (λ ps. x.entrances ++ map (λ (v : DoorIs). v.entrance) (doors_of ps)) none ∙ append-nil x.entrances);
+      lives = subst (λ ps. MoreOf (lives_of (doors_of ps)) c.args.chairs.now c.args.chairs.now) (sym none) (more_none c.args.chairs.now);
       many = search (rules, arith);
       chairs_room = record { seats = refl; cells = refl; turns = refl };
       places_room = record { doors = refl; desks = refl };
@@ -85,6 +88,7 @@ loop-next-preserved g c =
       placed = (placed_pop z x y e p q r i.placed).0;
       manned = manned_next t z ground.most x y c.loop-next.posts.items c.push_reserved.new.self.items d e p c.last-worker.result (length c.last-worker.new.self.seats) q r i.placed c.new-post.ensures same c.last-worker.ensures.worker i.manned c.push_reserved.ensures.items;
       doors = doors_next c.args.places.now.entrances x y c.loop-next.posts.items c.push_reserved.new.self.items d e q (ap (λ (v : DoorIs). v.entrance) c.new-post.ensures) i.doors c.push_reserved.ensures.items;
+      lives = seats_next c.loop-next.chairs c.last-worker.new.self c.args.chairs.now c.loop-next.posts.items c.push_reserved.new.self.items d c.last-worker.result (ap (λ (v : DoorIs). v.life) c.new-post.ensures) c.push_reserved.ensures.items c.last-worker.ensures.whose i.lives;
       many = omega arith;
       chairs_room = same_room c.args.chairs.now c.loop-next.chairs c.last-worker.new.self i.chairs_room c.last-worker.ensures.room;
       places_room = same_places c.args.places.now x y i.places_room c.next_door.ensures.room;
@@ -108,6 +112,9 @@ returns-clause-many g c =
     let size = ap length none in
     let many = c.loop-next.invariant.many in
     omega arith
+
+pub returns-clause-lives : goal.returns-clause-lives
+returns-clause-lives g c = c.loop-next.invariant.lives
 
 pub returns-clause-empty : goal.returns-clause-empty
 returns-clause-empty g c =

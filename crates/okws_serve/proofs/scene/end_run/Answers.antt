@@ -1,4 +1,4 @@
-use Rattle.std.proofs.Common.{arith, ◌≡◌, map, length, refl, sym, ap, ◌∙◌, subst}
+use Rattle.std.proofs.Common.{arith, ◌≡◌, ◌≤◌, ℕ, [], ◌∷◌, ◌++◌, map, length, refl, sym, ap, ◌∙◌, subst}
 use Rattle.std.specs.Prelude.{IsSome}
 use Rattle.site_run.specs.Places.{AllIdle}
 use Rattle.site_run.specs.Keepers.{keeper_of}
@@ -6,7 +6,11 @@ use Rattle.site_run.specs.Closing.{AllKept}
 use Rattle.site_run.specs.Whole.{AllDrawn}
 use Rattle.okws_serve.specs.Doors.{ServesConsole, ServesDoors, is_fault}
 use Rattle.okws_serve.specs.declared.outfit.Ran.{Ran}
-use Rattle.okws_serve.proofs.Serving.{serves_doors}
+use Rattle.site_run.proofs.Alone.{launches_alone}
+use Rattle.site_run.proofs.Shown.{cells_are_true}
+use Rattle.site_run.proofs.Tying.{end_pop}
+use Rattle.okws_serve.proofs.Listing.{Told, all_told}
+use Rattle.okws_serve.proofs.Serving.{console_ends, doors_alike, lives_many, serves_doors}
 use Rattle.okws_serve.proofs.Surviving.{if_some}
 use Rattle.okws_serve.proofs.scene.end_run.Goals as goal
 
@@ -27,14 +31,30 @@ returns-clause-ran g c =
     let ran : Ran = record { «record» = e.record; counts = e.counts; log_failed = e.log_failed; console_failed = is_fault c.args.overseen; starved = c.args.served.starved } in
     let keeper = keeper_of g.K.Keeper.tables g.K.Keeper.told g.K.Keeper.faults g.K.Keeper.steady in
     let doors : map g.D.Door.entrance r.doors.items ≡ c.args.places.entrances = ap (λ ds. map g.D.Door.entrance ds) c.left.ensures.objects.0 ∙ c.end-ended.ensures.doors in
-    if_some r.ran ran _ c.left.ensures.ran (if_some r.log e.log _ c.left.ensures.objects.3 (λ most old w few done console.
+    if_some r.ran ran _ c.left.ensures.ran (if_some r.log e.log _ c.left.ensures.objects.3 (λ most old w few done.
     let many = c.requires.held.doors_many in
-    let served = serves_doors wire C n c.args.scene.hall.numbers.id most (length c.args.places.entrances) old c.args.places c.args.served.connections c.args.served.starved
-    (omega arith) c.requires.held.some refl (subst (λ k. AllDrawn k c.args.places.places) (let k = c.requires.held.numbers_count in let q : c.args.scene.hall.numbers.count ≡ length c.args.places.entrances = omega arith in q) c.end-ended.ensures.drawn) done in
+    let alike = doors_alike wire C n c.args.scene.hall.numbers.id most done.lives old c.args.places c.args.served.connections c.args.served.starved done.doors in
+    let z = c.args.scene.hall.numbers.id in
+    let R = e.record in
+    let places = c.args.places in
+    let connections = c.args.served.connections in
+    let starved = c.args.served.starved in
+    let size : length done.lives ≡ length old.entrances = lives_many wire C n z most done.lives old places connections starved done.doors in
+    let ends = end_pop n 0 (length old.entrances) done.lives done.last R (omega arith) (c.end-ended.ensures.lives (done.lives ++ done.last ∷ []) done.seats) in
+    let served = serves_doors wire C n z most (length places.entrances) R done.lives old places connections starved
+    (omega arith) c.requires.held.some refl (subst (λ k. AllDrawn k places.places) (let k = c.requires.held.numbers_count in let q : c.args.scene.hall.numbers.count ≡ length places.entrances = omega arith in q) c.end-ended.ensures.drawn) done.doors ends.0 in
+    let steered = console_ends C n R (length old.entrances) done.last w (g.O.Conn.wire c.args.console) (is_fault c.args.overseen) done.console ends.1 in
+    let told : (k : ℕ) → k ≤ n → Told n R k = all_told wire C n most R old.entrances places.entrances served.attended w (g.O.Conn.wire c.args.console) (is_fault c.args.overseen) (omega arith) c.end-ended.ensures.numbers.workers served.attend steered c.end-ended.ensures.launched in
+    let cells = cells_are_true C g.N.Numbered.run_seed n R c.end-ended.ensures.laws c.end-ended.ensures.numbers (λ k l. (told k l).1) in
     record {
-      served = subst (λ k. ServesDoors wire C n most old.entrances (map g.D.Door.entrance r.doors.items) k c.args.served.starved) (sym c.end-ended.ensures.connections)
-          (subst (λ es. ServesDoors wire C n most old.entrances es c.args.served.connections c.args.served.starved) (sym doors) served);
-      steered = subst (λ x. ServesConsole C w (g.O.Conn.wire x) (is_fault c.args.overseen)) (sym c.left.ensures.objects.1) console;
+      served = subst (λ k. ServesDoors wire C n most R old.entrances (map g.D.Door.entrance r.doors.items) k starved) (sym c.end-ended.ensures.connections)
+          (subst (λ es. ServesDoors wire C n most R old.entrances es connections starved) (sym doors) served);
+      steered = subst (λ x. ServesConsole C n R (length old.entrances) w (g.O.Conn.wire x) (is_fault c.args.overseen)) (sym c.left.ensures.objects.1) steered;
+      launched = c.end-ended.ensures.launched;
+      lists = λ k l. (told k l).0;
+      alone = launches_alone C g.N.Numbered.run_seed n R c.end-ended.ensures.numbers.workers c.end-ended.ensures.laws c.end-ended.ensures.launched (λ k l. (told k (let u : k ≤ n = omega arith in u)).0);
+      missed = cells.0;
+      stands = cells.1;
       laws = c.end-ended.ensures.laws;
       numbers = c.end-ended.ensures.numbers;
       counts = c.end-ended.ensures.counts;

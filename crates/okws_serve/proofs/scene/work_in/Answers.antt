@@ -1,10 +1,12 @@
 use Rattle.std.proofs.Common.{◌≤◌, ℕ, ◌∙◌, length, sym, subst}
+use Rattle.atomic_table.specs.Seated.{TableId}
 use Rattle.live_board.specs.Seats.{AllAt, BoardIs}
 use Rattle.okws_base.specs.declared.limit.TheConstants.{MOST_CONNECTIONS}
 use Rattle.turn_lock.specs.Seats.{TurnIs}
 use Rattle.site_run.specs.Places.{Placed}
 use Rattle.site_run.specs.Rows.{Seated}
-use Rattle.okws_serve.specs.Manned.{DoorsDone}
+use Rattle.okws_serve.specs.Doors.{is_fault}
+use Rattle.okws_serve.specs.Manned.{WorkDone}
 use Rattle.okws_serve.proofs.Surviving.{held_again, ready_spacious}
 use Rattle.okws_serve.proofs.scene.work_in.Goals as goal
 
@@ -17,6 +19,9 @@ run-requires-clause-most g c = λ κs within. subst (λ (m : ℕ). m ≤ MOST_CO
 pub run-requires-clause-seated : goal.run-requires-clause-seated
 run-requires-clause-seated g c = λ κs within.
     subst (λ (t : TurnIs). Seated t (length g.N.Numbered.site.services) c.args.chairs.now) (sym c.ground-common.ensures.locks.0) c.requires.ready.held.seated
+
+pub run-requires-clause-unused : goal.run-requires-clause-unused
+run-requires-clause-unused g c = λ κs within. c.requires.ready.unused
 
 pub run-requires-clause-placed : goal.run-requires-clause-placed
 run-requires-clause-placed g c = λ κs within. subst (λ (b : BoardIs). Placed b.id c.args.places.now) (sym c.ground-common.ensures.locks.1) c.requires.ready.placed
@@ -43,11 +48,11 @@ returns-clause-held g c =
 pub returns-clause-idle : goal.returns-clause-idle
 returns-clause-idle g c = c.run.ensures.idle
 
-pub returns-clause-doors : goal.returns-clause-doors
-returns-clause-doors g c =
-    let h = c.args.scene.now.hall in
-    subst (λ (b : BoardIs). DoorsDone g.D.Conn.Conn.wire g.N.Numbered.site g.N.Numbered.launcher b.id c.args.most c.args.places.now c.run.new.places c.run.result.1.connections c.run.result.1.starved) c.ground-common.ensures.locks.1
-    (subst (λ (m : ℕ). DoorsDone g.D.Conn.Conn.wire g.N.Numbered.site g.N.Numbered.launcher c.ground-common.result.numbers.now.id m c.args.places.now c.run.new.places c.run.result.1.connections c.run.result.1.starved) c.ground-common.ensures.setting.1 c.run.ensures.doors)
-
-pub returns-clause-console : goal.returns-clause-console
-returns-clause-console g c = c.run.ensures.console
+pub returns-clause-done : goal.returns-clause-done
+returns-clause-done g c =
+    let r = c.run.result in
+    let w = g.O.Conn.wire c.args.console.console in
+    let x = g.O.Conn.wire r.0 in
+    let Done = λ (z : TableId) (m : ℕ). WorkDone g.D.Conn.Conn.wire g.N.Numbered.site g.N.Numbered.launcher z m c.run.new.chairs c.args.places.now c.run.new.places w x r.1.connections r.1.starved (is_fault r.2) in
+    subst (λ (b : BoardIs). Done b.id c.args.most) c.ground-common.ensures.locks.1
+    (subst (λ (m : ℕ). Done c.ground-common.result.numbers.now.id m) c.ground-common.ensures.setting.1 c.run.ensures.done)

@@ -2,7 +2,8 @@ use Rattle.std.proofs.Common.{List, map, sym, ap, ◌∙◌, subst}
 use Rattle.okws_outer.specs.Doors.{Entrance}
 use Rattle.site_run.specs.Keepers.{keeper_of}
 use Rattle.site_run.specs.Places.{AllIdle}
-use Rattle.okws_serve.specs.Doors.{ServesConsole, is_fault}
+use Rattle.okws_serve.specs.Doors.{is_fault}
+use Rattle.okws_serve.specs.Manned.{WorkDone}
 use Rattle.okws_serve.specs.Runs.{ObjectsAre, Runs, StartIs}
 use Rattle.okws_serve.proofs.Surviving.{always_none, if_both, none_some, none_then, some_none}
 use Rattle.okws_serve.proofs.serve.serve_named.Goals as goal
@@ -59,7 +60,8 @@ pub returns-in-Ok-stage-clause-ran : goal.returns-in-Ok-stage-clause-ran
 returns-in-Ok-stage-clause-ran g c =
     let r = c.end_run.result in
     let w = g.O.Conn.wire c.args.outside.console in
-    let console = subst (λ x. ServesConsole g.N.Numbered.site (g.O.Conn.wire x) (g.O.Conn.wire c.work_in-console.result.0) (is_fault c.work_in-console.result.2)) c.in-Ok-stage.ensures.beside.1 c.work_in-console.ensures.console in
+    let l = c.in-Ok-stage.staged in
+    let done = subst (λ x. WorkDone g.D.Conn.Conn.wire g.N.Numbered.site g.N.Numbered.launcher l.scene.hall.numbers.id c.args.limits.connections c.work_in-console.new.chairs l.places c.work_in-console.new.places (g.O.Conn.wire x) (g.O.Conn.wire c.work_in-console.result.0) c.work_in-console.result.1.connections c.work_in-console.result.1.starved (is_fault c.work_in-console.result.2)) c.in-Ok-stage.ensures.beside.1 c.work_in-console.ensures.done in
     let start : StartIs = record { steady = g.N.Backed.steady; keeper_faults = g.N.Backed.keeper_faults; sink_faults = g.N.Backed.sink_faults } in
     if_both r.ran r.log _ _ (λ ran log h.
     let now : ObjectsAre = record {
@@ -70,7 +72,7 @@ returns-in-Ok-stage-clause-ran g c =
       faults = g.S.Sink.faults log;
     } in
     subst (λ (es : List Entrance). Runs g.D.Conn.Conn.wire g.N.Numbered.site g.N.Numbered.run_seed g.N.Numbered.launcher c.args.limits.connections start es w ran now) c.in-Ok-stage.ensures.doors
-    (h c.args.limits.connections c.in-Ok-stage.staged.places w c.requires.limit c.work_in-console.ensures.doors console)) c.end_run.ensures.ran
+    (h c.args.limits.connections c.in-Ok-stage.staged.places w c.requires.limit done)) c.end_run.ensures.ran
 
 pub returns-in-Ok-stage-clause-log : goal.returns-in-Ok-stage-clause-log
 returns-in-Ok-stage-clause-log g c = λ some. c.end_run.ensures.some.1

@@ -1,6 +1,7 @@
 use Rattle.std.proofs.Common.{rules, ◌≡◌, ◌+◌, ◌++◌, ◌∷◌, [], ℕ, suc, List, map, reverse, length, refl, sym, ap, ◌∙◌, subst, arith, append-nil}
 use Rattle.monitor_model.specs.declared.record.CellEvent.{CellEvent}
 use Rattle.site_cell.specs.Held.{Held, by_event}
+use Rattle.cell_locks.specs.Closing.{AllCellsGrow}
 use Rattle.cell_locks.specs.Row.{Rise}
 use Rattle.turn_lock.specs.Rows.{NoneFrom}
 use Rattle.turn_lock.proofs.Rows.{turned_push}
@@ -23,6 +24,8 @@ loop-cell-init g c =
     record {
       none = subst (λ l. NoneFrom (by_event g.N.Numbered.launcher) c.args.count (l ++ reverse (map past cells))) (sym none)
           (subst (NoneFrom (by_event g.N.Numbered.launcher) c.args.count) (sym (turned_back past closed cells turned)) c.close_cells.ensures.none);
+      grown = subst (λ l. AllCellsGrow g.N.Numbered.launcher c.args.seats.items (l ++ reverse (map past cells))) (sym none)
+          (subst (AllCellsGrow g.N.Numbered.launcher c.args.seats.items) (sym (turned_back past closed cells turned)) c.close_cells.ensures.told);
       numbered = subst (λ l. Rise (length l) (reverse (map service cells))) (sym none) (subst (Rise 0) (sym (turned_back service closed cells turned)) c.close_cells.ensures.services);
       laws = subst (λ l. AllCells g.N.Numbered.site g.N.Numbered.run_seed 0 l c.room.inside.room.sents.items) (sym none) (subst (AllCells g.N.Numbered.site g.N.Numbered.run_seed 0 []) (sym alone) tt);
       many = search rules;
@@ -55,6 +58,7 @@ loop-cell-preserved g c =
     let at : service x ≡ length events + 0 = (let q = rise.0 in omega arith) in
     record {
       none = subst (NoneFrom (by_event g.N.Numbered.launcher) c.args.count) (sym (moved past more left x events events_now J _ e put c.close-events.ensures.past refl)) i.none;
+      grown = subst (AllCellsGrow g.N.Numbered.launcher c.args.seats.items) (sym (moved past more left x events events_now J _ e put c.close-events.ensures.past refl)) i.grown;
       numbered = subst (λ k. Rise k (reverse (map service left))) (sym size) rise.1;
       laws = subst (λ l. AllCells C seed 0 l sents_now) (sym put) (subst (AllCells C seed 0 (events ++ J ∷ [])) (sym given) (cells_push C seed 0 (service x) events J sents sent at i.laws c.close-events.ensures.law c.close-events.ensures.sent));
       many = search rules;
@@ -69,3 +73,10 @@ returns-clause-none g c =
     let events = c.loop-cell.end.events.items in
     let none = empty_of c.loop-cell.cells.items (search rules) in
     subst (NoneFrom (by_event g.N.Numbered.launcher) c.args.count) (ap (λ l. events ++ reverse (map past l)) none ∙ append-nil events) c.loop-cell.invariant.none
+
+pub returns-clause-grown : goal.returns-clause-grown
+returns-clause-grown g c =
+    let past : Held → List CellEvent = λ x. x.standing.past in
+    let events = c.loop-cell.end.events.items in
+    let none = empty_of c.loop-cell.cells.items (search rules) in
+    subst (AllCellsGrow g.N.Numbered.launcher c.args.seats.items) (ap (λ l. events ++ reverse (map past l)) none ∙ append-nil events) c.loop-cell.invariant.grown

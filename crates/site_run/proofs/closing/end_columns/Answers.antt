@@ -1,6 +1,6 @@
-use Rattle.std.proofs.Common.{rules, arith, ◌≡◌, ◌+◌, [], List, map, length, sym, ap, ◌∙◌, subst}
+use Rattle.std.proofs.Common.{rules, arith, ◌≡◌, ◌+◌, [], List, map, length, reverse, sym, ap, ◌∙◌, subst}
 use Rattle.std.specs.Prelude.{vec_len}
-use Rattle.std.proofs.lemmas.List.{length-reverse, length-map}
+use Rattle.std.proofs.lemmas.List.{length-reverse, length-map, reverse-reverse}
 use Rattle.okws_base.specs.Turns.{of}
 use Rattle.okws_base.specs.declared.journal.Entry.{Entry}
 use Rattle.okws_plan.specs.declared.event.OkdEvent.{OkdEvent}
@@ -8,9 +8,11 @@ use Rattle.okws_plan.specs.declared.event.PubdEvent.{PubdEvent}
 use Rattle.okws_plan.specs.declared.event.LogEvent.{LogEvent}
 use Rattle.named_columns.specs.Held.{HeldProxy}
 use Rattle.named_columns.specs.Launched.{by_entry}
+use Rattle.site_locks.specs.Closing.{AllGrown, RowsGrown}
 use Rattle.site_locks.specs.Sat.{Sat}
 use Rattle.turn_lock.specs.Rows.{NoneFrom}
 use Rattle.site_run.proofs.Closed.{popped}
+use Rattle.site_run.proofs.Leaving.{but_last}
 use Rattle.site_run.proofs.closing.end_columns.Goals as goal
 
 pub returns-clause-okd : goal.returns-clause-okd
@@ -54,3 +56,26 @@ returns-clause-workers g c =
     let total : vec_len c.turned-owns.result ≡ g.N.Numbered.launcher + 1 = (let p = c.turned-owns.ensures.len in let q = c.requires.many in let r = c.requires.count in search rules) in
     let less = popped c.pop-launchers.result (vec_len c.pop-launchers.new.self) (vec_len c.turned-owns.result) c.pop-launchers.ensures.cases (omega arith) in
     omega arith
+
+pub returns-clause-grown : goal.returns-clause-grown
+returns-clause-grown g c =
+    let seats = c.args.seats.items in
+    let closed = c.close-closed.ensures in
+    record {
+      okd_grown = subst (AllGrown (λ (s : Sat). s.okd) seats) (sym c.end_okd.ensures.past) closed.okd.0;
+      proxies_grown = subst (RowsGrown seats) (sym c.end_proxies.ensures.pasts) closed.proxies.0;
+      pubd_grown = subst (AllGrown (λ (s : Sat). s.pubd) seats) (sym c.end_pubd.ensures.past) closed.pubd.0;
+      log_grown = subst (AllGrown (λ (s : Sat). s.oklogd) seats) (sym c.end_log.ensures.past) closed.oklogd.0;
+    }
+
+pub returns-clause-lists : goal.returns-clause-lists
+returns-clause-lists g c =
+    let seats = c.args.seats.items in
+    let owns = map (λ (s : Sat). s.own) seats in
+    let size : length c.close-closed.new.owns.items ≡ length seats = ap length c.close-closed.ensures.owns ∙ (length-reverse owns ∙ length-map seats (λ (s : Sat). s.own)) in
+    let total : vec_len c.turned-owns.result ≡ g.N.Numbered.launcher + 1 = (let p = c.turned-owns.ensures.len in let q = c.requires.many in let r = c.requires.count in search rules) in
+    but_last c.pop-launchers.result (vec_len c.turned-owns.result) (vec_len c.pop-launchers.new.self) c.turned-owns.result.items c.pop-launchers.new.self.items seats
+    c.pop-launchers.ensures.cases (omega arith) c.pop-launchers.ensures.items (c.turned-owns.ensures.items ∙ (ap reverse c.close-closed.ensures.owns ∙ reverse-reverse owns))
+
+pub returns-clause-saw : goal.returns-clause-saw
+returns-clause-saw g c = c.close-closed.ensures.saw

@@ -1,4 +1,4 @@
-use Rattle.std.proofs.Common.{rules, ◌≡◌, ◌≤◌, ◌<◌, ◌+◌, length, map, sym, ap, ◌∙◌, subst}
+use Rattle.std.proofs.Common.{rules, arith, ◌≡◌, ◌≤◌, ◌<◌, ◌+◌, [], length, map, sym, ap, ◌∙◌, subst}
 use Rattle.std.proofs.lemmas.List.{length-map}
 use Rattle.turn_lock.specs.Rows.{AllCount, NoneFrom}
 use Rattle.monitor_model.specs.declared.record.Record.{Record}
@@ -10,10 +10,12 @@ use Rattle.site_run.specs.Closing.{AllKept, WritesLog}
 use Rattle.site_run.specs.Journals.{KeepLaws, NameNumbers, AreCounts}
 use Rattle.site_run.specs.Keepers.{keeper_of}
 use Rattle.site_run.specs.Places.{PlacesAre}
-use Rattle.site_run.specs.Rows.{ChairsAre}
+use Rattle.site_run.specs.Rows.{ChairsAre, Seated}
+use Rattle.site_run.specs.Tied.{AllEnd, LaunchesAreOwn, SeatsOf}
 use Rattle.site_run.specs.Whole.{IsHeld}
 use Rattle.site_run.specs.declared.ended.Counts.{Counts}
 use Rattle.site_run.proofs.Closed.{are_seated}
+use Rattle.site_run.proofs.Leaving.{launches_own, lives_end, raised_all}
 use Rattle.site_run.proofs.whole.Run.end.Goals as goal
 
 pub end_launcher-past-requires-clause-some : goal.end_launcher-past-requires-clause-some
@@ -148,3 +150,61 @@ returns-clause-written g c =
     subst (λ (R : Record). WritesLog g.N.Numbered.site R.oklogd (g.S.Sink.given r.log) first (g.S.Sink.faults r.log) r.log_failed) (sym c.told.ensures.journals)
     (subst (λ s. WritesLog g.N.Numbered.site columns.result.oklogd.past (g.S.Sink.given s) first (g.S.Sink.faults s) r.log_failed) (sym c.told.ensures.objects.2)
     (subst (λ b. WritesLog g.N.Numbered.site columns.result.oklogd.past (g.S.Sink.given columns.result.oklogd.sink) first (g.S.Sink.faults columns.result.oklogd.sink) b) (sym c.told.ensures.objects.3) columns.ensures.written))
+
+pub returns-clause-lives : goal.returns-clause-lives
+returns-clause-lives g c = λ lives of.
+    let C = g.N.Numbered.site in
+    let n = g.N.Numbered.launcher in
+    let t = c.args.self.hall.turn in
+    let chairs = c.chairs.inside in
+    let past = c.end_launcher-past in
+    let stopped = past.result.stopped in
+    let columns = c.end_columns-columns in
+    let cells = c.end_cells-cells in
+    let count = c.len.result + 2 in
+    let doors = subst (λ (x : PlacesAre). length x.entrances + 1 ≡ n) (sym c.places.view_is) c.requires.held.doors_many in
+    let m = length-map c.places.inside.doors.items g.D.Door.entrance in
+    let total : count ≡ n + 1 = search rules in
+    let services : length cells.result.events.items ≡ length C.services = (let q = cells.ensures.many in search rules) in
+    let R : Record = record {
+      okd = columns.result.okd.past;
+      proxies = columns.result.proxies.pasts.items;
+      pubd = columns.result.pubd.past;
+      oklogd = columns.result.oklogd.past;
+      launcher = past.result.past;
+      cells = cells.result.events.items;
+      sents = cells.result.sents.items;
+      doors = [];
+      workers = columns.result.workers.items;
+      launches = stopped.own;
+    } in
+    let raised = raised_all R n count columns.ensures.saw.0 chairs.seats.items c.push_reserved.new.self.items stopped.seats c.push_reserved.ensures.items columns.ensures.saw.1 total past.ensures.numbers.0
+    (λ u l. past.ensures.shown u (subst (λ k. u < k) services l)) in
+    subst (λ (S : Record). AllEnd n 0 lives S) (sym c.told.ensures.journals)
+    (lives_end t (length C.services) n R lives chairs.seats.items c.push_reserved.new.self.items stopped.seats chairs.cells.items c.push_reserved-2.new.self.items stopped.cells chairs.turns.items
+    (subst (λ (x : ChairsAre). Seated t (length C.services) x) (sym c.chairs.view_is) c.requires.held.seated) (subst (λ (x : ChairsAre). SeatsOf lives x) (sym c.chairs.view_is) of)
+    c.push_reserved.ensures.items c.push_reserved-2.ensures.items columns.ensures.grown cells.ensures.grown past.ensures.grown columns.ensures.lists raised)
+
+pub returns-clause-launched : goal.returns-clause-launched
+returns-clause-launched g c =
+    let n = g.N.Numbered.launcher in
+    let past = c.end_launcher-past in
+    let columns = c.end_columns-columns in
+    let cells = c.end_cells-cells in
+    let count = c.requires.held.turn_count in
+    let R : Record = record {
+      okd = columns.result.okd.past;
+      proxies = columns.result.proxies.pasts.items;
+      pubd = columns.result.pubd.past;
+      oklogd = columns.result.oklogd.past;
+      launcher = past.result.past;
+      cells = cells.result.events.items;
+      sents = cells.result.sents.items;
+      doors = [];
+      workers = columns.result.workers.items;
+      launches = past.result.stopped.own;
+    } in
+    subst (λ (S : Record). LaunchesAreOwn n S) (sym c.told.ensures.journals)
+    (launches_own n R c.chairs.inside.seats.items c.push_reserved.new.self.items past.result.stopped.seats c.chairs.inside.cells.items c.push_reserved-2.new.self.items past.result.stopped.cells
+    c.push_reserved.ensures.items c.push_reserved-2.ensures.items past.ensures.numbers.0 past.ensures.numbers.1 columns.ensures.grown cells.ensures.grown
+    (past.ensures.none n (omega arith)) past.ensures.own)

@@ -1,0 +1,68 @@
+-- What the record that a run leaves says of each number.
+use Rattle.std.proofs.Common.{◌≡◌, ℕ, suc, ◌+◌, ◌<◌, ◌≤◌, List, [], ◌∷◌, length, sym, ap, ◌∙◌, subst, arith}
+use Rattle.std.specs.Prelude.{Bool, filter}
+use mathlib.Core.Logic.{dite}
+use native.Mathlib.Decide.{ℕ_discrete}
+use Rattle.okws_outer.specs.Conns.{ConnWire}
+use Rattle.okws_outer.specs.Doors.{Entrance}
+use Rattle.okws_plan.specs.declared.configuration.Config.{Config}
+use Rattle.monitor_model.specs.declared.record.Record.{Record}
+use Rattle.monitor_model.specs.Merged.{is_at_cell, list_of}
+use Rattle.monitor_model.specs.Tied.{OwnsColumns}
+use Rattle.turn_lock.proofs.Rows.{get_mid}
+use Rattle.site_worker.specs.declared.door.Attended.{Attended}
+use Rattle.site_run.proofs.Owning.{Owns, owned_then, owns_kept, owns_nothing}
+use Rattle.site_run.proofs.Showing.{Shows, shows_kept, shows_nothing}
+use Rattle.site_run.proofs.Shown.{ShownBy, launcher_shown, shown_then}
+use Rattle.site_run.proofs.Rounding.{attends_kept, oversees_kept}
+use Rattle.site_run.specs.Tied.{LaunchesAreOwn, ListIsOwn}
+use Rattle.okws_serve.specs.Doors.{AllAttend, AttendsAt, ServesConsole}
+
+-- its list is what it did, and what its dialogs were shown was begun
+abbrev pub Told : ℕ → Record → ℕ → Type 0
+Told n R w = ListIsOwn n w R × ShownBy R w
+
+-- of a worker at a door
+door_told : {X : Type 0} (wire : X → ConnWire) (C : Config) (n most : ℕ) (R : Record) (w : ℕ) (e f : Entrance) (a : Attended) → AttendsAt wire C n most R w e f a → Told n R w
+door_told wire C n most R w e f a h = (
+  owned_then C n w h.after R (attends_kept C n (Owns C n w) (owns_kept C n w) wire most e f h.before h.after [] h.drawn a h.attends (owns_nothing C n w h.before h.begins)) h.left,
+  shown_then n w h.after R (attends_kept C n (Shows w) (shows_kept C n w) wire most e f h.before h.after [] h.drawn a h.attends (shows_nothing C w h.before h.begins)) h.left,
+)
+
+-- of all workers at doors
+doors_told : {X : Type 0} (wire : X → ConnWire) (C : Config) (n most : ℕ) (R : Record) (k w : ℕ) (es fs : List Entrance) (as' : List Attended)
+    → AllAttend wire C n most R k es fs as' → k ≤ w → w < length es + k → Told n R w
+doors_told wire C n most R k w [] fs as' h l u = absurd (omega arith)
+doors_told wire C n most R k w (e ∷ es) [] as' h l u = absurd h
+doors_told wire C n most R k w (e ∷ es) (f ∷ fs) [] h l u = absurd h
+doors_told wire C n most R k w (e ∷ es) (f ∷ fs) (a ∷ as') h l u = dite (ℕ_discrete k w)
+    (λ is. subst (λ m. Told n R m) is (door_told wire C n most R k e f a h.0))
+    (λ not. doors_told wire C n most R (suc k) w es fs as' h.1 (omega arith) (omega arith))
+
+-- of the console's worker
+console_told : (C : Config) (n : ℕ) (R : Record) (w : ℕ) (x y : ConnWire) (failed : Bool) → ServesConsole C n R w x y failed → Told n R w
+console_told C n R w x y failed h = (
+  owned_then C n w h.after R (oversees_kept C n (Owns C n w) (owns_kept C n w) x y 0 h.lines h.before h.after h.how h.oversees (owns_nothing C n w h.before h.begins)) h.left,
+  shown_then n w h.after R (oversees_kept C n (Shows w) (shows_kept C n w) x y 0 h.lines h.before h.after h.how h.oversees (shows_nothing C w h.before h.begins)) h.left,
+)
+
+-- of the launcher's number
+launcher_told : (n : ℕ) (R : Record) → length R.workers ≡ n → LaunchesAreOwn n R → Told n R n
+launcher_told n R many h =
+    let is : list_of R n ≡ R.launches = get_mid R.workers R.launches [] [] n many in
+    let o = h.own in (
+      record {
+        columns = subst (OwnsColumns R n) (sym is) (record { okd = o.okd; proxies = o.proxies; pubd = o.pubd; oklogd = o.oklogd });
+        cells = λ s. o.cells s ∙ ap (filter (is_at_cell s)) (sym is);
+      },
+      launcher_shown n R h,
+    )
+
+-- of all numbers, where that of the console's worker is the next after those of the doors', and the launcher's the next
+pub all_told : {X : Type 0} (wire : X → ConnWire) (C : Config) (n most : ℕ) (R : Record) (es fs : List Entrance) (as' : List Attended) (x y : ConnWire) (failed : Bool)
+    → length es + 1 ≡ n → length R.workers ≡ n → AllAttend wire C n most R 0 es fs as' → ServesConsole C n R (length es) x y failed → LaunchesAreOwn n R → (w : ℕ) → w ≤ n → Told n R w
+all_told wire C n most R es fs as' x y failed e many doors console launched w l = dite (ℕ_discrete w n)
+    (λ is. subst (λ m. Told n R m) (sym is) (launcher_told n R many launched))
+    (λ not. dite (ℕ_discrete w (length es))
+    (λ is. subst (λ m. Told n R m) (sym is) (console_told C n R (length es) x y failed console))
+    (λ apart. doors_told wire C n most R 0 w es fs as' doors (omega arith) (omega arith)))

@@ -1,0 +1,120 @@
+-- The seats of a run's workers and the lives that they are of.
+use Rattle.std.proofs.Common.{◌≡◌, ℕ, zero, suc, ◌+◌, List, [], ◌∷◌, ◌++◌, map, set, refl, sym, ap, ◌∙◌, subst, arith, append_assoc, append-nil}
+use Rattle.std.specs.Prelude.{length, replicate}
+use Rattle.okws_base.specs.Turns.{up_to_own}
+use Rattle.okws_base.specs.declared.journal.Entry.{Entry}
+use Rattle.okws_plan.specs.declared.configuration.Config.{Config}
+use Rattle.okws_plan.specs.declared.event.LauncherEvent.{LauncherEvent}
+use Rattle.okws_plan.specs.declared.event.ProxyEvent.{ProxyEvent}
+use Rattle.monitor_model.specs.declared.record.Record.{Record}
+use Rattle.monitor_model.specs.Worker.{nothing_seen}
+use Rattle.named_columns.specs.Launched.{by_entry}
+use Rattle.turn_lock.specs.Seats.{SeatIs}
+use Rattle.cell_locks.specs.Row.{CellsSeen, IsNew}
+use Rattle.site_locks.specs.Made.{fresh}
+use Rattle.site_locks.specs.Sat.{Sat, seen_of}
+use Rattle.site_worker.specs.Lives.{Life}
+use Rattle.site_run.specs.Rows.{ChairsAre}
+use Rattle.site_run.specs.Tied.{IsUnusedChair, AreUnused, IsChairOf, AreChairsOf, SeatsOf, MoreOf, LifeBegins, AllBegin, LifeEnds, AllEnd}
+
+-- ---- whose the seats are
+
+-- a worker that was made of these seats
+pub chair_of : (J : Life) (s : Sat) (c : CellsSeen) (a : SeatIs (Entry LauncherEvent)) → J ≡ record { seen = seen_of s; cells = c; board = s.board; launcher = a } → IsChairOf J s c a
+chair_of J s c a e = record {
+  seen_is = ap (λ (K : Life). K.seen) e;
+  board_is = ap (λ (K : Life). K.board) e;
+  cells_is = ap (λ (K : Life). K.cells) e;
+  launcher_is = ap (λ (K : Life). K.launcher) e;
+}
+
+-- the seats of one life behind others
+pub more_one : (J : Life) (x y : ChairsAre) (s : Sat) (c : CellsSeen) (a : SeatIs (Entry LauncherEvent))
+    → y.seats ≡ x.seats ++ s ∷ [] → y.cells ≡ x.cells ++ c ∷ [] → y.turns ≡ x.turns ++ a ∷ [] → IsChairOf J s c a → MoreOf (J ∷ []) x y
+more_one J x y s c a p q r h = record { seats = s ∷ []; cells = c ∷ []; turns = a ∷ []; seats_are = p; cells_are = q; turns_are = r; whose = (h, tt) }
+
+-- of no life
+pub more_none : (x : ChairsAre) → MoreOf [] x x
+more_none x = record {
+  seats = [];
+  cells = [];
+  turns = [];
+  seats_are = sym (append-nil x.seats);
+  cells_are = sym (append-nil x.cells);
+  turns_are = sym (append-nil x.turns);
+  whose = tt;
+}
+
+chairs_append : (Js Ks : List Life) (ss ts : List Sat) (cs ds : List CellsSeen) (as' bs : List (SeatIs (Entry LauncherEvent)))
+    → AreChairsOf Js ss cs as' → AreChairsOf Ks ts ds bs → AreChairsOf (Js ++ Ks) (ss ++ ts) (cs ++ ds) (as' ++ bs)
+chairs_append [] Ks [] ts [] ds [] bs h i = i
+chairs_append [] Ks [] ts [] ds (a ∷ as') bs h i = absurd h
+chairs_append [] Ks [] ts (c ∷ cs) ds as' bs h i = absurd h
+chairs_append [] Ks (s ∷ ss) ts cs ds as' bs h i = absurd h
+chairs_append (J ∷ Js) Ks [] ts cs ds as' bs h i = absurd h
+chairs_append (J ∷ Js) Ks (s ∷ ss) ts [] ds as' bs h i = absurd h
+chairs_append (J ∷ Js) Ks (s ∷ ss) ts (c ∷ cs) ds [] bs h i = absurd h
+chairs_append (J ∷ Js) Ks (s ∷ ss) ts (c ∷ cs) ds (a ∷ as') bs h i = (h.0, chairs_append Js Ks ss ts cs ds as' bs h.1 i)
+
+-- those of some lives, and then those of others
+pub more_then : (Js Ks : List Life) (x y z : ChairsAre) → MoreOf Js x y → MoreOf Ks y z → MoreOf (Js ++ Ks) x z
+more_then Js Ks x y z h i = record {
+  seats = h.seats ++ i.seats;
+  cells = h.cells ++ i.cells;
+  turns = h.turns ++ i.turns;
+  seats_are = i.seats_are ∙ (ap (λ l. l ++ i.seats) h.seats_are ∙ append_assoc x.seats h.seats i.seats);
+  cells_are = i.cells_are ∙ (ap (λ l. l ++ i.cells) h.cells_are ∙ append_assoc x.cells h.cells i.cells);
+  turns_are = i.turns_are ∙ (ap (λ l. l ++ i.turns) h.turns_are ∙ append_assoc x.turns h.turns i.turns);
+  whose = chairs_append Js Ks h.seats i.seats h.cells i.cells h.turns i.turns h.whose i.whose;
+}
+
+-- where there were none before, they are all
+pub all_seats : (Js : List Life) (x y : ChairsAre) → x.seats ≡ [] → x.cells ≡ [] → x.turns ≡ [] → MoreOf Js x y → SeatsOf Js y
+all_seats Js x y p q r h =
+    let ss : y.seats ≡ h.seats = h.seats_are ∙ ap (λ l. l ++ h.seats) p in
+    let cs : y.cells ≡ h.cells = h.cells_are ∙ ap (λ l. l ++ h.cells) q in
+    let as' : y.turns ≡ h.turns = h.turns_are ∙ ap (λ l. l ++ h.turns) r in
+    subst (λ l. AreChairsOf Js y.seats y.cells l) (sym as') (subst (λ l. AreChairsOf Js y.seats l h.turns) (sym cs) (subst (λ l. AreChairsOf Js l h.cells h.turns) (sym ss) h.whose))
+
+-- ---- the seats of a run that begins
+
+-- from number 0's seat at the launcher more was seen
+pub unused_first : (C : Config) (ss : List Sat) (cs : List CellsSeen) (as' : List (SeatIs (Entry LauncherEvent))) (b : SeatIs (Entry LauncherEvent)) → AreUnused C 0 ss cs as' → AreUnused C 0 ss cs (set as' 0 b)
+unused_first C ss cs [] b h = h
+unused_first C [] [] (a ∷ as') b h = absurd h
+unused_first C [] (c ∷ cs) (a ∷ as') b h = absurd h
+unused_first C (s ∷ ss) [] (a ∷ as') b h = absurd h
+unused_first C (s ∷ ss) (c ∷ cs) (a ∷ as') b h = (record { sat_is = h.0.sat_is; cells = h.0.cells; turn = λ l. absurd (omega arith) }, h.1)
+
+none_seen : (m w : ℕ) → map (up_to_own by_entry w) (replicate m []) ≡ replicate {A = List (Entry ProxyEvent)} m []
+none_seen zero w = refl
+none_seen (suc m) w = ap (λ l. [] ∷ l) (none_seen m w)
+
+-- what a fresh number has seen
+fresh_seen : (m w : ℕ) → seen_of (fresh m w) ≡ nothing_seen m
+fresh_seen m w = ap (λ ps. record (nothing_seen m) { proxies = ps }) (none_seen m w)
+
+life_begins : (C : Config) (w : ℕ) (J : Life) (s : Sat) (c : CellsSeen) (a : SeatIs (Entry LauncherEvent)) → IsUnusedChair C w s c a → IsChairOf J s c a → LifeBegins C w J
+life_begins C w J s c a u h = record {
+  seen_is = h.seen_is ∙ (ap seen_of u.sat_is ∙ fresh_seen (length C.proxies) w);
+  board_is = h.board_is ∙ ap (λ (x : Sat). x.board) u.sat_is;
+  cells = subst (IsNew (length C.services) w) (sym h.cells_is) u.cells;
+  launcher = λ l. ap (λ (x : SeatIs (Entry LauncherEvent)). x.seen) h.launcher_is ∙ u.turn l;
+}
+
+pub lives_begin : (C : Config) (w : ℕ) (Js : List Life) (ss : List Sat) (cs : List CellsSeen) (as' : List (SeatIs (Entry LauncherEvent))) → AreUnused C w ss cs as' → AreChairsOf Js ss cs as' → AllBegin C w Js
+lives_begin C w [] ss cs as' u h = tt
+lives_begin C w (J ∷ Js) [] cs as' u h = absurd h
+lives_begin C w (J ∷ Js) (s ∷ ss) [] as' u h = absurd h
+lives_begin C w (J ∷ Js) (s ∷ ss) (c ∷ cs) [] u h = absurd h
+lives_begin C w (J ∷ Js) (s ∷ ss) (c ∷ cs) (a ∷ as') u h = (life_begins C w J s c a u.0 h.0, lives_begin C (suc w) Js ss cs as' u.1 h.1)
+
+-- the last of lives that begin
+pub begin_pop : (C : Config) (w m : ℕ) (Js : List Life) (J : Life) → m ≡ length Js + w → AllBegin C w (Js ++ J ∷ []) → AllBegin C w Js × LifeBegins C m J
+begin_pop C w m [] J e h = (tt, subst (λ k. LifeBegins C k J) (let q : w ≡ m = omega arith in q) h.0)
+begin_pop C w m (K ∷ Js) J e h = let i = begin_pop C (suc w) m Js J (omega arith) h.1 in ((h.0, i.0), i.1)
+
+-- and of lives that end
+pub end_pop : (n w m : ℕ) (Js : List Life) (J : Life) (R : Record) → m ≡ length Js + w → AllEnd n w (Js ++ J ∷ []) R → AllEnd n w Js R × LifeEnds n m J R
+end_pop n w m [] J R e h = (tt, subst (λ k. LifeEnds n k J R) (let q : w ≡ m = omega arith in q) h.0)
+end_pop n w m (K ∷ Js) J R e h = let i = end_pop n (suc w) m Js J R (omega arith) h.1 in ((h.0, i.0), i.1)

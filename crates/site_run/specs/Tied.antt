@@ -1,0 +1,125 @@
+-- How the seats of a run's workers are tied to what the workers saw, and both to the record that the run leaves. Number n launches; the workers have the numbers below it.
+use Rattle.std.specs.Prelude.{◌≡◌, ◌<◌, ◌≤◌, ℕ, suc, List, [], ◌∷◌, ◌++◌, length, map, filter, slice_index, IsTrue}
+use Rattle.std.specs.List.{list_all}
+use Rattle.okws_base.specs.Past.{Grows}
+use Rattle.okws_base.specs.declared.journal.Entry.{Entry}
+use Rattle.okws_plan.specs.declared.configuration.Config.{Config}
+use Rattle.okws_plan.specs.declared.event.LauncherEvent.{LauncherEvent}
+use Rattle.okws_plan.specs.declared.event.LogEvent.{LogEvent}
+use Rattle.okws_plan.specs.declared.event.OkdEvent.{OkdEvent}
+use Rattle.okws_plan.specs.declared.event.ProxyEvent.{ProxyEvent}
+use Rattle.okws_plan.specs.declared.event.PubdEvent.{PubdEvent}
+use Rattle.monitor_model.specs.declared.record.Own.{Own}
+use Rattle.monitor_model.specs.declared.record.Record.{Record}
+use Rattle.monitor_model.specs.Launcher.{begun}
+use Rattle.monitor_model.specs.Merged.{IsOwn, cell_items, cell_past, is_at_cell, is_launch, list_of}
+use Rattle.monitor_model.specs.Tied.{EndsIn, OwnsColumns}
+use Rattle.monitor_model.specs.Worker.{nothing_seen}
+use Rattle.live_board.specs.Board.{none_begun}
+use Rattle.turn_lock.specs.Seats.{SeatIs}
+use Rattle.cell_locks.specs.Closing.{CellsGrow}
+use Rattle.cell_locks.specs.Row.{CellsSeen, IsNew}
+use Rattle.site_locks.specs.Closing.{AllGrown, RowsGrown}
+use Rattle.site_locks.specs.Made.{fresh}
+use Rattle.site_locks.specs.Sat.{Sat, seen_of}
+use Rattle.site_worker.specs.Lives.{Life, number_of}
+use Rattle.site_run.specs.Rows.{ChairsAre}
+
+-- Nothing was seen or done from the seats of number w. From number 0's seat at the launcher its entries may have been seen: the services are launched from there before the workers begin.
+pub record IsUnusedChair (C : Config) (w : ℕ) (s : Sat) (c : CellsSeen) (a : SeatIs (Entry LauncherEvent)) : Type 0 where
+  pub sat_is : s ≡ fresh (length C.proxies) w
+  pub cells : IsNew (length C.services) w c
+  pub turn : 0 < w → a.seen ≡ []
+
+-- The same of numbers that rise by one from w.
+abbrev pub AreUnused : Config → ℕ → List Sat → List CellsSeen → List (SeatIs (Entry LauncherEvent)) → Type 0
+AreUnused C w [] [] [] = Unit {0}
+AreUnused C w [] [] (a ∷ as') = ⊥
+AreUnused C w [] (c ∷ cs) as' = ⊥
+AreUnused C w (s ∷ ss) [] as' = ⊥
+AreUnused C w (s ∷ ss) (c ∷ cs) [] = ⊥
+AreUnused C w (s ∷ ss) (c ∷ cs) (a ∷ as') = IsUnusedChair C w s c a × AreUnused C (suc w) ss cs as'
+
+-- The same of the numbers from 0 on.
+abbrev pub Unused : Config → ChairsAre → Type 0
+Unused C x = AreUnused C 0 x.seats x.cells x.turns
+
+-- The seats of one number are those of this life: what was seen from them is what the life has seen, with its own items.
+pub record IsChairOf (J : Life) (s : Sat) (c : CellsSeen) (a : SeatIs (Entry LauncherEvent)) : Type 0 where
+  pub seen_is : J.seen ≡ seen_of s
+  pub board_is : J.board ≡ s.board
+  pub cells_is : J.cells ≡ c
+  pub launcher_is : J.launcher ≡ a
+
+-- The same of each of these lives, in order.
+abbrev pub AreChairsOf : List Life → List Sat → List CellsSeen → List (SeatIs (Entry LauncherEvent)) → Type 0
+AreChairsOf [] [] [] [] = Unit {0}
+AreChairsOf [] [] [] (a ∷ as') = ⊥
+AreChairsOf [] [] (c ∷ cs) as' = ⊥
+AreChairsOf [] (s ∷ ss) cs as' = ⊥
+AreChairsOf (J ∷ Js) [] cs as' = ⊥
+AreChairsOf (J ∷ Js) (s ∷ ss) [] as' = ⊥
+AreChairsOf (J ∷ Js) (s ∷ ss) (c ∷ cs) [] = ⊥
+AreChairsOf (J ∷ Js) (s ∷ ss) (c ∷ cs) (a ∷ as') = IsChairOf J s c a × AreChairsOf Js ss cs as'
+
+-- The seats in these rows are those of these lives, that of number 0 first.
+abbrev pub SeatsOf : List Life → ChairsAre → Type 0
+SeatsOf Js x = AreChairsOf Js x.seats x.cells x.turns
+
+-- There are these seats, and behind them those of these lives.
+pub record MoreOf (Js : List Life) (x y : ChairsAre) : Type 0 where
+  pub seats : List Sat
+  pub cells : List CellsSeen
+  pub turns : List (SeatIs (Entry LauncherEvent))
+  pub seats_are : y.seats ≡ x.seats ++ seats
+  pub cells_are : y.cells ≡ x.cells ++ cells
+  pub turns_are : y.turns ≡ x.turns ++ turns
+  pub whose : AreChairsOf Js seats cells turns
+
+-- A life of number w begins: it has seen nothing of the columns, of the cells and of the board, and did nothing. Number 0 may have seen entries of the launcher's, since the services are launched under it before the workers begin.
+pub record LifeBegins (C : Config) (w : ℕ) (J : Life) : Type 0 where
+  pub seen_is : J.seen ≡ nothing_seen (length C.proxies)
+  pub board_is : J.board ≡ none_begun
+  pub cells : IsNew (length C.services) w J.cells
+  pub launcher : 0 < w → J.launcher.seen ≡ []
+
+-- The same of numbers that rise by one from w.
+abbrev pub AllBegin : Config → ℕ → List Life → Type 0
+AllBegin C w [] = Unit {0}
+AllBegin C w (J ∷ Js) = LifeBegins C w J × AllBegin C (suc w) Js
+
+-- A life of number w ends in a record: its own items are that number's list there, and each journal and each cell went on by entries of others alone from what it had seen there at last. It saw no incarnation on the board that was not begun.
+pub record LifeEnds (n w : ℕ) (J : Life) (R : Record) : Type 0 where
+  pub number_is : number_of J ≡ w
+  pub own_is : J.seen.own ≡ list_of R w
+  pub columns : EndsIn R w J.seen
+  pub cells : CellsGrow n w J.cells.cells R.cells
+  pub launcher : Grows w J.launcher.seen R.launcher
+  pub board : (s : ℕ) → s < length R.cells → slice_index J.board s ≤ begun R.launcher s
+
+-- The same of numbers that rise by one from w.
+abbrev pub AllEnd : ℕ → ℕ → List Life → Record → Type 0
+AllEnd n w [] R = Unit {0}
+AllEnd n w (J ∷ Js) R = LifeEnds n w J R × AllEnd n (suc w) Js R
+
+-- The launcher's number made just what stands in its list, in order, in each journal and each cell; and it did nothing but launch.
+pub record LaunchesAreOwn (n : ℕ) (R : Record) : Type 0 where
+  pub own : IsOwn R n n R.launches
+  pub launches : IsTrue (list_all is_launch R.launches)
+
+-- The journals of the columns go on by entries of others alone from what each number had seen there.
+pub record ColumnsGrown (seats : List Sat) (okd : List (Entry OkdEvent)) (proxies : List (List (Entry ProxyEvent))) (pubd : List (Entry PubdEvent)) (oklogd : List (Entry LogEvent)) : Type 0 where
+  pub okd_grown : AllGrown (λ s. s.okd) seats okd
+  pub proxies_grown : RowsGrown seats proxies
+  pub pubd_grown : AllGrown (λ s. s.pubd) seats pubd
+  pub log_grown : AllGrown (λ s. s.oklogd) seats oklogd
+
+-- These are the own lists of all numbers but the last.
+pub record AreLists (seats : List Sat) (lists : List (List Own)) : Type 0 where
+  pub last : List Own
+  pub lists_are : map (λ (s : Sat). s.own) seats ≡ lists ++ last ∷ []
+
+-- In each column's journal the entries of number w are the items of its list there, in order, and in each cell its dialogs and Misseds; of number n, which launches, its Boots and Retireds.
+pub record ListIsOwn (n w : ℕ) (R : Record) : Type 0 where
+  pub columns : OwnsColumns R w (list_of R w)
+  pub cells : (s : ℕ) → cell_items n w s (cell_past R s) ≡ filter (is_at_cell s) (list_of R w)

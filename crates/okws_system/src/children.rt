@@ -6,6 +6,7 @@ ghost use Rattle.okws_outer.specs.Families.{IsNewLink};
 
 use crate::link::PipeLink;
 use crate::trying::{count, refusal};
+use awaited_pipe::Awaited;
 use okws_base::items::Items;
 use okws_base::told::{Says, Told};
 use okws_outer::child::{Child, Ended};
@@ -19,7 +20,7 @@ use std::process::{ChildStdout, Command, Processes, Stdio, SystemProcess};
 use std::{io, process, str};
 
 /// The link of a child: its standard output, and the pipe that is its standard input.
-pub type ChildLink = PipeLink<ChildStdout, PipeWriter>;
+pub type ChildLink = PipeLink<Awaited<ChildStdout>, PipeWriter>;
 
 /// A child of the system.
 #[derive(Drop)]
@@ -167,7 +168,7 @@ fn link_of(
     ensures { IfOk result (λ l. IsNewLink (⟦<ChildLink as Link>⟧.wire l) × ((⟦<ChildLink as Link>⟧.wire l).left ≡ None)) }
 {
     match child.stdout.take() {
-        Some(output) => Ok(PipeLink::new(alloc, output, writer)?),
+        Some(output) => Ok(PipeLink::new(alloc, Awaited::new(output), writer)?),
         None => Err(io::Error::from(ErrorKind::InvalidData)),
     }
 }

@@ -11,16 +11,18 @@ mod tests;
 
 use guest::guest;
 use std::io;
+use std::os::fd::AsRawFd;
 use std::process::ExitCode;
-use svc_kit::link::over;
+use svc_kit::answering::over_answering;
 use svc_kit::standard::{Incoming, Outgoing};
 use svc_kit::stop::Stop;
 
 /// The status is 0 where the server ended it, and else 1.
 fn main(rt: HostRuntime) -> ExitCode {
+    let input = rt.stdin().as_raw_fd();
     let source = Incoming::new(rt.reader());
     let sink = Outgoing::new(io::writer(&rt));
-    match over(rt.alloc(), source, sink) {
+    match over_answering(rt.alloc(), input, source, sink) {
         Ok(mut link) => match guest(&rt, rt.alloc(), &mut link) {
             Stop::Ended => ExitCode::from(0),
             _ => ExitCode::from(1),

@@ -40,6 +40,7 @@
 #![tactic(auto)]
 
 pub mod answer;
+pub mod answering;
 pub mod bounded;
 pub mod calling;
 pub mod escape;

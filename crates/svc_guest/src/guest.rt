@@ -1,14 +1,28 @@
 //! The guestbook over a link.
 
 ghost use Rattle.std.specs.Prelude.{◌≡◌};
+ghost use Rattle.frame_codec.specs.Spelling.{ServiceHasSpelling};
+ghost use Rattle.svc_kit.specs.Asking.{Says};
 ghost use Rattle.svc_guest.specs.Guest.{Rounds, Guests};
 
 use crate::book::{Guestbook, NoTurn};
+use frame_codec::frame::ServiceFrame;
 use okws_outer::stream::Link;
 use std::alloc::Global;
 use std::sync::Wait;
-use svc_kit::saying::{hear, tell};
+use svc_kit::saying::{hear, say};
 use svc_kit::stop::Stop;
+
+/// Puts a frame that has a spelling.
+fn put<L: Link>(link: &mut L, frame: &ServiceFrame) -> Result<(), Stop>
+    requires { ServiceHasSpelling frame.now }
+    ensures { Says (L.wire link.old) frame.now result (L.wire link.new) }
+{
+    match say(link, frame) {
+        Ok(()) => Ok(()),
+        Err(_) => Err(Stop::LinkFault),
+    }
+}
 
 /// Hears a frame, and says what is due then.
 fn round<L: Link>(alloc: Global, book: &mut Guestbook, link: &mut L) -> Result<(), Stop>
@@ -19,7 +33,7 @@ fn round<L: Link>(alloc: Global, book: &mut Guestbook, link: &mut L) -> Result<(
         Err(stop) => return Err(stop),
     };
     match book.hear(frame) {
-        Ok(Some(said)) => tell(link, &said),
+        Ok(Some(said)) => put(link, &said),
         Ok(None) => Ok(()),
         Err(NoTurn::Unlooked(frame)) => Err(Stop::Unlooked(frame)),
         Err(NoTurn::NoMemory) => Err(Stop::NoMemory),

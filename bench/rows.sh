@@ -3,7 +3,7 @@
 # map in the same run, in a copy of the repository: the program is proved, built by LLVM and run. Run it at the
 # top of the repository.
 set -eu
-below='okws_base okws_plan okws_outer plain_text query_syntax statement_core config_reader index_keeper'
+below='okws_base okws_plan okws_outer plain_text query_syntax statement_core config_syntax config_reader index_keeper'
 copy=$(mktemp -d)
 trap 'rm -rf "$copy"' EXIT
 cp HANDLES "$copy"
@@ -15,7 +15,20 @@ for crate in $below; do
 done
 echo "rows_bench: $below hex" >> "$copy/crates.txt"
 cp bench/rows.rt.txt "$bench/src/main.rt"
-: > "$bench/specs/Lib.antt"
+echo 'pub mod Keys' > "$bench/specs/Lib.antt"
+cat > "$bench/specs/Keys.antt" <<'END'
+use Rattle.std.specs.Cmp.{IsTotalOrder, on_total}
+use Rattle.std.specs.declared.cmp.Ordering.{Ordering}
+use Rattle.okws_base.specs.Value.{value_cmp}
+use Rattle.index_keeper.specs.Order.{values_total}
+use Rattle.rows_bench.specs.declared.Key.{Key}
+
+abbrev pub key_cmp : Key → Key → Ordering
+key_cmp a b = value_cmp a.value b.value
+
+pub keys_total : IsTotalOrder key_cmp
+keys_total = on_total (λ (k : Key). k.value) values_total
+END
 : > "$bench/proofs/Lib.antt"
 cat > "$bench/proofs/call_many/Invariants.antt" <<'END'
 use Rattle.std.proofs.Common.{◌≡◌}

@@ -23,7 +23,7 @@ use Rattle.okws_base.specs.Value.{value_cmp, value_eq}
 use Rattle.okws_base.specs.declared.value.Value.{Value}
 use Rattle.okws_base.specs.declared.value.Value.TheVariants.{Int, Text, Bytes}
 use Rattle.index_keeper.specs.Places.{places_where, rows_of}
-use Rattle.index_keeper.specs.Changes.{merged, after_change, changed, row_at, change_of}
+use Rattle.index_keeper.specs.Changes.{merged, after_change, changed, row_at, changes_to}
 use Rattle.index_keeper.specs.declared.changing.Change.{Change}
 use Rattle.index_keeper.proofs.Found.{sorted_filtered, rows_where}
 
@@ -40,40 +40,17 @@ filter_map_none h xs i d below is =
     ∙ ap (λ (o : Option _). filter_map h (take i xs) ++ cons_option o []) is
     ∙ append-nil (filter_map h (take i xs))
 
--- The rows at the places that pass a test are the rows that pass it.
-pub picked_rows : (f : ℕ → Option (List Value)) (test : List Value → Bool) (es : List (ℕ × List Value)) → Each (λ (e : ℕ × List Value). f e.0 ≡ Some e.1) es → filter_map f (places_where test es) ≡ filter test (rows_of es)
-picked_rows f test [] all = refl
-picked_rows f test (e ∷ es) all = by (test e.1) refl (picked_rows f test es all.1)
-  where
-    by : (b : Bool) → test e.1 ≡ b → filter_map f (places_where test es) ≡ filter test (rows_of es) → filter_map f (places_where test (e ∷ es)) ≡ filter test (rows_of (e ∷ es))
-    by true is rest = rw (is, all.0) (ap (λ (more : List (List Value)). e.1 ∷ more) rest)
-    by false is rest = rw is rest
-
 -- A change for each entry that passes a test.
 abbrev pub listed_changes : (List Value → Option (List Value)) → (List Value → Bool) → List (ℕ × List Value) → List Change
-listed_changes make test es = map {B = Change} (λ (e : ℕ × List Value). record { place = e.0; row = make e.1 }) (filter (λ (e : ℕ × List Value). test e.1) es)
+listed_changes make test es = changes_to make (filter (λ (e : ℕ × List Value). test e.1) es)
 
-pub changes_listed : (make : List Value → Option (List Value)) (f : ℕ → Option (List Value)) (test : List Value → Bool) (es : List (ℕ × List Value)) → Each (λ (e : ℕ × List Value). f e.0 ≡ Some e.1) es → filter_map (λ (p : ℕ). change_of make p (f p)) (places_where test es) ≡ listed_changes make test es
-changes_listed make f test [] all = refl
-changes_listed make f test (e ∷ es) all = by (test e.1) refl (changes_listed make f test es all.1)
+-- There are as many as rows that pass it.
+pub count_listed : (make : List Value → Option (List Value)) (test : List Value → Bool) (es : List (ℕ × List Value)) → length (listed_changes make test es) ≡ length (filter test (rows_of es))
+count_listed make test [] = refl
+count_listed make test (e ∷ es) = by (test e.1) refl (count_listed make test es)
   where
-    change : Change
-    change = record { place = e.0; row = make e.1 }
-
-    by : (b : Bool) → test e.1 ≡ b → filter_map (λ (p : ℕ). change_of make p (f p)) (places_where test es) ≡ listed_changes make test es → filter_map (λ (p : ℕ). change_of make p (f p)) (places_where test (e ∷ es)) ≡ listed_changes make test (e ∷ es)
-    by true is rest = rw (is, all.0) (ap (λ (more : List Change). change ∷ more) rest)
-    by false is rest = rw is rest
-
-pub removals_listed : (test : List Value → Bool) (es : List (ℕ × List Value)) → map {B = Change} (λ (p : ℕ). record { place = p; row = None }) (places_where test es) ≡ listed_changes (λ _. None) test es
-removals_listed test [] = refl
-removals_listed test (e ∷ es) = by (test e.1) refl (removals_listed test es)
-  where
-    change : Change
-    change = record { place = e.0; row = None }
-
-    by : (b : Bool) → test e.1 ≡ b → map {B = Change} (λ (p : ℕ). record { place = p; row = None }) (places_where test es) ≡ listed_changes (λ _. None) test es
-        → map {B = Change} (λ (p : ℕ). record { place = p; row = None }) (places_where test (e ∷ es)) ≡ listed_changes (λ _. None) test (e ∷ es)
-    by true is rest = rw is (ap (λ (more : List Change). change ∷ more) rest)
+    by : (b : Bool) → test e.1 ≡ b → length (listed_changes make test es) ≡ length (filter test (rows_of es)) → length (listed_changes make test (e ∷ es)) ≡ length (filter test (rows_of (e ∷ es)))
+    by true is rest = rw is (ap suc rest)
     by false is rest = rw is rest
 
 listed_places : (make : List Value → Option (List Value)) (test : List Value → Bool) (es : List (ℕ × List Value)) → map (λ (ch : Change). ch.place) (listed_changes make test es) ≡ places_where test es

@@ -258,11 +258,16 @@ each_passes f test [] all = tt
 each_passes f test (e ∷ es) all = (ap (passes_at test) all.0, each_passes f test es all.1)
 
 -- The candidates are the places of the rows that meet the leading condition.
-candidates_are : (columns : List ℕ) (rows : BTreeMap ℕ (List Value)) (slots : BTreeSet Slot) (args : List Value) (conditions : List Condition) (c : Condition) → IsIndex columns rows slots → tree.IsOrdered nat_cmp rows → sorted.IsOrdered slot_cmp slots → leading columns conditions ≡ Some c
+pub candidates_are : (columns : List ℕ) (rows : BTreeMap ℕ (List Value)) (slots : BTreeSet Slot) (args : List Value) (conditions : List Condition) (c : Condition) → IsIndex columns rows slots → tree.IsOrdered nat_cmp rows → sorted.IsOrdered slot_cmp slots → leading columns conditions ≡ Some c
     → places_in c.column (operand args c.operand) slots.keys ≡ places_where (λ (row : List Value). is_value (operand args c.operand) (Some (at_column row c.column))) rows.entries
 candidates_are columns rows slots args conditions c index up rise h =
     listed columns rows slots c.column (operand args c.operand) index up rise
     (both_right (is_equality c.comparison) (is_indexed columns c.column) (find_passes (λ (d : Condition). is_equality d.comparison && is_indexed columns d.column) conditions c h))
+
+-- A row that meets all conditions has what the leading one compares with.
+pub met_leading : (columns : List ℕ) (args : List Value) (conditions : List Condition) (c : Condition) → leading columns conditions ≡ Some c → (row : List Value) → meets_all args conditions row ≡ true → is_value (operand args c.operand) (Some (at_column row c.column)) ≡ true
+met_leading columns args conditions c h row met =
+    sym (leading_holds columns args conditions c row h) ∙ find_met (λ (d : Condition). is_equality d.comparison && is_indexed columns d.column) (λ (d : Condition). meets args d row) conditions c h met
 
 -- Those of the candidates that meet all conditions are the places of all rows that do.
 pub found_by : (columns : List ℕ) (rows : BTreeMap ℕ (List Value)) (slots : BTreeSet Slot) (args : List Value) (conditions : List Condition) (c : Condition) → IsIndex columns rows slots → tree.IsOrdered nat_cmp rows → sorted.IsOrdered slot_cmp slots → leading columns conditions ≡ Some c
@@ -271,7 +276,7 @@ found_by columns rows slots args conditions c index up rise h =
     ap (filter (λ (p : ℕ). passes_at (meets_all args conditions) (get nat_cmp rows p))) (candidates_are columns rows slots args conditions c index up rise h)
     ∙ narrowed (λ (p : ℕ). passes_at (meets_all args conditions) (get nat_cmp rows p)) (λ (row : List Value). is_value (operand args c.operand) (Some (at_column row c.column))) (meets_all args conditions) rows.entries
     (each_passes (get nat_cmp rows) (meets_all args conditions) rows.entries (each_found rows up))
-    (λ row met. sym (leading_holds columns args conditions c row h) ∙ find_met (λ (d : Condition). is_equality d.comparison && is_indexed columns d.column) (λ (d : Condition). meets args d row) conditions c h met)
+    (met_leading columns args conditions c h)
 
 -- There are as many candidates as rows are tested.
 pub counted_by : (columns : List ℕ) (rows : BTreeMap ℕ (List Value)) (slots : BTreeSet Slot) (args : List Value) (conditions : List Condition) (c : Condition) → IsIndex columns rows slots → tree.IsOrdered nat_cmp rows → sorted.IsOrdered slot_cmp slots → leading columns conditions ≡ Some c

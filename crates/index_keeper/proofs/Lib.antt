@@ -7,3 +7,4 @@ pub mod Counted
 pub mod Ran
 pub mod Pins
 pub mod Unstable
+mod Hits

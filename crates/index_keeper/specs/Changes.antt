@@ -1,6 +1,6 @@
 -- Changes of rows at their places, and the slots that come and go with them.
-use Rattle.std.specs.Prelude.{ℕ, Bool, true, false, not, ◌&&◌, ◌==◌, List, [], fold, if◌then◌else◌, Option, Some, None}
-use Rattle.std.specs.List.{list_any, filter_map}
+use Rattle.std.specs.Prelude.{ℕ, Bool, true, false, not, ◌&&◌, ◌==◌, List, [], fold, map, if◌then◌else◌, Option, Some, None}
+use Rattle.std.specs.List.{list_any}
 use Rattle.std.specs.Ordering.{nat_cmp, is_eq}
 use Rattle.std.specs.Map.{lookup}
 use Rattle.std.specs.BTreeMap.{is_at}
@@ -73,11 +73,6 @@ or_empty (Some row) = row
 abbrev pub row_or : List (ℕ × List Value) → ℕ → List Value
 row_or entries p = or_empty (row_at entries p)
 
--- The row that is to stand at a place, made of the one that stands there.
-abbrev pub change_of : (List Value → Option (List Value)) → ℕ → Option (List Value) → Option Change
-change_of make p None = None
-change_of make p (Some row) = Some (record { place = p; row = make row })
-
--- A change for each of the places that has a row.
-abbrev pub changes_at : (List Value → Option (List Value)) → (ℕ → Option (List Value)) → List ℕ → List Change
-changes_at make at places = filter_map (λ (p : ℕ). change_of make p (at p)) places
+-- A change for each entry: at its place is to stand what is made of its row.
+abbrev pub changes_to : (List Value → Option (List Value)) → List (ℕ × List Value) → List Change
+changes_to make entries = map {B = Change} (λ (e : ℕ × List Value). record { place = e.0; row = make e.1 }) entries

@@ -1,6 +1,7 @@
 pub mod Slots
 pub mod Order
 pub mod Places
+pub mod Hits
 pub mod Changes
 pub mod Indexed
 pub mod Pinning

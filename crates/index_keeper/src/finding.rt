@@ -7,7 +7,8 @@ ghost use Rattle.std.specs.BTreeMap.{get};
 ghost use Rattle.std.specs.BTreeSet.{IsOrdered};
 ghost use Rattle.okws_plan.specs.Meaning.{meets_all, operand, nothing};
 ghost use Rattle.index_keeper.specs.Slots.{slot_cmp, places_in};
-ghost use Rattle.index_keeper.specs.Places.{places_where, leading, passes_at, is_indexed, is_equality};
+ghost use Rattle.index_keeper.specs.Places.{leading, passes_at, is_indexed, is_equality};
+ghost use Rattle.index_keeper.specs.Hits.{entries_of, entries_at, passing};
 
 use crate::slot::Slot;
 use crate::slots::places_at;
@@ -18,6 +19,13 @@ use okws_plan::statement::{Comparison, Condition, Operand};
 use std::alloc::{AllocError, Global};
 use std::collections::{BTreeMap, BTreeSet};
 use std::sync::ledger::Ledger;
+
+/// A place, and the row that stands there.
+#[derive(Clone, Copy)]
+pub struct Hit<'a> {
+    pub place: u64,
+    pub row: &'a Row,
+}
 
 fn leads(columns: &[u8], condition: &Condition) -> bool
     ensures { result ≡ (is_equality condition.now.comparison && is_indexed columns.now condition.now.column) }
@@ -71,49 +79,71 @@ pub fn candidates(
     places_at(alloc, slots, condition.column, value)
 }
 
-/// The places of the rows that meet the conditions; all rows are tested.
-pub fn scanned<L: Ledger>(
+/// The rows that meet the conditions, at their places; all rows are tested.
+pub fn scanned<'a, L: Ledger>(
     alloc: Global,
     args: &[Value],
     conditions: &[Condition],
-    rows: &BTreeMap<u64, Row>,
+    rows: &'a BTreeMap<u64, Row>,
     steps: &mut Steps<L>,
-) -> Result<Vec<u64>, AllocError>
-    ensures places { IfOk result (λ v. v.items ≡ places_where (meets_all args.now conditions.now) rows.now.entries) }
+) -> Result<Vec<Hit<'a>>, AllocError>
+    ensures entries { IfOk result (λ v. entries_of v.items ≡ filter (λ e. meets_all args.now conditions.now e.1) rows.now.entries) }
     ensures tested { OnOk result (steps.new ≡ steps.old + length rows.now.entries) }
     ensures most { steps.new ≤ steps.old + length rows.now.entries }
 {
-    let mut places = Vec::new(alloc);
+    let mut hits = Vec::new(alloc);
     for (place, row) in rows {
         steps.tick();
         if meets_every(args, conditions, row.as_slice()) {
-            places.push(*place)?;
+            hits.push(Hit { place: *place, row })?;
         }
     }
-    Ok(places)
+    Ok(hits)
 }
 
-/// Those of the places whose rows meet the conditions; only their rows are tested.
-pub fn met_among<L: Ledger>(
+/// The rows at those of the places where they meet the conditions; only the rows at the places are tested.
+pub fn met_among<'a, L: Ledger>(
     alloc: Global,
     args: &[Value],
     conditions: &[Condition],
-    rows: &BTreeMap<u64, Row>,
+    rows: &'a BTreeMap<u64, Row>,
     places: &[u64],
     steps: &mut Steps<L>,
-) -> Result<Vec<u64>, AllocError>
-    ensures places { IfOk result (λ v. v.items ≡ filter (λ (p : ℕ). passes_at (meets_all args.now conditions.now) (get nat_cmp rows.now p)) places.now) }
+) -> Result<Vec<Hit<'a>>, AllocError>
+    ensures entries { IfOk result (λ v. entries_of v.items ≡ entries_at (meets_all args.now conditions.now) (λ (p : ℕ). get nat_cmp rows.now p) places.now) }
     ensures tested { OnOk result (steps.new ≡ steps.old + length places.now) }
     ensures most { steps.new ≤ steps.old + length places.now }
 {
-    let mut met = Vec::new(alloc);
+    let mut hits = Vec::with_capacity(alloc, places.len())?;
     for place in places {
         steps.tick();
-        if meets_at(args, conditions, rows, *place) {
-            met.push(*place)?;
+        match row_met(args, conditions, rows, *place) {
+            None => {}
+            Some(row) => hits.push(Hit { place: *place, row })?,
         }
     }
-    Ok(met)
+    Ok(hits)
+}
+
+// The row at the place, if there is one and it meets the conditions.
+fn row_met<'a>(
+    args: &[Value],
+    conditions: &[Condition],
+    rows: &'a BTreeMap<u64, Row>,
+    place: u64,
+) -> Option<&'a Row>
+    ensures { option_copied result ≡ passing (meets_all args.now conditions.now) (get nat_cmp rows.now place) }
+{
+    match rows.get(&place) {
+        None => None,
+        Some(row) => {
+            if meets_every(args, conditions, row.as_slice()) {
+                Some(row)
+            } else {
+                None
+            }
+        }
+    }
 }
 
 /// Whether there is a row at the place, and it meets the conditions.

@@ -1,6 +1,6 @@
 //! The rows of one table, with an index.
 
-ghost use Rattle.std.specs.Prelude.{◌≡◌, ◌+◌, ◌≤◌, ◌++◌, ◌∷◌, [], ◌==◌, true, ℕ, IfOk, OnOk, OnErr, length, map, Some};
+ghost use Rattle.std.specs.Prelude.{◌≡◌, ◌+◌, ◌≤◌, ◌++◌, ◌∷◌, [], ◌==◌, true, ℕ, IfOk, OnOk, OnErr, length, map, filter, not, Some, None};
 ghost use Rattle.std.specs.List.{list_any, filter_map, find};
 ghost use Rattle.std.specs.BTreeMap.{values};
 ghost use Rattle.std.specs.List.Sorted.{IsStrictlySortedBy};
@@ -11,13 +11,14 @@ ghost use Rattle.okws_plan.specs.Meaning.{nothing, mean_on, meets_all, at_column
 ghost use Rattle.okws_plan.specs.Meaning.{hits, misses, updated, assigned, inserted, row_of};
 ghost use Rattle.index_keeper.specs.Places.{places_where, passes_at, rows_of, tests, is_indexed};
 ghost use Rattle.index_keeper.specs.Pinning.{AreTested};
-ghost use Rattle.index_keeper.specs.Changes.{row_at, row_or, changed, changes_at};
+ghost use Rattle.index_keeper.specs.Changes.{row_at, row_or, changed, changes_to};
+ghost use Rattle.index_keeper.specs.Hits.{entries_of};
 
-use crate::answering::{answer, rows_at};
+use crate::answering::answer;
 use crate::changing::{Change, append, apply};
 use crate::declared::key_column;
 use crate::editing::{removals, replacements};
-use crate::finding::{at, candidates, leading_of, meets_at, met_among, scanned};
+use crate::finding::{Hit, at, candidates, leading_of, meets_at, met_among, scanned};
 use crate::slot::Slot;
 use crate::slots::places_at;
 use crate::steps::Steps;
@@ -62,6 +63,23 @@ impl TableRows {
         steps: &mut Steps<L>,
     ) -> Result<Vec<u64>, AllocError>
         ensures places { IfOk result (λ v. v.items ≡ places_where (meets_all args.now conditions.now) self.now.entries) }
+        ensures tested { OnOk result (steps.new ≡ steps.old + tests self.now.columns args.now conditions.now (rows_of self.now.entries)) }
+        ensures most { steps.new ≤ steps.old + tests self.now.columns args.now conditions.now (rows_of self.now.entries) }
+    {
+        let found = self.found(alloc, args, conditions, steps)?;
+        places_of(alloc, &found)
+    }
+
+    // The rows that meet the conditions, at their places, ascending. A step is counted for each row
+    // that is tested.
+    fn found<'a, L: Ledger>(
+        &'a self,
+        alloc: Global,
+        args: &[Value],
+        conditions: &[Condition],
+        steps: &mut Steps<L>,
+    ) -> Result<Vec<Hit<'a>>, AllocError>
+        ensures entries { IfOk result (λ v. entries_of v.items ≡ filter (λ e. meets_all args.now conditions.now e.1) self.now.entries) }
         ensures tested { OnOk result (steps.new ≡ steps.old + tests self.now.columns args.now conditions.now (rows_of self.now.entries)) }
         ensures most { steps.new ≤ steps.old + tests self.now.columns args.now conditions.now (rows_of self.now.entries) }
         ensures rise { IsStrictlySortedBy nat_cmp (keys_of self.now.entries) }
@@ -198,8 +216,7 @@ impl TableRows {
     ) -> Result<Answer, AllocError>
         ensures { IfOk result (λ answer. answer ≡ selection_answer args.now selection.now (rows_of self.now.entries)) }
     {
-        let places = self.hits(alloc, args, selection.conditions.as_slice(), steps)?;
-        let found = self.rows_at(alloc, &places)?;
+        let found = self.found(alloc, args, selection.conditions.as_slice(), steps)?;
         answer(alloc, selection, found)
     }
 
@@ -235,9 +252,8 @@ impl TableRows {
         ensures rows { OnOk result (rows_of self.new.entries ≡ updated args.now assignments.now conditions.now (rows_of self.old.entries)) }
         ensures err { OnErr result (self.new ≡ self.old) }
     {
-        let places = self.hits(alloc, args, conditions, steps)?;
-        let count = count_of(&places);
-        let changes = self.replacements(alloc, args, assignments, &places)?;
+        let changes = self.replacements(alloc, args, assignments, conditions, steps)?;
+        let count = count_of(&changes);
         self.change(alloc, changes)?;
         Ok(Answer::Changed(count))
     }
@@ -254,9 +270,8 @@ impl TableRows {
         ensures rows { OnOk result (rows_of self.new.entries ≡ misses args.now conditions.now (rows_of self.old.entries)) }
         ensures err { OnErr result (self.new ≡ self.old) }
     {
-        let places = self.hits(alloc, args, conditions, steps)?;
-        let count = count_of(&places);
-        let changes = removals(alloc, &places)?;
+        let changes = self.removals(alloc, args, conditions, steps)?;
+        let count = count_of(&changes);
         self.change(alloc, changes)?;
         Ok(Answer::Changed(count))
     }
@@ -289,26 +304,39 @@ impl TableRows {
         ensures { IfOk result (λ b. b ≡ list_any (λ row. value_eq (at_column row own) value.now) (rows_of self.now.entries)) }
     {
         let places = places_at(alloc, &self.slots, own, value)?;
-        let count = count_of(&places);
-        Ok(count != 0)
+        let some = has_any(&places);
+        Ok(some)
     }
 
-    fn replacements(
+    // What is to stand at the places of the hits once the assignments are made.
+    fn replacements<L: Ledger>(
         &self,
         alloc: Global,
         args: &[Value],
         assignments: &[Assignment],
-        places: &[u64],
+        conditions: &[Condition],
+        steps: &mut Steps<L>,
     ) -> Result<Vec<Change>, AllocError>
-        ensures { IfOk result (λ v. v.items ≡ changes_at (λ row. Some (assigned args.now assignments.now row)) (row_at self.now.entries) places.now) }
+        ensures changes { IfOk result (λ v. v.items ≡ changes_to (λ row. Some (assigned args.now assignments.now row)) (filter (λ e. meets_all args.now conditions.now e.1) self.now.entries)) }
+        ensures rise { IsStrictlySortedBy nat_cmp (keys_of self.now.entries) }
     {
-        replacements(alloc, args, assignments, &self.rows, places)
+        let found = self.found(alloc, args, conditions, steps)?;
+        replacements(alloc, args, assignments, &found)
     }
 
-    fn rows_at(&self, alloc: Global, places: &[u64]) -> Result<Vec<Row>, AllocError>
-        ensures { IfOk result (λ v. v.items ≡ filter_map (row_at self.now.entries) places.now) }
+    // No row at the places of the hits.
+    fn removals<L: Ledger>(
+        &self,
+        alloc: Global,
+        args: &[Value],
+        conditions: &[Condition],
+        steps: &mut Steps<L>,
+    ) -> Result<Vec<Change>, AllocError>
+        ensures changes { IfOk result (λ v. v.items ≡ changes_to (λ _. None) (filter (λ e. meets_all args.now conditions.now e.1) self.now.entries)) }
+        ensures rise { IsStrictlySortedBy nat_cmp (keys_of self.now.entries) }
     {
-        rows_at(alloc, &self.rows, places)
+        let found = self.found(alloc, args, conditions, steps)?;
+        removals(alloc, &found)
     }
 
     // Makes the changes, or none of them where memory is refused.
@@ -336,10 +364,22 @@ fn all_places(alloc: Global, rows: &BTreeMap<u64, Row>) -> Result<Vec<u64>, Allo
     rows.keys().copied().collect(alloc)
 }
 
-fn count_of(places: &[u64]) -> u64
-    ensures { result ≡ length places.now }
+fn places_of(alloc: Global, hits: &[Hit]) -> Result<Vec<u64>, AllocError>
+    ensures { IfOk result (λ v. v.items ≡ map (λ h. h.place) hits.now) }
 {
-    places.len() as u64
+    hits.iter().map(|hit| hit.place).collect(alloc)
+}
+
+fn has_any(places: &[u64]) -> bool
+    ensures { result ≡ not (length places.now == 0) }
+{
+    !places.is_empty()
+}
+
+fn count_of(changes: &[Change]) -> u64
+    ensures { result ≡ length changes.now }
+{
+    changes.len() as u64
 }
 
 // The number of a column, where it has an index.

@@ -21,8 +21,7 @@ impl Slot {
     pub fn is_of(&self, column: u8, value: &Value) -> bool
         ensures { result ≡ is_of column value.now self.now }
     {
-        let order = column.cmp(&self.column).then(value.compare(&self.value));
-        order == Ordering::Equal
+        column == self.column && value.compare(&self.value) == Ordering::Equal
     }
 }
 
@@ -50,10 +49,13 @@ impl Ord for Slot {
     ghost matches_eq = { λ _ _. refl };
 
     fn cmp(&self, other: &Slot) -> Ordering {
-        self.column
-            .cmp(&other.column)
-            .then(self.value.compare(&other.value))
-            .then(self.place.cmp(&other.place))
+        match self.column.cmp(&other.column) {
+            Ordering::Equal => match self.value.compare(&other.value) {
+                Ordering::Equal => self.place.cmp(&other.place),
+                by_value => by_value,
+            },
+            by_column => by_column,
+        }
     }
 }
 

@@ -1,27 +1,39 @@
-use Rattle.std.proofs.Common.{◌∙◌, ℕ, Bool, sym, arith}
+use Rattle.std.proofs.Common.{◌≡◌, ◌∙◌, ◌∷◌, ◌++◌, [], ℕ, List, Option, Some, None, get_or, ap, sym, arith}
+use Rattle.std.specs.Prelude.{option_map}
 use Rattle.std.specs.Ordering.{nat_cmp}
 use Rattle.std.specs.BTreeMap.{get}
+use Rattle.std.proofs.lemmas.List.{map-append}
+use Rattle.okws_base.specs.declared.value.Value.{Value}
 use Rattle.okws_plan.specs.Meaning.{meets_all}
-use Rattle.index_keeper.specs.Places.{passes_at}
-use Rattle.index_keeper.proofs.Found.{filter_hit, filter_miss}
+use Rattle.index_keeper.specs.Hits.{entry_at}
+use Rattle.index_keeper.specs.declared.finding.Hit.{Hit}
+use Rattle.index_keeper.proofs.Entries.{filter_map_some, filter_map_none}
 use Rattle.index_keeper.proofs.finding.met_among.Goals as goal
-use Rattle.index_keeper.proofs.finding.met_among.Goals.{then-meets_at+in_ok-push, else-meets_at}
+use Rattle.index_keeper.proofs.finding.met_among.Goals.{in-Some+in_ok-push-in-Some, in-None}
 
 pub loop-place-preserved : goal.loop-place-preserved
 loop-place-preserved g c =
-    let test : ℕ → Bool = λ (p : ℕ). passes_at (meets_all c.args.args.now c.args.conditions.now) (get nat_cmp c.args.rows.now p) in
-    elim c.if-meets_at.branch [
-      | then-meets_at+in_ok-push w ↦ record {
-        places =
-            rw (w.met-is, w.in_ok-push.ensures.items, c.loop-place.invariant.places)
-            (sym (filter_hit test c.args.places.now c.loop-place.place-index 0 c.loop-place-test.true (sym c.meets_at.ensures ∙ w.if-meets_at.true)));
-        counted = omega (arith, c.tick.ensures, c.loop-place.invariant.counted);
-      }
-      | else-meets_at w ↦ record {
-        places =
-            rw w.met-is
-            (c.loop-place.invariant.places
-            ∙ sym (filter_miss test c.args.places.now c.loop-place.place-index 0 c.loop-place-test.true (sym c.meets_at.ensures ∙ w.if-meets_at.false)));
-        counted = omega (arith, c.tick.ensures, c.loop-place.invariant.counted);
-      }
+    let place : ℕ = get_or c.args.places.now c.loop-place.place-index 0 in
+    let found : ℕ → Option (ℕ × List Value) = λ (p : ℕ). entry_at (meets_all c.args.args.now c.args.conditions.now) p (get nat_cmp c.args.rows.now p) in
+    elim c.match-row_met.branch [
+      | in-Some+in_ok-push-in-Some w ↦
+          let row = w.in-Some.row in
+          let here : found place ≡ Some (place, row.now) = ap (option_map (λ (r : List Value). (place, r))) (sym w.in-Some.ensures) in
+          record {
+            entries =
+                rw (w.hits-is, w.in_ok-push-in-Some.ensures.items)
+                (map-append (λ (h : Hit). (h.place, h.row.now)) c.loop-place.hits.items (record { place = place; row = row } ∷ [])
+                ∙ ap (λ (front : List (ℕ × List Value)). front ++ (place, row.now) ∷ []) c.loop-place.invariant.entries
+                ∙ sym (filter_map_some found c.args.places.now c.loop-place.place-index 0 (place, row.now) c.loop-place-test.true here));
+            counted = omega (arith, c.tick.ensures, c.loop-place.invariant.counted);
+          }
+      | in-None w ↦
+          let here : found place ≡ None = ap (option_map (λ (r : List Value). (place, r))) (sym w.in-None.ensures) in
+          record {
+            entries =
+                rw w.hits-is
+                (c.loop-place.invariant.entries
+                ∙ sym (filter_map_none found c.args.places.now c.loop-place.place-index 0 c.loop-place-test.true here));
+            counted = omega (arith, c.tick.ensures, c.loop-place.invariant.counted);
+          }
     ]

@@ -1,20 +1,59 @@
 //! Stores of rows in files of SQLite, one for each proxy.
 
-ghost use Rattle.std.specs.Prelude.{◌≡◌, [], ◌++◌, IfOk, codes, decimal, string_bytes};
+ghost use Rattle.std.specs.Prelude.{◌≡◌, None, false, [], ◌++◌, IfOk, codes, decimal, string_bytes};
 ghost use Rattle.okws_outer.specs.Depots.{IsNewKeeper};
 
 use crate::trying::count;
 use okws_base::told::{Says, Told};
+use okws_base::value::Value;
 use okws_outer::error::MakeError;
-use okws_outer::keeper::Keeper;
+use okws_outer::keeper::{Keeper, RunError};
+use okws_outer::pinned::Listed;
 use okws_outer::stores::{KeeperEnd, KeeperStart, Stores};
 use okws_plan::configuration::Table;
+use okws_plan::statement::{Answer, Statement};
 use sqlite::{Connection, Error, ErrorCode, File, FileStore};
 use sqlite_keeper::SqliteKeeper;
 use std::alloc::{AllocError, Global};
 
-/// A keeper whose rows stand in a file.
-pub type FileKeeper = SqliteKeeper<FileStore<File>>;
+/// A keeper whose rows stand in a file. It hides of what the keeper is made: a program that holds stores
+/// is proved without comparing the parts of a database.
+#[derive(Drop)]
+pub struct FileKeeper {
+    keeper: SqliteKeeper<FileStore<File>>,
+}
+
+impl Keeper for FileKeeper {
+    type Pin = Listed;
+
+    ghost use Rattle.std.specs.Prelude.{None, false};
+
+    ghost tables = { λ k. ⟦<SqliteKeeper<FileStore<File>> as Keeper>⟧.tables k.keeper };
+
+    ghost told = { λ _. None };
+
+    ghost faults = { λ k. ⟦<SqliteKeeper<FileStore<File>> as Keeper>⟧.faults k.keeper };
+
+    ghost steady = { λ _. false };
+
+    fn run(
+        &mut self,
+        alloc: Global,
+        statement: &Statement,
+        args: &[Value],
+    ) -> Result<Answer, RunError> {
+        self.keeper.run(alloc, statement, args)
+    }
+
+    fn pin(
+        &mut self,
+        alloc: Global,
+        statement: &Statement,
+        args: &[Value],
+    ) -> Result<Listed, RunError> {
+        self.keeper.pin(alloc, statement, args)
+    }
+}
 
 /// The name of the file of a proxy's rows.
 fn file_of(alloc: Global, file: &str, proxy: u16) -> Result<String, AllocError>
@@ -43,7 +82,7 @@ fn keeper_over(
     ensures keeper { IfOk result (λ k. IsNewKeeper tables.now (⟦<FileKeeper as Keeper>⟧.told k) (⟦<FileKeeper as Keeper>⟧.faults k)) }
 {
     match SqliteKeeper::new(alloc, open(rt, name)?, tables) {
-        Ok(keeper) => Ok(keeper),
+        Ok(keeper) => Ok(FileKeeper { keeper }),
         Err((why, _)) => Err(why),
     }
 }

@@ -1,0 +1,4 @@
+pub mod Alike
+pub mod Whole
+pub mod Reading
+pub mod Same

@@ -1,0 +1,140 @@
+//! The keeper.
+
+ghost use Rattle.std.specs.Prelude.{◌≡◌, ◌≤◌, Some, true, false, map, IfOk, IfErr};
+ghost use Rattle.okws_outer.specs.Streams.{Rose, counted};
+ghost use Rattle.store_keeper.specs.Alike.{AreAlike, HasRows};
+
+use index_keeper::{IndexKeeper, IndexPin};
+use okws_base::value::Value;
+use okws_outer::keeper::{Keeper, RunError};
+use okws_plan::configuration::{Query, Table};
+use okws_plan::statement::{Action, Answer, Statement};
+use std::alloc::{AllocError, Global};
+
+/// The rows of some tables in memory, which it tells, beside a store that has the same rows. A write is run
+/// by the store first, and where that fails the rows are as they were. Where the two have parted, since
+/// memory was refused behind a write or they answered differently, each further write fails.
+#[derive(Drop)]
+pub struct StoredKeeper<K: Keeper> {
+    rows: IndexKeeper,
+    store: K,
+    faults: u64,
+    parted: bool,
+    ghost alike: { AreAlike (K.tables store) (⟦<IndexKeeper as Keeper>⟧.tables rows) },
+    ghost same: { parted ≡ false → HasRows (K.told store) (⟦<IndexKeeper as Keeper>⟧.told rows) },
+    ghost counted: { parted ≡ false → faults ≤ K.faults store },
+}
+
+impl<K: Keeper> StoredKeeper<K> {
+    /// A keeper of these tables beside their store, with indexes for these queries. The tables' first rows
+    /// are those that the store has.
+    pub fn new(
+        alloc: Global,
+        store: K,
+        tables: &[Table],
+        queries: &[Query],
+    ) -> Result<Self, (AllocError, K)>
+        requires alike { AreAlike (K.tables store) tables.now }
+        requires same { HasRows (K.told store) (Some (map (λ t. t.first) tables.now)) }
+        ensures tables { IfOk result (λ k. ⟦<StoredKeeper<K> as Keeper>⟧.tables k ≡ tables.now) }
+        ensures told { IfOk result (λ k. ⟦<StoredKeeper<K> as Keeper>⟧.told k ≡ Some (map (λ t. t.first) tables.now)) }
+        ensures faults { IfOk result (λ k. ⟦<StoredKeeper<K> as Keeper>⟧.faults k ≡ 0) }
+        ensures store { IfOk result (λ k. k.store ≡ store) }
+        ensures together { IfOk result (λ k. k.parted ≡ false) }
+        ensures back { IfErr result (λ e. e.1 ≡ store) }
+    {
+        match IndexKeeper::new(alloc, tables, queries) {
+            Err(error) => Err((error, store)),
+            Ok(rows) => Ok(StoredKeeper {
+                rows,
+                store,
+                faults: 0,
+                parted: false,
+            }),
+        }
+    }
+
+    /// Whether the two have parted: memory was refused behind a write of the store, or it answered
+    /// another thing.
+    pub fn has_parted(&self) -> bool
+        ensures { result ≡ self.now.parted }
+    {
+        self.parted
+    }
+
+    /// The store, as the keeper left it. Unless the two have parted, it has counted each failed call, and
+    /// where it tells its rows these are the keeper's.
+    pub fn into_store(self) -> K
+        ensures store { result ≡ self.store }
+        ensures alike { AreAlike (K.tables result) (⟦<StoredKeeper<K> as Keeper>⟧.tables self) }
+        ensures same { self.parted ≡ false → HasRows (K.told result) (⟦<StoredKeeper<K> as Keeper>⟧.told self) }
+        ensures counted { self.parted ≡ false → ⟦<StoredKeeper<K> as Keeper>⟧.faults self ≤ K.faults result }
+    {
+        self.store
+    }
+}
+
+/// Whether two answers are the same.
+fn agree(told: &Answer, answer: &Result<Answer, RunError>) -> bool
+    ensures { result ≡ true → IfErr answer.now (λ _. ⊥) }
+{
+    match answer {
+        Ok(answer) => answer == told,
+        Err(_) => false,
+    }
+}
+
+/// Counts a fault.
+fn failed(faults: &mut u64) -> RunError
+    ensures failed { result ≡ RunError.Failed }
+    ensures later { faults.old ≤ faults.new }
+    ensures rose { Rose faults.old faults.new }
+    ensures one { faults.new ≡ counted faults.old 1 }
+{
+    *faults = faults.saturating_add(1);
+    RunError::Failed
+}
+
+impl<K: Keeper> Keeper for StoredKeeper<K> {
+    type Pin = IndexPin;
+
+    ghost tables = { λ k. ⟦<IndexKeeper as Keeper>⟧.tables k.rows };
+
+    ghost told = { λ k. ⟦<IndexKeeper as Keeper>⟧.told k.rows };
+
+    ghost faults = { λ k. k.faults };
+
+    ghost steady = { λ _. false };
+
+    fn run(
+        &mut self,
+        alloc: Global,
+        statement: &Statement,
+        args: &[Value],
+    ) -> Result<Answer, RunError> {
+        if let Action::Select(_) = statement.action {
+            return self.rows.run(alloc, statement, args);
+        }
+        if self.parted {
+            return Err(failed(&mut self.faults));
+        }
+        match self.store.run(alloc, statement, args) {
+            Ok(told) => {
+                let answer = self.rows.run(alloc, statement, args);
+                self.parted = !agree(&told, &answer);
+                answer
+            }
+            Err(RunError::NoMemory) => Err(RunError::NoMemory),
+            Err(RunError::Failed) => Err(failed(&mut self.faults)),
+        }
+    }
+
+    fn pin(
+        &mut self,
+        alloc: Global,
+        statement: &Statement,
+        args: &[Value],
+    ) -> Result<IndexPin, RunError> {
+        self.rows.pin(alloc, statement, args)
+    }
+}

@@ -82,7 +82,7 @@ impl<N: Numbered, C: CellNames, L: Link> CellSeats<N, C, L> {
         requires short { length head + length content + 9 ≤ LONGEST_FRAME }
         ensures talked { HasTalked N.launcher (W.asker columns.old) (W.shows columns.new service) head content wanted service (seen_at self.old service) (W.seen columns.old) result (seen_at self.new service) (W.seen columns.new) }
         ensures only { OnlyAt service self.old self.new }
-        ensures board { KeepsBoard W.asker W.shows W.token_seed columns.old columns.new }
+        ensures board { KeepsBoard W.asker W.shows W.token_seed W.spare columns.old columns.new }
     {
         let alloc = self.alloc;
         let i = service as usize;

@@ -101,7 +101,7 @@ pub(crate) fn talk<R: Wait, N: Numbered, L: Link, C: Columns>(
     requires short { length head + length content + 9 ≤ LONGEST_FRAME }
     ensures talked { HasTalked N.launcher (C.asker columns.old) (C.shows columns.new seat.old.label) head content wanted seat.old.label seat.old.seen (C.seen columns.old) result seat.new.seen (C.seen columns.new) }
     ensures seat { seat.new ≡ record seat.old { seen = seat.new.seen } }
-    ensures board { KeepsBoard C.asker C.shows C.token_seed columns.old columns.new }
+    ensures board { KeepsBoard C.asker C.shows C.token_seed C.spare columns.old columns.new }
 {
     let gate = gate.lock(rt);
     let mut cell = lock.take(rt, seat);

@@ -49,6 +49,8 @@ impl Columns for Bare {
 
     ghost token_seed = { λ b. [] };
 
+    ghost spare = { λ b. 0 };
+
     ghost seen = { λ b. record { okd = []; proxies = []; pubd = b.drained.past; oklogd = []; launcher = []; own = b.own.past } };
 
     ghost shows = { λ b s k. Unit {0} };

@@ -24,11 +24,12 @@ use Rattle.launch_journal.specs.Launches.{Launches, entered}
 use Rattle.site_locks.specs.Made.{fresh}
 use Rattle.site_locks.specs.Sat.{Sat}
 use Rattle.launch_crew.specs.Crews.{CrewIs, StaffIs, Below, Under, IsUp, RunsAs, child_of, crew_of, lasts_at, running_at, stands_at, up_of}
-use Rattle.okld_launch.specs.Launchers.{LauncherIs, up_in, IsKept, IsLauncher, IsPlaced}
+use Rattle.okld_launch.specs.Launchers.{LauncherIs, up_in, TriedAreBegun, IsKept, IsLauncher, IsPlaced}
 use Rattle.launch_crew.specs.Recorded.{Recorded, IsUnused}
 use Rattle.launch_crew.specs.Steps.{AsksLife}
 use Rattle.launch_crew.proofs.Slots.{set_there}
 use Rattle.okld_launch.proofs.Keeps.{keeps}
+use Rattle.okld_launch.proofs.Trying.{TriesBegun, begun_tried, none_tried}
 
 -- the board after an incarnation was raised
 board_set : (xs : List ℕ) (s k : ℕ) → slice_index (slice_set xs s k) s ≤ k
@@ -72,6 +73,7 @@ begins C s k l is shown h = keeps C s l (after_begun s k l) h (record {
   config_is = refl;
   ups_are = refl;
   begun_are = λ t n. begun_there l.journal.holder s t k l.journal.past n;
+  tried_are = λ tried. begun_tried l.journal.holder s k l.journal.past tried;
   ups = λ t n. refl;
   spares = record {
     up = λ t n. refl;
@@ -87,6 +89,7 @@ begins C s k l is shown h = keeps C s l (after_begun s k l) h (record {
 pub record EntersOther (l : LauncherIs) (journal : Launches) : Type 0 where
   pub config_is : journal.config ≡ l.journal.config
   pub begun_are : (t : ℕ) → begun journal.past t ≡ begun l.journal.past t
+  pub tried_are : TriedAreBegun l.journal.past → TriedAreBegun journal.past
 
 kept_entry : (C : Config) (l : LauncherIs) (journal : Launches) (t : ℕ) → EntersOther l journal → IsKept C l t → IsKept C (record l { journal = journal }) t
 kept_entry C l journal t e h = record {
@@ -100,6 +103,7 @@ kept_entry C l journal t e h = record {
 pub enters : (C : Config) (l : LauncherIs) (journal : Launches) → EntersOther l journal → IsLauncher C l → IsLauncher C (record l { journal = journal })
 enters C l journal e h = record {
   config_is = e.config_is ∙ h.config_is;
+  tried_are = e.tried_are h.tried_are;
   ups_are = h.ups_are;
   spare = h.spare;
   each = λ t. kept_entry C l journal t e (h.each t);
@@ -117,15 +121,19 @@ pub begun_kept : (C : Config) (s k : ℕ) (l m : LauncherIs) → m ≡ after_beg
 begun_kept C s k l m is next shown h = subst (IsLauncher C) (sym is) (begins C s k l next (sym (ap (λ (x : LauncherIs). slice_index x.crew.sat.board s) is) ∙ shown) h)
 
 -- an entry that is no Begun
-pub entered_other : (C : Config) (l : LauncherIs) (j : Launches) (e : LauncherEvent) → ((t : ℕ) → begun_after e t (begun l.journal.past t) ≡ begun l.journal.past t) → j ≡ entered l.journal e → IsLauncher C l → IsLauncher C (record l { journal = j })
-entered_other C l j e same is h = enters C l j (record {
+pub tried_on : (w : ℕ) (e : LauncherEvent) (J : List (Entry LauncherEvent)) → ((t : ℕ) → begun_after e t (begun J t) ≡ begun J t) → TriesBegun J e → TriedAreBegun J → TriedAreBegun (record { worker = w; event = e } ∷ J)
+tried_on w e J same tries h = λ t k less. let before : begun J t < k = subst (λ n. n < k) (same t) less in tries t k before (h t k before)
+
+pub entered_other : (C : Config) (l : LauncherIs) (j : Launches) (e : LauncherEvent) → ((t : ℕ) → begun_after e t (begun l.journal.past t) ≡ begun l.journal.past t) → TriesBegun l.journal.past e → j ≡ entered l.journal e → IsLauncher C l → IsLauncher C (record l { journal = j })
+entered_other C l j e same tries is h = enters C l j (record {
   config_is = ap (λ (x : Launches). x.config) is;
   begun_are = λ t. ap (λ (x : Launches). begun x.past t) is ∙ same t;
+  tried_are = λ tried. subst (λ (x : Launches). TriedAreBegun x.past) (sym is) (tried_on l.journal.holder e l.journal.past same tries tried);
 }) h
 
 -- the journal's room, or its holder, is another
 pub same_entries : (C : Config) (l : LauncherIs) (j : Launches) → j.config ≡ l.journal.config → j.past ≡ l.journal.past → IsLauncher C l → IsLauncher C (record l { journal = j })
-same_entries C l j config past h = enters C l j (record { config_is = config; begun_are = λ t. ap (λ J. begun J t) past }) h
+same_entries C l j config past h = enters C l j (record { config_is = config; begun_are = λ t. ap (λ J. begun J t) past; tried_are = λ tried. subst TriedAreBegun (sym past) tried }) h
 
 -- ---- the crew's room, the children, or what was seen at cells, is another
 
@@ -164,6 +172,7 @@ longer n a b x y = omega arith
 pub same_crew : (C : Config) (l : LauncherIs) (d : CrewIs) → SameCrew l.crew d → IsLauncher C l → IsLauncher C (record l { crew = d })
 same_crew C l d h k = record {
   config_is = k.config_is;
+  tried_are = k.tried_are;
   ups_are = k.ups_are;
   spare = longer (length C.services) l.crew.room d.room k.spare h.room;
   each = λ t. same_kept C l d t h (k.each t);
@@ -242,6 +251,7 @@ unused_kept C n l r t config past crew unused spare ups =
     let none : (s : ℕ) → up_in l s ≡ 0 = λ s. ap (λ us. slice_index us s) ups ∙ no_ups (length C.services) s in
     record {
       config_is = config;
+      tried_are = none_tried l.journal.past past;
       ups_are = ap length ups ∙ length-replicate (length C.services) 0;
       spare = subst (λ (c : CrewIs). length C.services ≤ c.room) (sym crew) spare;
       each = λ s. record {

@@ -10,7 +10,7 @@ use Rattle.monitor_model.specs.Launcher.{begun}
 use Rattle.cell_locks.specs.Row.{CellsSeen, seen_at, OnlyAt}
 use Rattle.site_locks.specs.Sat.{Sat}
 use Rattle.launch_crew.specs.Crews.{CrewIs, child_of, up_of, stands_at, lasts_at, whole, Below, Under, IsQuiet, StandsAt, RunsAs, IsUp, IsColumnOf}
-use Rattle.okld_launch.specs.Launchers.{LauncherIs, up_in, IsKept, IsLauncher}
+use Rattle.okld_launch.specs.Launchers.{LauncherIs, up_in, TriedAreBegun, IsKept, IsLauncher}
 use Rattle.launch_crew.specs.Steps.{OnlyOkd, OnlyColumns, SameHands, Downs, Ups, Looks, Thins, Revokes, Installs, Empties, Tries, Starts, Misses}
 
 -- of every service but s the crew knows and has the same
@@ -129,6 +129,7 @@ pub record StepsAt (s : ℕ) (l m : LauncherIs) : Type 0 where
   pub config_is : m.journal.config ≡ l.journal.config
   pub ups_are : length m.ups ≡ length l.ups
   pub begun_are : (t : ℕ) → t ≢ s → begun m.journal.past t ≡ begun l.journal.past t
+  pub tried_are : TriedAreBegun l.journal.past → TriedAreBegun m.journal.past
   pub ups : (t : ℕ) → t ≢ s → up_in m t ≡ up_in l t
   pub spares : Spares s l.crew m.crew
 
@@ -144,6 +145,7 @@ kept_other C s t l m h n k = record {
 pub keeps : (C : Config) (s : ℕ) (l m : LauncherIs) → IsLauncher C l → StepsAt s l m → length C.services ≤ m.crew.room → IsKept C m s → IsLauncher C m
 keeps C s l m h steps spare here = record {
   config_is = steps.config_is ∙ h.config_is;
+  tried_are = steps.tried_are h.tried_are;
   ups_are = steps.ups_are ∙ h.ups_are;
   spare = spare;
   each = λ t. ⊎_elim (λ is. subst (IsKept C m) (sym is) here) (λ n. kept_other C s t l m steps n (h.each t)) (cases_eq t s);

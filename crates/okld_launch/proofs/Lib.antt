@@ -2,5 +2,9 @@ pub mod Keeps
 pub mod Placing
 pub mod Begins
 pub mod Stating
+pub mod Trying
+pub mod Telling
+pub mod Counting
+pub mod Opening
 pub mod Told
 pub mod Adds

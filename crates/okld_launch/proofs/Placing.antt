@@ -16,7 +16,7 @@ use Rattle.cell_locks.specs.Row.{CellsSeen, seen_at}
 use Rattle.launch_journal.specs.Launches.{Launches}
 use Rattle.site_locks.specs.Sat.{Sat}
 use Rattle.launch_crew.specs.Crews.{CrewIs, child_of, lasts_at, up_of, stands_at, Below, Under, IsQuiet, NoneStands, StandsAt, RunsAs, IsUp}
-use Rattle.okld_launch.specs.Launchers.{LauncherIs, up_in, IsKept, IsLauncher}
+use Rattle.okld_launch.specs.Launchers.{LauncherIs, up_in, TriedAreBegun, IsKept, IsLauncher}
 use Rattle.launch_crew.specs.Steps.{OnlyOkd, SameHands, Downs, Ups, Looks, Revokes, Installs, Empties, Tries, Starts, Misses}
 use Rattle.okld_launch.proofs.Keeps.{stands_okd, Spares, spares_on, spares_downs, spares_ups, spares_looks, spares_thins, spares_installs, spares_empties, spares_starts, spares_misses, StepsAt, keeps, IsDown, kept_down, IsRaised, kept_up, below_okd, below_thins, below_installs, below_empties, below_tries, under_okd, under_thins, under_empties}
 use Rattle.launch_crew.proofs.Places.{either_way}
@@ -48,6 +48,7 @@ steps_of s l m h = record {
   config_is = ap (λ (j : Launches). j.config) h.journal_is;
   ups_are = h.ups_are;
   begun_are = λ t n. ap (λ (j : Launches). begun j.past t) h.journal_is;
+  tried_are = λ tried. subst (λ (j : Launches). TriedAreBegun j.past) (sym h.journal_is) tried;
   ups = h.ups;
   spares = h.spares;
 }

@@ -41,6 +41,13 @@ pub fell_more : (C : Config) (w s n : ℕ) (J : List (Entry LauncherEvent)) (f :
     → Fell C w s n J f M h → Allows C M s next.Begin → Attempts C w s M h attempt.Failed l → Fell C w s (suc n) J f l.journal.past l.crew.family
 fell_more C w s n J f M h l fell allows a = (M, h, fell, allows, a.0, a.1)
 
+one_more : (n : ℕ) → suc n ≡ n + 1
+one_more n = omega arith
+
+pub fell_next : (C : Config) (w s n : ℕ) (J : List (Entry LauncherEvent)) (f : Family) (M : List (Entry LauncherEvent)) (h : Family) (l : LauncherIs)
+    → Fell C w s n J f M h → Allows C M s next.Begin → Attempts C w s M h attempt.Failed l → Fell C w s (n + 1) J f l.journal.past l.crew.family
+fell_next C w s n J f M h l fell allows a = subst (λ m. Fell C w s m J f l.journal.past l.crew.family) (one_more n) (fell_more C w s n J f M h l fell allows a)
+
 pub goes_up : (C : Config) (w s n k : ℕ) (J : List (Entry LauncherEvent)) (f : Family) (M : List (Entry LauncherEvent)) (h : Family) (l : LauncherIs)
     → Fell C w s n J f M h → Allows C M s next.Begin → Attempts C w s M h (attempt.Up k) l → Goes C w s J f (launched.Up k) l
 goes_up C w s n k J f M h l fell allows a = record { failed = n; mid = M; told = h; fell = fell; ends = (allows, a.0, a.1, a.2) }
@@ -53,7 +60,7 @@ pub goes_end : (C : Config) (w s n : ℕ) (J : List (Entry LauncherEvent)) (f : 
     → Fell C w s n J f M h → Ends C w s M answer l → Goes C w s J f answer l
 goes_end C w s n J f M h answer l fell ends = record { failed = n; mid = M; told = h; fell = fell; ends = ends }
 
-begun_failed : (w s : ℕ) (J : List (Entry LauncherEvent)) → begun (with_failed w s J) s ≡ begun J s + 1
+pub begun_failed : (w s : ℕ) (J : List (Entry LauncherEvent)) → begun (with_failed w s J) s ≡ begun J s + 1
 begun_failed w s J = begun_here w s (begun J s + 1) J refl
 
 -- each attempt is of a greater incarnation

@@ -1,8 +1,10 @@
 -- The launcher as contracts see it.
-use Rattle.std.specs.Prelude.{◌≡◌, ◌<◌, ◌≤◌, ℕ, List, None, length, slice_index}
+use Rattle.std.specs.Prelude.{◌≡◌, ◌<◌, ◌≤◌, ℕ, List, None, false, length, slice_index}
+use Rattle.okws_base.specs.declared.journal.Entry.{Entry}
 use Rattle.okws_base.specs.declared.limit.TheConstants.{MOST_PROXIES}
 use Rattle.okws_plan.specs.declared.configuration.Config.{Config}
-use Rattle.monitor_model.specs.Launcher.{begun}
+use Rattle.okws_plan.specs.declared.event.LauncherEvent.{LauncherEvent}
+use Rattle.monitor_model.specs.Launcher.{begun, tried}
 use Rattle.launch_journal.specs.Launches.{Launches}
 use Rattle.launch_crew.specs.Crews.{CrewIs, Below, IsUp, NoneStands, up_of}
 
@@ -16,6 +18,10 @@ pub record LauncherIs : Type 0 where
 abbrev pub up_in : LauncherIs → ℕ → ℕ
 up_in l s = slice_index l.ups s
 
+-- Each incarnation that was tried was begun.
+abbrev pub TriedAreBegun : List (Entry LauncherEvent) → Type 0
+TriedAreBegun J = (s k : ℕ) → begun J s < k → tried J s k ≡ false
+
 -- What the launcher keeps of s: nothing was installed or booted that was not begun, the board shows the greatest begun, and what is up was begun and stands.
 pub record IsKept (C : Config) (l : LauncherIs) (s : ℕ) : Type 0 where
   pub below : Below s (begun l.journal.past s) l.crew.sat l.crew.watch
@@ -27,6 +33,7 @@ pub record IsKept (C : Config) (l : LauncherIs) (s : ℕ) : Type 0 where
 -- The launcher of a site. There is room for the items of the run's end, at most one for each service.
 pub record IsLauncher (C : Config) (l : LauncherIs) : Type 0 where
   pub config_is : l.journal.config ≡ C
+  pub tried_are : TriedAreBegun l.journal.past
   pub ups_are : length l.ups ≡ length C.services
   pub spare : length C.services ≤ l.crew.room
   pub each : (s : ℕ) → IsKept C l s

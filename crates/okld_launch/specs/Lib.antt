@@ -1,4 +1,5 @@
 pub mod Launchers
+pub mod Entering
 pub mod States
 pub mod Going
 pub mod Turns

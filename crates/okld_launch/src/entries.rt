@@ -1,16 +1,15 @@
 //! What the launcher enters in its journal, and what it knows by it.
 
-ghost use Rattle.std.specs.Prelude.{◌≡◌, ◌<◌, ◌≤◌, ◌+◌, OnOk, IfNone, IfSome, length};
+ghost use Rattle.std.specs.Prelude.{◌≡◌, ◌<◌, ◌≤◌, ◌+◌, ◌==◌, OnOk, OnErr, IfOk, IfNone, IfSome, Some, None, if◌then◌else◌, length};
 ghost use Rattle.okws_base.specs.declared.limit.TheConstants.{MOST_INCARNATIONS, MOST_PROXIES};
 ghost use Rattle.okws_plan.specs.declared.event.LauncherEvent.TheVariants as event;
 ghost use Rattle.monitor_model.specs.Cell.{last_booted};
-ghost use Rattle.monitor_model.specs.Launcher.{begun};
+ghost use Rattle.monitor_model.specs.Launcher.{begun, tries};
 ghost use Rattle.launch_journal.specs.Launches.{Allows, entered, given_up};
 ghost use Rattle.launch_journal.specs.declared.next.Next.TheVariants as next;
 ghost use Rattle.okld_launch.specs.Launchers.{IsLauncher, up_in};
-ghost use Rattle.okld_launch.specs.Going.{AsksUp, Ends};
+ghost use Rattle.okld_launch.specs.Going.{AsksUp, with_entry};
 
-use crate::answer::Launched;
 use crate::launcher::Launcher;
 use cell_locks::locks::CellLocks;
 use cell_locks::named::CellNames;
@@ -22,6 +21,7 @@ use okws_outer::child::Ended;
 use okws_outer::children::Children;
 use okws_outer::keeper::Keeper;
 use okws_outer::stream::Sink;
+use okws_plan::event::LauncherEvent;
 use site_locks::named::Site;
 use std::alloc::AllocError;
 
@@ -65,24 +65,31 @@ impl<N: Backed, J: Site, C: CellNames, K: Keeper, S: Sink, F: Children> Launcher
         self.journal.next(service)
     }
 
-    /// Enters that the operator asked for the service.
-    pub(crate) fn ask(&mut self, service: u16)
+    /// Enters that the operator asked for the service, and gives the event.
+    pub(crate) fn ask(&mut self, service: u16) -> LauncherEvent
         requires service { service < length N.site.services }
         requires room { 0 < self.old.journal.room }
-        ensures { self.new ≡ record self.old { journal = entered self.old.journal (event.Asked service) } }
+        ensures is { result ≡ event.Asked service }
+        ensures entered { self.new ≡ record self.old { journal = entered self.old.journal (event.Asked service) } }
     {
         self.journal.asked(service);
+        LauncherEvent::Asked { service }
     }
 
-    /// Enters that an incarnation of the service has crashed, which was begun.
-    pub(crate) fn crash(&mut self, service: u16, incarnation: u32)
+    /// Enters that an incarnation of the service has crashed, which was begun, and gives the event.
+    pub(crate) fn crash(&mut self, service: u16, incarnation: u32) -> LauncherEvent
         requires service { service < length N.site.services }
         requires counted { 0 < incarnation }
         requires begun { incarnation ≤ begun self.old.journal.past service }
         requires room { 0 < self.old.journal.room }
-        ensures { self.new ≡ record self.old { journal = entered self.old.journal (event.Crashed service incarnation) } }
+        ensures is { result ≡ event.Crashed service incarnation }
+        ensures entered { self.new ≡ record self.old { journal = entered self.old.journal (event.Crashed service incarnation) } }
     {
         self.journal.crashed(service, incarnation);
+        LauncherEvent::Crashed {
+            service,
+            incarnation,
+        }
     }
 
     /// Enters that the greatest incarnation of the service failed.
@@ -96,18 +103,31 @@ impl<N: Backed, J: Site, C: CellNames, K: Keeper, S: Sink, F: Children> Launcher
         self.journal.failed(service, incarnation);
     }
 
-    /// Gives the service up.
-    pub(crate) fn give_up(&mut self, service: u16) -> Launched
+    /// Gives the service up, and tells after how many tries.
+    pub(crate) fn give_up(&mut self, service: u16) -> Result<u32, AllocError>
         requires service { service < length N.site.services }
         requires may { Allows N.site self.old.journal.past service next.GiveUp }
-        ensures ends { Ends N.site self.old.journal.holder service self.old.journal.past result self.new }
+        ensures tries { IfOk result (λ n. n ≡ tries self.old.journal.past service) }
+        ensures entered { IfOk result (λ n. self.new.journal.past ≡ with_entry self.old.journal.holder (event.Dead service n) self.old.journal.past) }
+        ensures err { OnErr result (self.new.journal.past ≡ self.old.journal.past) }
         ensures same { self.new ≡ record self.old { journal = self.new.journal } }
         ensures holder { self.new.journal.holder ≡ self.old.journal.holder }
     {
-        if self.make_room(1).is_err() {
-            return Launched::NoMemory;
+        self.make_room(1)?;
+        Ok(self.journal.give_up(service))
+    }
+
+    /// That this incarnation of the service was begun, where it is the greatest.
+    pub(crate) fn last_begun(&self, service: u16, incarnation: u32) -> Option<LauncherEvent>
+        ensures { result ≡ (if begun self.now.journal.past service == incarnation then Some (event.Begun service incarnation) else None) }
+    {
+        if self.greatest(service) != incarnation {
+            return None;
         }
-        Launched::Dead(self.journal.give_up(service))
+        Some(LauncherEvent::Begun {
+            service,
+            incarnation,
+        })
     }
 
     /// After how many tries the service was given up, where nobody has asked for it since.

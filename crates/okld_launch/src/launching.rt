@@ -1,15 +1,20 @@
 //! How the launcher launches.
 
-ghost use Rattle.std.specs.Prelude.{◌≡◌, ◌≢◌, ◌<◌, ◌≤◌, length};
+ghost use Rattle.std.specs.Prelude.{◌≡◌, ◌≢◌, ◌<◌, ◌≤◌, ◌++◌, List, Some, None, length, option_to_list};
+ghost use Rattle.okws_base.specs.declared.journal.Entry.{Entry};
+ghost use Rattle.okws_plan.specs.declared.event.LauncherEvent.{LauncherEvent};
+ghost use Rattle.okws_plan.specs.declared.event.LauncherEvent.TheVariants as event;
 ghost use Rattle.okws_base.specs.Turns.{AddsBy};
 ghost use Rattle.monitor_model.specs.Launcher.{begun};
 ghost use Rattle.named_columns.specs.Launched.{by_entry};
 ghost use Rattle.launch_journal.specs.Launches.{Allows};
 ghost use Rattle.launch_journal.specs.declared.next.Next.TheVariants as next;
 ghost use Rattle.okld_launch.specs.Launchers.{up_in};
+ghost use Rattle.okld_launch.specs.Entering.{Enters, entries_of, most_entered};
 ghost use Rattle.okld_launch.specs.Going.{Attempts, Closes, Goes, GoesAsked, GoesCrashed, Ends, crashed_as, tended_as};
 
 use crate::answer::{Attempt, Crashed, Launched, Tended};
+use crate::entered::Entered;
 use crate::launcher::Launcher;
 use crate::states::{Booted, Installed, Quiet, Revoked};
 use cell_locks::locks::CellLocks;
@@ -23,6 +28,7 @@ use okws_outer::children::Children;
 use okws_outer::gate::Gate;
 use okws_outer::keeper::Keeper;
 use okws_outer::stream::Sink;
+use okws_plan::event::LauncherEvent;
 use site_locks::locks::Locks;
 use site_locks::named::Site;
 use std::sync::Wait;
@@ -155,27 +161,32 @@ impl<N: Backed, J: Site, C: CellNames, K: Keeper, S: Sink, F: Children> Launcher
         quiet.close(rt, locks, cells)
     }
 
-    // The end of a launch, where no other incarnation may begin.
-    fn end(self, service: u16, what: Next) -> (Self, Launched)
+    // The end of a launch, where no other incarnation may begin, and what it enters.
+    fn end(self, service: u16, what: Next) -> (Self, Launched, Option<LauncherEvent>)
         requires service { service < length N.site.services }
         requires allows { Allows N.site self.journal.past service what }
         requires no_more { what ≢ next.Begin }
         ensures ends { Ends N.site self.journal.holder service self.journal.past result.1 result.0 }
+        ensures enters { Enters self.journal.holder (option_to_list result.2) self.journal.past result.0.journal.past }
         ensures holder { result.0.journal.holder ≡ self.journal.holder }
     {
         let mut launcher = self;
         match what {
             Next::Begin => unreachable!(),
-            Next::GiveUp => {
-                let answer = launcher.give_up(service);
-                (launcher, answer)
-            }
-            Next::Dead(tries) => (launcher, Launched::Dead(tries)),
-            Next::Spent => (launcher, Launched::Spent),
+            Next::GiveUp => match launcher.give_up(service) {
+                Ok(tries) => {
+                    let dead = LauncherEvent::Dead { service, tries };
+                    (launcher, Launched::Dead(tries), Some(dead))
+                }
+                Err(_) => (launcher, Launched::NoMemory, None),
+            },
+            Next::Dead(tries) => (launcher, Launched::Dead(tries), None),
+            Next::Spent => (launcher, Launched::Spent, None),
         }
     }
 
-    // Begins one incarnation after the other, until one is up or none may begin.
+    // Begins one incarnation after the other, until one is up or none may begin, and tells what was entered,
+    // with the entry that opened the turn.
     pub(crate) fn go_on<R: Wait, G: Gate>(
         self,
         rt: &R,
@@ -183,24 +194,43 @@ impl<N: Backed, J: Site, C: CellNames, K: Keeper, S: Sink, F: Children> Launcher
         locks: &Locks<N, J, K, S>,
         cells: &CellLocks<N, C, F::Link>,
         service: u16,
-    ) -> (Self, Launched)
+        opening: Option<LauncherEvent>,
+    ) -> (Self, Launched, Entered)
         requires { service < length N.site.services }
         ensures goes { Goes N.site self.journal.holder service self.journal.past self.crew.family result.1 result.0 }
+        ensures enters { (J : List (Entry LauncherEvent)) → Enters self.journal.holder (option_to_list opening) J self.journal.past → Enters self.journal.holder result.2 J result.0.journal.past }
+        ensures few { length result.2 ≤ most_entered N.site }
         ensures holder { result.0.journal.holder ≡ self.journal.holder }
     {
         let mut launcher = self;
+        launcher.keeps();
+        let first = launcher.greatest(service) + 1;
+        let mut failed = 0;
         let mut what = launcher.next(service);
         while what == Next::Begin {
             let (after, attempt) = launcher.attempt(rt, gate, locks, cells, service);
             launcher = after;
             match attempt {
-                Attempt::Up(incarnation) => return (launcher, Launched::Up(incarnation)),
-                Attempt::NoMemory => return (launcher, Launched::NoMemory),
-                Attempt::Failed => {}
+                Attempt::Up(incarnation) => {
+                    let up = LauncherEvent::Begun {
+                        service,
+                        incarnation,
+                    };
+                    let entered = Entered::new(opening, service, first, failed, Some(up));
+                    return (launcher, Launched::Up(incarnation), entered);
+                }
+                Attempt::NoMemory => {
+                    let begun = launcher.last_begun(service, first + failed);
+                    let entered = Entered::new(opening, service, first, failed, begun);
+                    return (launcher, Launched::NoMemory, entered);
+                }
+                Attempt::Failed => failed += 1,
             }
             what = launcher.next(service);
         }
-        launcher.end(service, what)
+        let (launcher, answer, closing) = launcher.end(service, what);
+        let entered = Entered::new(opening, service, first, failed, closing);
+        (launcher, answer, entered)
     }
 
     /// Launches a service that isn't up.
@@ -211,13 +241,15 @@ impl<N: Backed, J: Site, C: CellNames, K: Keeper, S: Sink, F: Children> Launcher
         locks: &Locks<N, J, K, S>,
         cells: &CellLocks<N, C, F::Link>,
         service: u16,
-    ) -> (Self, Launched)
+    ) -> (Self, Launched, Entered)
         requires service { service < length N.site.services }
         requires down { up_in self service ≡ 0 }
         ensures goes { Goes N.site self.journal.holder service self.journal.past self.crew.family result.1 result.0 }
+        ensures enters { Enters self.journal.holder result.2 self.journal.past result.0.journal.past }
+        ensures few { length result.2 ≤ most_entered N.site }
         ensures holder { result.0.journal.holder ≡ self.journal.holder }
     {
-        self.go_on(rt, gate, locks, cells, service)
+        self.go_on(rt, gate, locks, cells, service, None)
     }
 
     /// Launches a service that the operator asks for, whether it is up or was given up. Where its last
@@ -229,20 +261,22 @@ impl<N: Backed, J: Site, C: CellNames, K: Keeper, S: Sink, F: Children> Launcher
         locks: &Locks<N, J, K, S>,
         cells: &CellLocks<N, C, F::Link>,
         service: u16,
-    ) -> (Self, Launched)
+    ) -> (Self, Launched, Entered)
         requires { service < length N.site.services }
         ensures goes { GoesAsked N.site self.journal.holder service self.journal.past self.crew.family result.1 result.0 }
+        ensures enters { Enters self.journal.holder result.2 self.journal.past result.0.journal.past }
+        ensures few { length result.2 ≤ most_entered N.site }
         ensures holder { result.0.journal.holder ≡ self.journal.holder }
     {
         let mut launcher = self;
         if launcher.greatest(service) == MOST_INCARNATIONS {
-            return (launcher, Launched::Spent);
+            return (launcher, Launched::Spent, Entered::nothing(service));
         }
         if launcher.make_room(1).is_err() {
-            return (launcher, Launched::NoMemory);
+            return (launcher, Launched::NoMemory, Entered::nothing(service));
         }
-        launcher.ask(service);
-        launcher.go_on(rt, gate, locks, cells, service)
+        let asked = launcher.ask(service);
+        launcher.go_on(rt, gate, locks, cells, service, Some(asked))
     }
 
     /// Enters that an incarnation of a service has crashed, which was begun, and launches the service
@@ -255,23 +289,33 @@ impl<N: Backed, J: Site, C: CellNames, K: Keeper, S: Sink, F: Children> Launcher
         cells: &CellLocks<N, C, F::Link>,
         service: u16,
         incarnation: u32,
-    ) -> (Self, Crashed)
+    ) -> (Self, Crashed, Entered)
         requires service { service < length N.site.services }
         requires counted { 0 < incarnation }
         requires begun { incarnation ≤ begun self.journal.past service }
         ensures goes { GoesCrashed N.site self.journal.holder service incarnation self.journal.past self.crew.family result.1 result.0 }
+        ensures enters { Enters self.journal.holder result.2 self.journal.past result.0.journal.past }
+        ensures few { length result.2 ≤ most_entered N.site }
         ensures holder { result.0.journal.holder ≡ self.journal.holder }
     {
         let mut launcher = self;
         if launcher.make_room(1).is_err() {
-            return (launcher, Crashed::NoMemory);
+            return (launcher, Crashed::NoMemory, Entered::nothing(service));
         }
-        launcher.crash(service, incarnation);
+        let crash = launcher.crash(service, incarnation);
         let greatest = launcher.greatest(service);
         if incarnation < greatest {
-            return (launcher, Crashed::Later(greatest));
+            let entered = Entered::new(Some(crash), service, 1, 0, None);
+            return (launcher, Crashed::Later(greatest), entered);
         }
-        let (launcher, launched) = launcher.go_on(rt, gate, locks, cells, service);
-        (launcher, crashed_as(launched))
+        let (launcher, launched, entered) = launcher.go_on(
+            rt,
+            gate,
+            locks,
+            cells,
+            service,
+            Some(crash),
+        );
+        (launcher, crashed_as(launched), entered)
     }
 }

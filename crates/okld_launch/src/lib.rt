@@ -3,6 +3,7 @@
 #![tactic(auto)]
 
 pub mod answer;
+pub mod entered;
 mod entries;
 pub mod launcher;
 mod launching;

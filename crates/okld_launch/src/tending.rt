@@ -1,9 +1,11 @@
 //! How the launcher looks after a service.
 
-ghost use Rattle.std.specs.Prelude.{◌≡◌, ◌<◌, length};
+ghost use Rattle.std.specs.Prelude.{◌≡◌, ◌<◌, ◌≤◌, length};
 ghost use Rattle.okld_launch.specs.Going.{GoesTended};
+ghost use Rattle.okld_launch.specs.Entering.{Enters, most_entered};
 
 use crate::answer::Tended;
+use crate::entered::Entered;
 use crate::launcher::Launcher;
 use crate::launching::tended_as;
 use cell_locks::locks::CellLocks;
@@ -14,6 +16,7 @@ use okws_outer::children::Children;
 use okws_outer::gate::Gate;
 use okws_outer::keeper::Keeper;
 use okws_outer::stream::Sink;
+use okws_plan::event::LauncherEvent;
 use site_locks::locks::Locks;
 use site_locks::named::Site;
 use std::sync::Wait;
@@ -28,28 +31,43 @@ impl<N: Backed, J: Site, C: CellNames, K: Keeper, S: Sink, F: Children> Launcher
         locks: &Locks<N, J, K, S>,
         cells: &CellLocks<N, C, F::Link>,
         service: u16,
-    ) -> (Self, Tended)
+    ) -> (Self, Tended, Entered)
         requires { service < length N.site.services }
         ensures goes { GoesTended N.site self.journal.holder service self result.1 result.0 }
+        ensures enters { Enters self.journal.holder result.2 self.journal.past result.0.journal.past }
+        ensures few { length result.2 ≤ most_entered N.site }
         ensures holder { result.0.journal.holder ≡ self.journal.holder }
     {
         let mut launcher = self;
         if let Some(tries) = launcher.given_up(service) {
-            return (launcher, Tended::Dead(tries));
+            return (launcher, Tended::Dead(tries), Entered::nothing(service));
         }
         let Some(incarnation) = launcher.up_now(service) else {
-            let (launcher, launched) = launcher.go_on(rt, gate, locks, cells, service);
-            return (launcher, tended_as(launched));
+            let (launcher, launched, entered) = launcher.go_on(
+                rt, gate, locks, cells, service, None,
+            );
+            return (launcher, tended_as(launched), entered);
         };
         match launcher.ended(service) {
-            Ended::No | Ended::Failed => return (launcher, Tended::Alive),
+            Ended::No | Ended::Failed => return (
+                launcher,
+                Tended::Alive,
+                Entered::nothing(service),
+            ),
             Ended::Yes => {}
         }
         if launcher.make_room(1).is_err() {
-            return (launcher, Tended::NoMemory);
+            return (launcher, Tended::NoMemory, Entered::nothing(service));
         }
-        launcher.crash(service, incarnation);
-        let (launcher, launched) = launcher.go_on(rt, gate, locks, cells, service);
-        (launcher, tended_as(launched))
+        let crash = launcher.crash(service, incarnation);
+        let (launcher, launched, entered) = launcher.go_on(
+            rt,
+            gate,
+            locks,
+            cells,
+            service,
+            Some(crash),
+        );
+        (launcher, tended_as(launched), entered)
     }
 }

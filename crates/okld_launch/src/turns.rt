@@ -4,9 +4,11 @@
 ghost use Rattle.std.specs.Prelude.{◌≡◌, ◌<◌, ◌≤◌, length};
 ghost use Rattle.monitor_model.specs.Cell.{last_booted};
 ghost use Rattle.turn_lock.specs.Rows.{RestsAt};
+ghost use Rattle.okld_launch.specs.Entering.{Enters, most_entered};
 ghost use Rattle.okld_launch.specs.Turns.{GoesIf, LaunchesBy, RelaunchesBy, ReportsBy, TendsBy};
 
 use crate::answer::{Crashed, Launched, Tended};
+use crate::entered::Entered;
 use crate::launcher::Launcher;
 use cell_locks::locks::CellLocks;
 use cell_locks::named::CellNames;
@@ -30,22 +32,25 @@ impl<N: Backed, J: Site, C: CellNames, K: Keeper, S: Sink, F: Children> Launcher
         locks: &Locks<N, J, K, S>,
         cells: &CellLocks<N, C, F::Link>,
         service: u16,
-    ) -> (Self, Option<Launched>)
+    ) -> (Self, Option<Launched>, Entered)
         requires { service < length N.site.services }
         ensures goes { GoesIf N.site self.journal.holder service self result.1 result.0 }
+        ensures enters { Enters self.journal.holder result.2 self.journal.past result.0.journal.past }
+        ensures few { length result.2 ≤ most_entered N.site }
         ensures holder { result.0.journal.holder ≡ self.journal.holder }
     {
         match self.up_now(service) {
-            Some(_) => (self, None),
+            Some(_) => (self, None, Entered::nothing(service)),
             None => {
-                let (launcher, answer) = self.launch(rt, gate, locks, cells, service);
-                (launcher, Some(answer))
+                let (launcher, answer, entered) = self.launch(rt, gate, locks, cells, service);
+                (launcher, Some(answer), entered)
             }
         }
     }
 }
 
 /// Launches a service in a turn. Where it is up already, nothing is entered, and the answer is none.
+/// Like each turn, it tells what it entered.
 pub fn launch_by<
     R: Wait,
     G: Gate,
@@ -63,18 +68,18 @@ pub fn launch_by<
     locks: &Locks<N, J, K, S>,
     cells: &CellLocks<N, C, F::Link>,
     service: u16,
-) -> Option<Launched>
+) -> (Option<Launched>, Entered)
     requires rest { RestsAt turn.now seat.old }
     requires service { service < length N.site.services }
-    ensures goes { LaunchesBy N.site service seat.old result seat.new }
+    ensures goes { LaunchesBy N.site service seat.old result.0 result.1 seat.new }
     ensures seat { seat.new ≡ record seat.old { seen = seat.new.seen } }
 {
     let launcher = turn.take(rt, seat);
     launcher.keeps();
-    let (launcher, answer) = launcher.launch_if_down(rt, gate, locks, cells, service);
+    let (launcher, answer, entered) = launcher.launch_if_down(rt, gate, locks, cells, service);
     launcher.keeps();
     turn.give(seat, launcher);
-    answer
+    (answer, entered)
 }
 
 /// Launches a service that the operator asks for, in a turn.
@@ -95,18 +100,18 @@ pub fn relaunch_by<
     locks: &Locks<N, J, K, S>,
     cells: &CellLocks<N, C, F::Link>,
     service: u16,
-) -> Launched
+) -> (Launched, Entered)
     requires rest { RestsAt turn.now seat.old }
     requires service { service < length N.site.services }
-    ensures goes { RelaunchesBy N.site service seat.old result seat.new }
+    ensures goes { RelaunchesBy N.site service seat.old result.0 result.1 seat.new }
     ensures seat { seat.new ≡ record seat.old { seen = seat.new.seen } }
 {
     let launcher = turn.take(rt, seat);
     launcher.keeps();
-    let (launcher, answer) = launcher.relaunch(rt, gate, locks, cells, service);
+    let (launcher, answer, entered) = launcher.relaunch(rt, gate, locks, cells, service);
     launcher.keeps();
     turn.give(seat, launcher);
-    answer
+    (answer, entered)
 }
 
 /// Enters that an incarnation of a service has crashed, in a turn, and launches the service where it was the
@@ -130,22 +135,29 @@ pub fn report_by<
     note: CellNote<N, C, F::Link>,
     service: u16,
     incarnation: u32,
-) -> Crashed
+) -> (Crashed, Entered)
     requires rest { RestsAt turn.now seat.old }
     requires service { service < length N.site.services }
     requires here { note.service ≡ service }
     requires counted { 0 < incarnation }
     requires booted { incarnation ≤ last_booted note.seen }
-    ensures goes { ReportsBy N.site service incarnation seat.old result seat.new }
+    ensures goes { ReportsBy N.site service incarnation seat.old result.0 result.1 seat.new }
     ensures seat { seat.new ≡ record seat.old { seen = seat.new.seen } }
 {
     let mut launcher = turn.take(rt, seat);
     launcher.keeps();
     launcher.meet(cells, note);
-    let (launcher, answer) = launcher.crashed(rt, gate, locks, cells, service, incarnation);
+    let (launcher, answer, entered) = launcher.crashed(
+        rt,
+        gate,
+        locks,
+        cells,
+        service,
+        incarnation,
+    );
     launcher.keeps();
     turn.give(seat, launcher);
-    answer
+    (answer, entered)
 }
 
 /// Looks after a service in a turn.
@@ -157,16 +169,16 @@ pub fn tend_by<R: Wait, G: Gate, N: Backed, J: Site, C: CellNames, K: Keeper, S:
     locks: &Locks<N, J, K, S>,
     cells: &CellLocks<N, C, F::Link>,
     service: u16,
-) -> Tended
+) -> (Tended, Entered)
     requires rest { RestsAt turn.now seat.old }
     requires service { service < length N.site.services }
-    ensures goes { TendsBy N.site service seat.old result seat.new }
+    ensures goes { TendsBy N.site service seat.old result.0 result.1 seat.new }
     ensures seat { seat.new ≡ record seat.old { seen = seat.new.seen } }
 {
     let launcher = turn.take(rt, seat);
     launcher.keeps();
-    let (launcher, answer) = launcher.tend(rt, gate, locks, cells, service);
+    let (launcher, answer, entered) = launcher.tend(rt, gate, locks, cells, service);
     launcher.keeps();
     turn.give(seat, launcher);
-    answer
+    (answer, entered)
 }

@@ -9,3 +9,4 @@ pub mod Stationing
 pub mod Serving
 pub mod Surviving
 pub mod Listing
+pub mod Pieces

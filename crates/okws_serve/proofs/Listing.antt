@@ -1,26 +1,25 @@
 -- What the record that a run leaves says of each number.
 use Rattle.std.proofs.Common.{◌≡◌, ℕ, suc, ◌+◌, ◌<◌, ◌≤◌, List, [], ◌∷◌, length, sym, ap, ◌∙◌, subst, arith}
-use Rattle.std.specs.Prelude.{Bool, filter}
+use Rattle.std.specs.Prelude.{Bool}
 use mathlib.Core.Logic.{dite}
 use native.Mathlib.Decide.{ℕ_discrete}
 use Rattle.okws_outer.specs.Conns.{ConnWire}
 use Rattle.okws_outer.specs.Doors.{Entrance}
 use Rattle.okws_plan.specs.declared.configuration.Config.{Config}
 use Rattle.monitor_model.specs.declared.record.Record.{Record}
-use Rattle.monitor_model.specs.Merged.{is_at_cell, list_of}
-use Rattle.monitor_model.specs.Tied.{OwnsColumns}
+use Rattle.monitor_model.specs.Merged.{IsOwn, list_of}
 use Rattle.turn_lock.proofs.Rows.{get_mid}
 use Rattle.site_worker.specs.declared.door.Attended.{Attended}
 use Rattle.site_run.proofs.Owning.{Owns, owned_then, owns_kept, owns_nothing}
 use Rattle.site_run.proofs.Showing.{Shows, shows_kept, shows_nothing}
 use Rattle.site_run.proofs.Shown.{ShownBy, launcher_shown, shown_then}
 use Rattle.site_run.proofs.Rounding.{attends_kept, oversees_kept}
-use Rattle.site_run.specs.Tied.{LaunchesAreOwn, ListIsOwn}
+use Rattle.site_run.specs.Tied.{LaunchesAreOwn}
 use Rattle.okws_serve.specs.Doors.{AllAttend, AttendsAt, ServesConsole}
 
 -- its list is what it did, and what its dialogs were shown was begun
 abbrev pub Told : ℕ → Record → ℕ → Type 0
-Told n R w = ListIsOwn n w R × ShownBy R w
+Told n R w = IsOwn R n w (list_of R w) × ShownBy R w
 
 -- of a worker at a door
 door_told : {X : Type 0} (wire : X → ConnWire) (C : Config) (n most : ℕ) (R : Record) (w : ℕ) (e f : Entrance) (a : Attended) → AttendsAt wire C n most R w e f a → Told n R w
@@ -50,13 +49,7 @@ console_told C n R w x y failed h = (
 launcher_told : (n : ℕ) (R : Record) → length R.workers ≡ n → LaunchesAreOwn n R → Told n R n
 launcher_told n R many h =
     let is : list_of R n ≡ R.launches = get_mid R.workers R.launches [] [] n many in
-    let o = h.own in (
-      record {
-        columns = subst (OwnsColumns R n) (sym is) (record { okd = o.okd; proxies = o.proxies; pubd = o.pubd; oklogd = o.oklogd });
-        cells = λ s. o.cells s ∙ ap (filter (is_at_cell s)) (sym is);
-      },
-      launcher_shown n R h,
-    )
+    (subst (IsOwn R n n) (sym is) h.own, launcher_shown n R h)
 
 -- of all numbers, where that of the console's worker is the next after those of the doors', and the launcher's the next
 pub all_told : {X : Type 0} (wire : X → ConnWire) (C : Config) (n most : ℕ) (R : Record) (es fs : List Entrance) (as' : List Attended) (x y : ConnWire) (failed : Bool)

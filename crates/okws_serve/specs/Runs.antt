@@ -1,18 +1,19 @@
 -- What a run does with its objects.
-use Rattle.std.specs.Prelude.{◌≤◌, ℕ, Bool, List, length}
+use Rattle.std.specs.Prelude.{◌<◌, ℕ, Bool, List, length}
 use Rattle.std.specs.declared.option.Option.{Option}
 use Rattle.okws_plan.specs.declared.configuration.Config.{Config}
 use Rattle.okws_outer.specs.Conns.{ConnWire}
 use Rattle.okws_outer.specs.Doors.{Entrance}
 use Rattle.monitor_model.specs.Lawful.{AllStandThere}
-use Rattle.monitor_model.specs.Merged.{LaunchesAlone}
+use Rattle.monitor_model.specs.Legality.{ListsMakeJournals}
 use Rattle.monitor_model.specs.Missing.{MissesAreTrue}
+use Rattle.monitor_model.specs.Pieces.{is_accept_item, is_ordered}
 use Rattle.monitor_model.specs.Placed.{EachFrom}
 use Rattle.site_run.specs.Journals.{KeepLaws, NameNumbers, AreCounts}
 use Rattle.site_run.specs.Keepers.{KeeperIs}
 use Rattle.site_run.specs.Closing.{WritesLog, AllKept}
-use Rattle.site_run.specs.Tied.{LaunchesAreOwn, ListIsOwn}
 use Rattle.okws_serve.specs.Doors.{ServesConsole, ServesDoors}
+use Rattle.okws_serve.specs.Lived.{ListIsPieces}
 use Rattle.okws_serve.specs.declared.outfit.Ran.{Ran}
 
 -- What objects are like: the doors, the console, the keepers of the proxies, and the log's sink, by what it was given, where it tells, and by its count of faults.
@@ -33,9 +34,9 @@ pub record StartIs : Type 0 where
 pub record Runs {X : Type 0} (wire : X → ConnWire) (C : Config) (seed : List ℕ) (n most : ℕ) (start : StartIs) (doors : List Entrance) (console : ConnWire) (ran : Ran) (left : ObjectsAre) : Type 0 where
   pub served : ServesDoors wire C n most ran.record doors left.entrances ran.counts.connections ran.starved
   pub steered : ServesConsole C n ran.record (length doors) console left.console ran.console_failed
-  pub launched : LaunchesAreOwn n ran.record
-  pub lists : (w : ℕ) → w ≤ n → ListIsOwn n w ran.record
-  pub alone : LaunchesAlone ran.record
+  pub made : ListsMakeJournals ran.record
+  pub door_lists : (w : ℕ) → w < length doors → ListIsPieces C ran.record is_ordered w
+  pub console_list : ListIsPieces C ran.record is_accept_item (length doors)
   pub missed : MissesAreTrue ran.record
   pub stands : EachFrom (λ s J. AllStandThere J) 0 ran.record.cells
   pub laws : KeepLaws C seed n ran.record

@@ -1,7 +1,7 @@
 //! Putting the workers of a run to their posts.
 
 ghost use Rattle.std.specs.Prelude.{◌≡◌, ◌≤◌, ◌+◌, [], true, length, map, vec_len, vec_capacity};
-ghost use Rattle.okws_base.specs.declared.limit.TheConstants.{MOST_SERVICES, MOST_TEMPLATES, MOST_CONNECTIONS};
+ghost use Rattle.okws_base.specs.declared.limit.TheConstants.{MOST_SERVICES, MOST_TEMPLATES, MOST_CONNECTIONS, GREATEST_RETRY};
 ghost use Rattle.site_run.specs.Places.{Placed, SamePlaces};
 ghost use Rattle.site_run.specs.Rooms.{HasRoom};
 ghost use Rattle.site_run.specs.Rows.{Seated, SameRoom};
@@ -51,6 +51,7 @@ fn man_doors<
 )
     requires tells { N.tells ≡ true }
     requires few { length N.site.services ≤ MOST_SERVICES }
+    requires retry { N.site.retry ≤ GREATEST_RETRY }
     requires most { ground.now.most ≤ MOST_CONNECTIONS }
     requires seated { Seated ground.now.turn.now (length N.site.services) chairs.old }
     requires placed { Placed ground.now.numbers.now.id places.old }
@@ -95,6 +96,7 @@ pub(crate) fn man_all<
     requires tells { N.tells ≡ true }
     requires site { ground.now.site.now ≡ N.site }
     requires few { (length N.site.services ≤ MOST_SERVICES) × (length N.site.templates ≤ MOST_TEMPLATES) }
+    requires retry { N.site.retry ≤ GREATEST_RETRY }
     requires most { ground.now.most ≤ MOST_CONNECTIONS }
     requires seated { Seated ground.now.turn.now (length N.site.services) chairs.old }
     requires placed { Placed ground.now.numbers.now.id places.old }

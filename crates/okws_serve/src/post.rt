@@ -60,9 +60,9 @@ impl<
 
     ghost Value = { DoorIs };
 
-    ghost view = { λ p. record { entrance = D.entrance p.door; place = p.desk.place; most = p.most; life = p.worker; attended = p.attended } };
+    ghost view = { λ p. record { entrance = D.entrance p.door; place = p.desk.place; most = p.most; life = p.worker.life; attended = p.attended } };
 
-    ghost invariant = { λ p. IsDoor p.numbers.now.id (record { entrance = D.entrance p.door; place = p.desk.place; most = p.most; life = p.worker; attended = p.attended }) };
+    ghost invariant = { λ p. IsDoor p.numbers.now.id (record { entrance = D.entrance p.door; place = p.desk.place; most = p.most; life = p.worker.life; attended = p.attended }) };
 }
 
 impl<
@@ -90,7 +90,7 @@ impl<
         requires none { desk.place.drawn ≡ [] }
         requires board { desk.place.board ≡ numbers.now.id }
         requires most { most ≤ MOST_CONNECTIONS }
-        ensures { result ≡ record { entrance = D.entrance door; place = desk.place; most = most; life = worker.entry; attended = None } }
+        ensures { result ≡ record { entrance = D.entrance door; place = desk.place; most = most; life = worker.entry.life; attended = None } }
     {
         DoorPost {
             door,
@@ -111,7 +111,7 @@ impl<
         Worker<'a, R, G, N, J, C, K, S, F>,
         Option<Attended>,
     )
-        ensures parts { self.entry ≡ record { entrance = D.entrance result.0; place = result.1.place; most = self.entry.most; life = result.2; attended = result.3 } }
+        ensures parts { self.entry ≡ record { entrance = D.entrance result.0; place = result.1.place; most = self.entry.most; life = result.2.life; attended = result.3 } }
         ensures idle { IsNone (D.entrance result.0).out }
     {
         let DoorPost {
@@ -181,7 +181,7 @@ impl<
 
     ghost Value = { ConsoleIs };
 
-    ghost view = { λ p. record { wire = O.wire p.console; lines = p.reader; life = p.worker; overseen = p.overseen } };
+    ghost view = { λ p. record { wire = O.wire p.console; lines = p.reader; life = p.worker.life; overseen = p.overseen } };
 
     ghost invariant = { λ p. IsSteered N.site p.site.now };
 }
@@ -206,7 +206,7 @@ impl<
         site: &'a Config,
     ) -> Self
         requires { IsSteered N.site site.now }
-        ensures { result ≡ record { wire = O.wire console; lines = reader; life = worker.entry; overseen = None } }
+        ensures { result ≡ record { wire = O.wire console; lines = reader; life = worker.entry.life; overseen = None } }
     {
         ConsolePost {
             console,
@@ -219,7 +219,7 @@ impl<
 
     /// The console, the worker, and how it oversaw the console.
     pub(crate) fn into_parts(self) -> (O, Worker<'a, R, G, N, J, C, K, S, F>, Option<Overseen>)
-        ensures { self.entry ≡ record { wire = O.wire result.0; lines = self.entry.lines; life = result.1; overseen = result.2 } }
+        ensures { self.entry ≡ record { wire = O.wire result.0; lines = self.entry.lines; life = result.1.life; overseen = result.2 } }
     {
         let ConsolePost {
             console,

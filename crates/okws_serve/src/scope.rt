@@ -1,11 +1,12 @@
 //! The workers of a run in one scope.
 
-ghost use Rattle.std.specs.Prelude.{◌≡◌, ◌≤◌, ◌<◌, ◌+◌, ℕ, true, length, vec_len, vec_capacity, slice_index_or};
-ghost use Rattle.okws_base.specs.declared.limit.TheConstants.{MOST_SERVICES, MOST_TEMPLATES, MOST_CONNECTIONS};
+ghost use Rattle.std.specs.Prelude.{◌≡◌, ◌≤◌, ◌<◌, ◌+◌, ◌*◌, ℕ, true, length, vec_len, vec_capacity, slice_index_or};
+ghost use Rattle.okws_base.specs.declared.limit.TheConstants.{MOST_SERVICES, MOST_TEMPLATES, MOST_CONNECTIONS, GREATEST_RETRY};
 ghost use Rattle.live_board.specs.Seats.{AllAt};
+ghost use Rattle.site_worker.specs.declared.worker.TheConstants.{TURN_ITEMS};
 ghost use Rattle.site_run.specs.Places.{AllIdle, Placed, HasPlaces};
 ghost use Rattle.site_run.specs.Rooms.{HasRoom};
-ghost use Rattle.site_run.specs.Rows.{Seated, Spacious, SameRoom};
+ghost use Rattle.site_run.specs.Rows.{Seated, Spacious, SameRoom, first_spare};
 ghost use Rattle.site_run.specs.Tied.{Unused};
 ghost use Rattle.okws_serve.specs.Doors.{is_fault};
 ghost use Rattle.okws_serve.specs.Manned.{AllWork, WorkDone};
@@ -121,9 +122,11 @@ where
     requires tells { N.tells ≡ true }
     requires site { ground.now.site.now ≡ N.site }
     requires few { (length N.site.services ≤ MOST_SERVICES) × (length N.site.templates ≤ MOST_TEMPLATES) }
+    requires retry { N.site.retry ≤ GREATEST_RETRY }
     requires most { ground.now.most ≤ MOST_CONNECTIONS }
     requires seated { Seated ground.now.turn.now (length N.site.services) chairs.old }
     requires unused { Unused N.site chairs.old }
+    requires spare { length N.site.services * TURN_ITEMS ≤ first_spare chairs.old }
     requires placed { Placed ground.now.numbers.now.id places.old }
     requires alike { length chairs.old.seats ≡ length places.old.entrances + 1 }
     requires some { 0 < length places.old.entrances }

@@ -63,6 +63,7 @@ pub servable_by : (C : Config) → IsSound C → AreRuled C → ((t : ℕ) → l
 servable_by C sound rules names = record {
   rules = record { queries = rules; names = names; owners = sound.owners };
   services = sound.few_services;
+  retry = sound.low_retry;
   templates = sound.few_templates;
   proxies = sound.few_proxies;
 }

@@ -341,5 +341,5 @@ started_service who shows n head content wanted c J d now h =
 
 -- ---- the board, call after call
 
-pub board_then : {C : Type 0} (asker : C → Asker) (shows : C → ℕ → ℕ → Type 0) (token_seed : C → List ℕ) (a b c : C) → KeepsBoard asker shows token_seed a b → KeepsBoard asker shows token_seed b c → KeepsBoard asker shows token_seed a c
-board_then asker shows token_seed a b c x y = record { asked = y.asked ∙ x.asked; seeded = y.seeded ∙ x.seeded; shown = λ s k may. y.shown s k (x.shown s k may) }
+pub board_then : {C : Type 0} (asker : C → Asker) (shows : C → ℕ → ℕ → Type 0) (token_seed : C → List ℕ) (spare : C → ℕ) (a b c : C) → KeepsBoard asker shows token_seed spare a b → KeepsBoard asker shows token_seed spare b c → KeepsBoard asker shows token_seed spare a c
+board_then asker shows token_seed spare a b c x y = record { asked = y.asked ∙ x.asked; seeded = y.seeded ∙ x.seeded; spared = y.spared ∙ x.spared; shown = λ s k may. y.shown s k (x.shown s k may) }

@@ -39,6 +39,9 @@ pub trait Columns {
     /// The seed of the tokens that the columns issue.
     ghost token_seed: { Self → List ℕ };
 
+    /// How many items there is room for that the worker may note without memory. No call here uses it up.
+    ghost spare: { Self → ℕ };
+
     /// What the worker has seen of each column, and its own items.
     ghost seen: { Self → Seen };
 
@@ -58,19 +61,19 @@ pub trait Columns {
         requires { service < length (asker self.old).config.services }
         ensures shown { shows self.new service result }
         ensures seen { seen self.new ≡ seen self.old }
-        ensures board { KeepsBoard asker shows token_seed self.old self.new };
+        ensures board { KeepsBoard asker shows token_seed spare self.old self.new };
 
     /// Hears that the Request of a dialog with the service was just put. Nothing changes.
     fn requested(&mut self, service: u16)
         requires { service < length (asker self.old).config.services }
         ensures seen { seen self.new ≡ seen self.old }
-        ensures board { KeepsBoard asker shows token_seed self.old self.new };
+        ensures board { KeepsBoard asker shows token_seed spare self.old self.new };
 
     /// Notes an own item that is no entry.
     fn note(&mut self, item: Own) -> Result<(), AllocError>
         ensures ok { OnOk result (seen self.new ≡ noted (seen self.old) item) }
         ensures err { OnErr result (seen self.new ≡ seen self.old) }
-        ensures board { KeepsBoard asker shows token_seed self.old self.new };
+        ensures board { KeepsBoard asker shows token_seed spare self.old self.new };
 
     /// Notes a dialog with the incarnation, enters its Drain, and gives what is pushed.
     fn drain(&mut self, service: u16, incarnation: u32) -> Result<Vec<Push>, AllocError>
@@ -78,7 +81,7 @@ pub trait Columns {
         ensures ok { IfOk result (λ pushes. Drains (asker self.old) service incarnation (seen self.old) pushes.items (seen self.new)) }
         ensures short { IfOk result (λ pushes. Each IsShortPush pushes.items) }
         ensures err { OnErr result (seen self.new ≡ seen self.old) }
-        ensures board { KeepsBoard asker shows token_seed self.old self.new };
+        ensures board { KeepsBoard asker shows token_seed spare self.old self.new };
 
     /// Enters an Open at a proxy, and gives its verdict.
     fn open_session(
@@ -94,7 +97,7 @@ pub trait Columns {
             × AtProxy (asker self.old).worker proxy (proxied.Open service incarnation shown) (seen self.old) before (seen self.new)) }
         ensures err { OnErr result (seen self.new ≡ seen self.old) }
         ensures next { IsTrue (asker self.old).alone → IsNextBy (asker self.old).worker (seen self.old) (seen self.new) }
-        ensures board { KeepsBoard asker shows token_seed self.old self.new };
+        ensures board { KeepsBoard asker shows token_seed spare self.old self.new };
 
     /// Enters a Call at a proxy. What lists rows is ready to be found, whatever is entered since; with its
     /// rows, what is given tells the verdict of the entry.
@@ -106,7 +109,7 @@ pub trait Columns {
         ensures narrow { IfOk result (λ s. IsNarrow (verdict_of (λ p. Rows (Self.Pin.width p) (Self.Pin.rows p)) s)) }
         ensures err { OnErr result (seen self.new ≡ seen self.old) }
         ensures next { IsTrue (asker self.old).alone → IsNextBy (asker self.old).worker (seen self.old) (seen self.new) }
-        ensures board { KeepsBoard asker shows token_seed self.old self.new };
+        ensures board { KeepsBoard asker shows token_seed spare self.old self.new };
 
     /// Enters a Get at the template publisher, and gives what it is answered.
     fn get(&mut self, service: u16, incarnation: u32, name: Items<u8>) -> Result<Got, AllocError>
@@ -116,7 +119,7 @@ pub trait Columns {
         ensures short { IfOk result IsShortGot }
         ensures err { OnErr result (seen self.new ≡ seen self.old) }
         ensures next { IsTrue (asker self.old).alone → IsNextBy (asker self.old).worker (seen self.old) (seen self.new) }
-        ensures board { KeepsBoard asker shows token_seed self.old self.new };
+        ensures board { KeepsBoard asker shows token_seed spare self.old self.new };
 
     /// Enters a Log at the log daemon, and gives what it is answered.
     fn log(&mut self, service: u16, incarnation: u32, text: Items<u8>) -> Result<Noted, AllocError>
@@ -125,5 +128,5 @@ pub trait Columns {
             × AtLog (asker self.old).worker (oklogd.Log service incarnation text) (seen self.old) before (seen self.new)) }
         ensures err { OnErr result (seen self.new ≡ seen self.old) }
         ensures next { IsTrue (asker self.old).alone → IsNextBy (asker self.old).worker (seen self.old) (seen self.new) }
-        ensures board { KeepsBoard asker shows token_seed self.old self.new };
+        ensures board { KeepsBoard asker shows token_seed spare self.old self.new };
 }

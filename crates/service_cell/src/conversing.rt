@@ -33,7 +33,7 @@ impl<L: Link> Cell<L> {
         requires declared { self.old.service < length (C.asker columns.old).config.services }
         requires short { length head + length content + 9 ≤ LONGEST_FRAME }
         ensures dialogs { Dialogs (C.asker columns.old) (C.shows columns.new self.old.service) head content wanted self.old (C.seen columns.old) result self.new (C.seen columns.new) }
-        ensures board { KeepsBoard C.asker C.shows C.token_seed columns.old columns.new }
+        ensures board { KeepsBoard C.asker C.shows C.token_seed C.spare columns.old columns.new }
     {
         match self.begin(REQUEST, head, content, wanted, columns) {
             Begun::Started => self.converse(columns),
@@ -49,7 +49,7 @@ impl<L: Link> Cell<L> {
         requires speaking { IsSpeaking (C.asker columns.old).worker self.old.open_dialog }
         requires declared { self.old.service < length (C.asker columns.old).config.services }
         ensures ends { (n : ℕ) (head content : List ℕ) (c : Standing) (J : Seen) → Talks (C.asker columns.old) n head content c J self.old (C.seen columns.old) → EndsAs (C.asker columns.old) (C.shows columns.new self.old.service) head content c J result self.new (C.seen columns.new) }
-        ensures board { KeepsBoard C.asker C.shows C.token_seed columns.old columns.new }
+        ensures board { KeepsBoard C.asker C.shows C.token_seed C.spare columns.old columns.new }
     {
         columns.requested(self.service);
         'frames: loop {

@@ -134,7 +134,7 @@ impl<L: Link> Cell<L> {
         requires short { length head + length content + 9 ≤ LONGEST_FRAME }
         ensures begins { Begins (C.asker columns.old) (C.shows columns.new self.old.service) request (ServerFrame.Request head content) wanted self.old (C.seen columns.old) result self.new (C.seen columns.new) }
         ensures spelled { result ≡ Begun.Started → AreSpelled self.new.open_dialog }
-        ensures board { KeepsBoard C.asker C.shows C.token_seed columns.old columns.new }
+        ensures board { KeepsBoard C.asker C.shows C.token_seed C.spare columns.old columns.new }
     {
         let is = self.incarnation;
         if is != wanted {
@@ -162,7 +162,7 @@ impl<L: Link> Cell<L> {
         requires another { wanted ≢ incarnation self.old.past }
         ensures ok { OnOk result ((self.new ≡ record self.old { past = cell.Missed (C.asker columns.old).worker wanted (incarnation self.old.past) ∷ self.old.past }) × (C.seen columns.new ≡ noted (C.seen columns.old) (own.Missed self.old.service wanted (incarnation self.old.past)))) }
         ensures err { OnErr result ((self.new ≡ self.old) × (C.seen columns.new ≡ C.seen columns.old)) }
-        ensures board { KeepsBoard C.asker C.shows C.token_seed columns.old columns.new }
+        ensures board { KeepsBoard C.asker C.shows C.token_seed C.spare columns.old columns.new }
     {
         let is = self.incarnation;
         let missed = Own::Missed {
@@ -191,7 +191,7 @@ impl<L: Link> Cell<L> {
         requires above { incarnation self.old.past < shown }
         ensures ok { OnOk result ((self.new ≡ finished self.old (C.asker columns.old).worker [] (end.Superseded shown) self.old.link) × (C.seen columns.new ≡ noted (C.seen columns.old) (own.Dialog self.old.service))) }
         ensures err { OnErr result ((self.new ≡ self.old) × (C.seen columns.new ≡ C.seen columns.old)) }
-        ensures board { KeepsBoard C.asker C.shows C.token_seed columns.old columns.new }
+        ensures board { KeepsBoard C.asker C.shows C.token_seed C.spare columns.old columns.new }
     {
         self.events.make_room()?;
         columns.note(Own::Dialog(self.service))?;
@@ -219,7 +219,7 @@ impl<L: Link> Cell<L> {
         requires short { length head + length content + 9 ≤ LONGEST_FRAME }
         ensures opens { OpensCell (C.asker columns.old) request (ServerFrame.Request head content) self.old (C.seen columns.old) result self.new (C.seen columns.new) }
         ensures spelled { result ≡ Begun.Started → AreSpelled self.new.open_dialog }
-        ensures board { KeepsBoard C.asker C.shows C.token_seed columns.old columns.new }
+        ensures board { KeepsBoard C.asker C.shows C.token_seed C.spare columns.old columns.new }
     {
         if self.events.make_room().is_err() {
             return Begun::NoMemory;
@@ -258,7 +258,7 @@ impl<L: Link> Cell<L> {
         ensures advances { AdvancesOpen (C.asker columns.old) (C.shows columns.new self.old.service) self.old self.old.open_dialog (C.seen columns.old) result self.new (C.seen columns.new) }
         ensures spelled { result ≡ Advanced.Goes → IsHeardOpen self.new.open_dialog }
         ensures next { IsTrue (C.asker columns.old).alone → IsNextBy (C.asker columns.old).worker (C.seen columns.old) (C.seen columns.new) }
-        ensures board { KeepsBoard C.asker C.shows C.token_seed columns.old columns.new }
+        ensures board { KeepsBoard C.asker C.shows C.token_seed C.spare columns.old columns.new }
     {
         let shown = columns.current(self.service);
         if shown > self.incarnation {
@@ -280,7 +280,7 @@ impl<L: Link> Cell<L> {
         ensures steps { StepsOpen (C.asker columns.old) self.old self.old.open_dialog (C.seen columns.old) result self.new (C.seen columns.new) }
         ensures spelled { result ≡ Exchanged.Goes → IsHeardOpen self.new.open_dialog }
         ensures next { IsTrue (C.asker columns.old).alone → IsNextBy (C.asker columns.old).worker (C.seen columns.old) (C.seen columns.new) }
-        ensures board { KeepsBoard C.asker C.shows C.token_seed columns.old columns.new }
+        ensures board { KeepsBoard C.asker C.shows C.token_seed C.spare columns.old columns.new }
     {
         let who = Who {
             service: self.service,

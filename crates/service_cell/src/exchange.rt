@@ -46,7 +46,7 @@ fn answer_open<C: Columns>(columns: &mut C, who: Who, proxy: u16, shown: Token) 
     ensures answer { Answers (C.asker columns.old).config (record { worker = (C.asker columns.old).worker; service = who.service; incarnation = who.incarnation }) (ServiceFrame.Open proxy shown) (C.seen columns.old) result (C.seen columns.new) }
     ensures spelling { HasSpelling result }
     ensures next { IsTrue (C.asker columns.old).alone → IsNextBy (C.asker columns.old).worker (C.seen columns.old) (C.seen columns.new) }
-    ensures board { KeepsBoard C.asker C.shows C.token_seed columns.old columns.new }
+    ensures board { KeepsBoard C.asker C.shows C.token_seed C.spare columns.old columns.new }
 {
     if proxy as usize >= columns.proxies() {
         return making::denied(Rule::NoSuchProxy.number());
@@ -66,7 +66,7 @@ fn answer_call<C: Columns>(
     requires { call.service < length (C.asker columns.old).config.services }
     ensures answer { GivesAnswer (C.asker columns.old).config (record { worker = (C.asker columns.old).worker; service = call.service; incarnation = call.incarnation }) (ServiceFrame.Call proxy call.session call.query call.args) (C.seen columns.old) result (C.seen columns.new) }
     ensures next { IsTrue (C.asker columns.old).alone → IsNextBy (C.asker columns.old).worker (C.seen columns.old) (C.seen columns.new) }
-    ensures board { KeepsBoard C.asker C.shows C.token_seed columns.old columns.new }
+    ensures board { KeepsBoard C.asker C.shows C.token_seed C.spare columns.old columns.new }
 {
     if proxy as usize >= columns.proxies() {
         return Ok(making::denied(Rule::NoSuchProxy.number()));
@@ -82,7 +82,7 @@ fn answer_get<C: Columns>(columns: &mut C, who: Who, name: Items<u8>) -> ServerF
     ensures answer { Answers (C.asker columns.old).config (record { worker = (C.asker columns.old).worker; service = who.service; incarnation = who.incarnation }) (ServiceFrame.Get name) (C.seen columns.old) result (C.seen columns.new) }
     ensures spelling { HasSpelling result }
     ensures next { IsTrue (C.asker columns.old).alone → IsNextBy (C.asker columns.old).worker (C.seen columns.old) (C.seen columns.new) }
-    ensures board { KeepsBoard C.asker C.shows C.token_seed columns.old columns.new }
+    ensures board { KeepsBoard C.asker C.shows C.token_seed C.spare columns.old columns.new }
 {
     match columns.get(who.service, who.incarnation, name) {
         Ok(got) => told_got(got),
@@ -95,7 +95,7 @@ fn answer_log<C: Columns>(columns: &mut C, who: Who, text: Items<u8>) -> ServerF
     ensures answer { Answers (C.asker columns.old).config (record { worker = (C.asker columns.old).worker; service = who.service; incarnation = who.incarnation }) (ServiceFrame.Log text) (C.seen columns.old) result (C.seen columns.new) }
     ensures spelling { HasSpelling result }
     ensures next { IsTrue (C.asker columns.old).alone → IsNextBy (C.asker columns.old).worker (C.seen columns.old) (C.seen columns.new) }
-    ensures board { KeepsBoard C.asker C.shows C.token_seed columns.old columns.new }
+    ensures board { KeepsBoard C.asker C.shows C.token_seed C.spare columns.old columns.new }
 {
     match columns.log(who.service, who.incarnation, text) {
         Ok(noted) => told_noted(noted),
@@ -116,7 +116,7 @@ fn answer_copied_call<C: Columns>(
     requires { who.service < length (C.asker columns.old).config.services }
     ensures answer { GivesAnswer (C.asker columns.old).config (record { worker = (C.asker columns.old).worker; service = who.service; incarnation = who.incarnation }) (ServiceFrame.Call proxy session query args.now) (C.seen columns.old) result (C.seen columns.new) }
     ensures next { IsTrue (C.asker columns.old).alone → IsNextBy (C.asker columns.old).worker (C.seen columns.old) (C.seen columns.new) }
-    ensures board { KeepsBoard C.asker C.shows C.token_seed columns.old columns.new }
+    ensures board { KeepsBoard C.asker C.shows C.token_seed C.spare columns.old columns.new }
 {
     if proxy as usize >= columns.proxies() {
         return Ok(making::denied(Rule::NoSuchProxy.number()));
@@ -149,7 +149,7 @@ fn answer<C: Columns>(
     requires { who.service < length (C.asker columns.old).config.services }
     ensures answer { AnswersSaid (C.asker columns.old).config (record { worker = (C.asker columns.old).worker; service = who.service; incarnation = who.incarnation }) said.now (C.seen columns.old) result (C.seen columns.new) }
     ensures next { IsTrue (C.asker columns.old).alone → IsNextBy (C.asker columns.old).worker (C.seen columns.old) (C.seen columns.new) }
-    ensures board { KeepsBoard C.asker C.shows C.token_seed columns.old columns.new }
+    ensures board { KeepsBoard C.asker C.shows C.token_seed C.spare columns.old columns.new }
 {
     match said {
         ServiceFrame::Open { proxy, shown } => Ok(Some(answer_open(columns, who, *proxy, *shown))),
@@ -245,7 +245,7 @@ fn exchange_frame<L: Link, C: Columns>(
     ensures newest { result ≡ Exchanged.Goes → items.new.newest ≡ take 2 items.new.past }
     ensures replied { result ≡ Exchanged.Reply → EndsInReply items.new.newest }
     ensures next { IsTrue (C.asker columns.old).alone → IsNextBy (C.asker columns.old).worker (C.seen columns.old) (C.seen columns.new) }
-    ensures board { KeepsBoard C.asker C.shows C.token_seed columns.old columns.new }
+    ensures board { KeepsBoard C.asker C.shows C.token_seed C.spare columns.old columns.new }
 {
     if frames >= MOST_FRAMES {
         items.enter(Item::Said(said));
@@ -285,7 +285,7 @@ pub(crate) fn exchange<L: Link, C: Columns>(
     ensures newest { result ≡ Exchanged.Goes → items.new.newest ≡ take 2 items.new.past }
     ensures replied { result ≡ Exchanged.Reply → EndsInReply items.new.newest }
     ensures next { IsTrue (C.asker columns.old).alone → IsNextBy (C.asker columns.old).worker (C.seen columns.old) (C.seen columns.new) }
-    ensures board { KeepsBoard C.asker C.shows C.token_seed columns.old columns.new }
+    ensures board { KeepsBoard C.asker C.shows C.token_seed C.spare columns.old columns.new }
 {
     if items.begin_step(2).is_err() || link.make_room(LONGEST_FRAME + 4).is_err() {
         return Exchanged::Crashed(Cause::Starved);

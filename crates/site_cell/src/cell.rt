@@ -102,7 +102,7 @@ impl<N: Numbered, L: Link> SiteCell<N, L> {
         ensures holder { self.new.holder ≡ self.old.holder }
         ensures service { self.new.standing.service ≡ self.old.standing.service }
         ensures adds { AddsBy (by_event N.launcher) self.old.holder self.old.standing.past self.new.standing.past }
-        ensures board { KeepsBoard C.asker C.shows C.token_seed columns.old columns.new }
+        ensures board { KeepsBoard C.asker C.shows C.token_seed C.spare columns.old columns.new }
     {
         self.cell.dialog(head, content, wanted, columns)
     }

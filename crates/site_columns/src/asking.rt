@@ -35,6 +35,8 @@ impl Columns for SiteColumns {
 
     ghost token_seed = { λ a. a.seed };
 
+    ghost spare = { λ a. 0 };
+
     ghost seen = { λ a. a.seen };
 
     ghost shows = { λ a s k. k ≡ begun a.seen.launcher s };

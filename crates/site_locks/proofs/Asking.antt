@@ -26,18 +26,20 @@ abbrev pub asker_of : Config → Sat → Asker
 asker_of C s = record { config = C; worker = s.number; alone = false }
 
 -- the board may still show what it might
-pub keeps_board : (C : Config) (seed : List ℕ) (s now : Sat) → now.number ≡ s.number → now.board ≡ s.board → KeepsBoard (λ (h : Sat). asker_of C h) (λ (h : Sat) t k. k ≤ slice_index h.board t) (λ (h : Sat). seed) s now
-keeps_board C seed s now number board = record {
+pub keeps_board : (C : Config) (seed : List ℕ) (s now : Sat) → now.number ≡ s.number → now.board ≡ s.board → now.spare ≡ s.spare → KeepsBoard (λ (h : Sat). asker_of C h) (λ (h : Sat) t k. k ≤ slice_index h.board t) (λ (h : Sat). seed) (λ (h : Sat). h.spare) s now
+keeps_board C seed s now number board spare = record {
   asked = ap (λ n. record { config = C; worker = n; alone = false }) number;
   seeded = refl;
+  spared = spare;
   shown = λ t k h. subst (λ b. k ≤ slice_index b t) (sym board) h;
 }
 
 pub keeps_current : (C : Config) (seed : List ℕ) (s now : Sat) (service r : ℕ) → slice_index s.board service ≤ r → now ≡ record s { board = slice_set s.board service r }
-    → KeepsBoard (λ (h : Sat). asker_of C h) (λ (h : Sat) t k. k ≤ slice_index h.board t) (λ (h : Sat). seed) s now
+    → KeepsBoard (λ (h : Sat). asker_of C h) (λ (h : Sat) t k. k ≤ slice_index h.board t) (λ (h : Sat). seed) (λ (h : Sat). h.spare) s now
 keeps_current C seed s now service r least is = record {
   asked = ap (λ (x : Sat). record { config = C; worker = x.number; alone = false }) is;
   seeded = refl;
+  spared = ap (λ (x : Sat). x.spare) is;
   shown = λ t k h.
       let more : slice_index s.board t ≤ slice_index (slice_set s.board service r) t = no_fall s.board service r t least in
       subst (λ (x : Sat). k ≤ slice_index x.board t) (sym is) (omega (arith, h, more));
@@ -54,10 +56,10 @@ publishes_at t content TooLong before s now h = pubd_same s now before h
 publishes_at t content EditionsSpent before s now h = pubd_same s now before h
 
 pub published_board : (t : ℕ) (content : List ℕ) (v : Published) (before : List (Entry PubdEvent)) (s now : Sat) → Publishes t content v before s now → SameBoard s now
-published_board t content (Edition n) before s now h = record { number_is = ap (λ (x : Sat). x.number) h.is; board_is = ap (λ (x : Sat). x.board) h.is; drawn_is = ap (λ (x : Sat). x.drawn) h.is }
-published_board t content NoSuchTemplate before s now h = record { number_is = ap (λ (x : Sat). x.number) h.is; board_is = ap (λ (x : Sat). x.board) h.is; drawn_is = ap (λ (x : Sat). x.drawn) h.is }
-published_board t content TooLong before s now h = record { number_is = ap (λ (x : Sat). x.number) h.is; board_is = ap (λ (x : Sat). x.board) h.is; drawn_is = ap (λ (x : Sat). x.drawn) h.is }
-published_board t content EditionsSpent before s now h = record { number_is = ap (λ (x : Sat). x.number) h.is; board_is = ap (λ (x : Sat). x.board) h.is; drawn_is = ap (λ (x : Sat). x.drawn) h.is }
+published_board t content (Edition n) before s now h = record { number_is = ap (λ (x : Sat). x.number) h.is; board_is = ap (λ (x : Sat). x.board) h.is; drawn_is = ap (λ (x : Sat). x.drawn) h.is; spare_is = ap (λ (x : Sat). x.spare) h.is }
+published_board t content NoSuchTemplate before s now h = record { number_is = ap (λ (x : Sat). x.number) h.is; board_is = ap (λ (x : Sat). x.board) h.is; drawn_is = ap (λ (x : Sat). x.drawn) h.is; spare_is = ap (λ (x : Sat). x.spare) h.is }
+published_board t content TooLong before s now h = record { number_is = ap (λ (x : Sat). x.number) h.is; board_is = ap (λ (x : Sat). x.board) h.is; drawn_is = ap (λ (x : Sat). x.drawn) h.is; spare_is = ap (λ (x : Sat). x.spare) h.is }
+published_board t content EditionsSpent before s now h = record { number_is = ap (λ (x : Sat). x.number) h.is; board_is = ap (λ (x : Sat). x.board) h.is; drawn_is = ap (λ (x : Sat). x.drawn) h.is; spare_is = ap (λ (x : Sat). x.spare) h.is }
 
 -- what follows of each outcome of a call
 pub of_result : {A X : Type 0} (r : Result A X) (P : A → Type 0) (Q Z : Type 0) → IfOk r P → OnErr r Q → ((v : A) → P v → Z) → (Q → Z) → Z
@@ -66,34 +68,34 @@ of_result (Err x) P Q Z ok err f g = g err
 
 -- what the number is, and what it has seen on the board, stays where it entered or saw something at a column
 pub enters_okd : (event : OkdEvent) (before : List (Entry OkdEvent)) (s now : Sat) → NotesOkd event before s now → SameBoard s now
-enters_okd event before s now h = record { number_is = ap (λ (x : Sat). x.number) h.is; board_is = ap (λ (x : Sat). x.board) h.is; drawn_is = ap (λ (x : Sat). x.drawn) h.is }
+enters_okd event before s now h = record { number_is = ap (λ (x : Sat). x.number) h.is; board_is = ap (λ (x : Sat). x.board) h.is; drawn_is = ap (λ (x : Sat). x.drawn) h.is; spare_is = ap (λ (x : Sat). x.spare) h.is }
 
 pub sees_okd : (before : List (Entry OkdEvent)) (s now : Sat) → SeesOkd before s now → SameBoard s now
-sees_okd before s now h = record { number_is = ap (λ (x : Sat). x.number) h.is; board_is = ap (λ (x : Sat). x.board) h.is; drawn_is = ap (λ (x : Sat). x.drawn) h.is }
+sees_okd before s now h = record { number_is = ap (λ (x : Sat). x.number) h.is; board_is = ap (λ (x : Sat). x.board) h.is; drawn_is = ap (λ (x : Sat). x.drawn) h.is; spare_is = ap (λ (x : Sat). x.spare) h.is }
 
 pub enters_proxy : (p : ℕ) (event : ProxyEvent) (before : List (Entry ProxyEvent)) (s now : Sat) → NotesProxy p event before s now → SameBoard s now
-enters_proxy p event before s now h = record { number_is = ap (λ (x : Sat). x.number) h.is; board_is = ap (λ (x : Sat). x.board) h.is; drawn_is = ap (λ (x : Sat). x.drawn) h.is }
+enters_proxy p event before s now h = record { number_is = ap (λ (x : Sat). x.number) h.is; board_is = ap (λ (x : Sat). x.board) h.is; drawn_is = ap (λ (x : Sat). x.drawn) h.is; spare_is = ap (λ (x : Sat). x.spare) h.is }
 
 pub sees_proxy : (p : ℕ) (before : List (Entry ProxyEvent)) (s now : Sat) → SeesProxy p before s now → SameBoard s now
-sees_proxy p before s now h = record { number_is = ap (λ (x : Sat). x.number) h.is; board_is = ap (λ (x : Sat). x.board) h.is; drawn_is = ap (λ (x : Sat). x.drawn) h.is }
+sees_proxy p before s now h = record { number_is = ap (λ (x : Sat). x.number) h.is; board_is = ap (λ (x : Sat). x.board) h.is; drawn_is = ap (λ (x : Sat). x.drawn) h.is; spare_is = ap (λ (x : Sat). x.spare) h.is }
 
 pub enters_pubd : (event : PubdEvent) (before : List (Entry PubdEvent)) (s now : Sat) → NotesPubd event before s now → SameBoard s now
-enters_pubd event before s now h = record { number_is = ap (λ (x : Sat). x.number) h.is; board_is = ap (λ (x : Sat). x.board) h.is; drawn_is = ap (λ (x : Sat). x.drawn) h.is }
+enters_pubd event before s now h = record { number_is = ap (λ (x : Sat). x.number) h.is; board_is = ap (λ (x : Sat). x.board) h.is; drawn_is = ap (λ (x : Sat). x.drawn) h.is; spare_is = ap (λ (x : Sat). x.spare) h.is }
 
 pub drains_pubd : (service : ℕ) (event : PubdEvent) (before : List (Entry PubdEvent)) (s now : Sat) → NotesPubd event before (noted s (own.Dialog service)) now → SameBoard s now
-drains_pubd service event before s now h = record { number_is = ap (λ (x : Sat). x.number) h.is; board_is = ap (λ (x : Sat). x.board) h.is; drawn_is = ap (λ (x : Sat). x.drawn) h.is }
+drains_pubd service event before s now h = record { number_is = ap (λ (x : Sat). x.number) h.is; board_is = ap (λ (x : Sat). x.board) h.is; drawn_is = ap (λ (x : Sat). x.drawn) h.is; spare_is = ap (λ (x : Sat). x.spare) h.is }
 
 pub sees_pubd : (before : List (Entry PubdEvent)) (s now : Sat) → SeesPubd before s now → SameBoard s now
-sees_pubd before s now h = record { number_is = ap (λ (x : Sat). x.number) h.is; board_is = ap (λ (x : Sat). x.board) h.is; drawn_is = ap (λ (x : Sat). x.drawn) h.is }
+sees_pubd before s now h = record { number_is = ap (λ (x : Sat). x.number) h.is; board_is = ap (λ (x : Sat). x.board) h.is; drawn_is = ap (λ (x : Sat). x.drawn) h.is; spare_is = ap (λ (x : Sat). x.spare) h.is }
 
 pub enters_log : (event : LogEvent) (before : List (Entry LogEvent)) (s now : Sat) → NotesLog event before s now → SameBoard s now
-enters_log event before s now h = record { number_is = ap (λ (x : Sat). x.number) h.is; board_is = ap (λ (x : Sat). x.board) h.is; drawn_is = ap (λ (x : Sat). x.drawn) h.is }
+enters_log event before s now h = record { number_is = ap (λ (x : Sat). x.number) h.is; board_is = ap (λ (x : Sat). x.board) h.is; drawn_is = ap (λ (x : Sat). x.drawn) h.is; spare_is = ap (λ (x : Sat). x.spare) h.is }
 
 pub sees_log : (before : List (Entry LogEvent)) (s now : Sat) → SeesLog before s now → SameBoard s now
-sees_log before s now h = record { number_is = ap (λ (x : Sat). x.number) h.is; board_is = ap (λ (x : Sat). x.board) h.is; drawn_is = ap (λ (x : Sat). x.drawn) h.is }
+sees_log before s now h = record { number_is = ap (λ (x : Sat). x.number) h.is; board_is = ap (λ (x : Sat). x.board) h.is; drawn_is = ap (λ (x : Sat). x.drawn) h.is; spare_is = ap (λ (x : Sat). x.spare) h.is }
 
-pub keeps_same : (C : Config) (seed : List ℕ) (s now : Sat) → SameBoard s now → KeepsBoard (λ (h : Sat). asker_of C h) (λ (h : Sat) t k. k ≤ slice_index h.board t) (λ (h : Sat). seed) s now
-keeps_same C seed s now h = keeps_board C seed s now h.number_is h.board_is
+pub keeps_same : (C : Config) (seed : List ℕ) (s now : Sat) → SameBoard s now → KeepsBoard (λ (h : Sat). asker_of C h) (λ (h : Sat) t k. k ≤ slice_index h.board t) (λ (h : Sat). seed) (λ (h : Sat). h.spare) s now
+keeps_same C seed s now h = keeps_board C seed s now h.number_is h.board_is h.spare_is
 
 pub drains_ok : {A X : Type 0} (C : Config) (s now : Sat) (service k : ℕ) (r : Result A X) (items : A → List Push)
     → IfOk r (λ v. (before : List (Entry PubdEvent)) × (items v ≡ drain_verdict C before service k) × NotesPubd (pubd_event.Drain service k) before (noted s (own.Dialog service)) now) → IfOk r (λ v. Each IsShortPush (items v))

@@ -186,9 +186,9 @@ pub has_all : (l : LocksAre) (all left : List Sat) (one : EndsAre) → left ≡ 
 has_all l all left one none h k w = ⊎_elim (λ (x : HasAll k one). x) (λ (x : SomeIs k left). absurd (subst (SomeIs k) none x)) (h.numbers k w)
 
 -- a number's seats, apart from the names of their locks
-pub are_of : (l : LocksAre) (z : _) (n : ℕ) (okd : SeatIs (Entry OkdEvent)) (ps : List (SeatIs (Entry ProxyEvent))) (pubd : SeatIs (Entry PubdEvent)) (log : SeatIs (Entry LogEvent)) (board : BoardSeat) (mine : List Own) → ids_of l ≡ z → AreSeats z n okd ps pubd log board
-    → AreOf l (sat_of n okd ps pubd log board mine) (record { okd = okd; proxies = ps; pubd = pubd; oklogd = log; board = board })
-are_of l z n okd ps pubd log board mine ids h = record { seats = subst (λ x. AreSeats x n okd ps pubd log board) (sym ids) h; sat_is = refl }
+pub are_of : (l : LocksAre) (z : _) (n : ℕ) (okd : SeatIs (Entry OkdEvent)) (ps : List (SeatIs (Entry ProxyEvent))) (pubd : SeatIs (Entry PubdEvent)) (log : SeatIs (Entry LogEvent)) (board : BoardSeat) (mine : List Own) (spare : ℕ) → ids_of l ≡ z → AreSeats z n okd ps pubd log board
+    → AreOf l (sat_of n okd ps pubd log board mine spare) (record { okd = okd; proxies = ps; pubd = pubd; oklogd = log; board = board })
+are_of l z n okd ps pubd log board mine spare ids h = record { seats = subst (λ x. AreSeats x n okd ps pubd log board) (sym ids) h; sat_is = refl }
 
 -- own lists are given the last first
 pub owns_first : (all left : List Sat) (s : Sat) (owns : List (List Own)) → all ≡ left ++ s ∷ [] → owns ≡ [] ++ s.own ∷ [] → owns ++ reverse (map (λ (x : Sat). x.own) left) ≡ reverse (map (λ (x : Sat). x.own) all)

@@ -65,7 +65,7 @@ rise_push p k (x ∷ ss) s h is = (h.0, rise_push p (suc k) ss s h.1 (is ∙ ap 
 pub record Dealt (l : LocksAre) (k : ℕ) (e : DeckIs) (okd : SeatIs (Entry OkdEvent)) (row : List (SeatIs (Entry ProxyEvent))) (pubd : SeatIs (Entry PubdEvent)) (log : SeatIs (Entry LogEvent)) (board : BoardSeat) : Type 0 where
   pub deals : DealsFrom l (k + 1) (length e.okd) e
   pub seats : AreSeats (ids_of l) k okd row pubd log board
-  pub sat_is : sat_of k okd row pubd log board [] ≡ fresh (length l.proxies) k
+  pub sat_is : sat_of k okd row pubd log board [] 0 ≡ fresh (length l.proxies) k
 
 left_of : {A : Type 0} (xs left : List A) (x : A) (m : ℕ) → xs ≡ left ++ x ∷ [] → length xs ≡ m → length left + 1 ≡ m
 left_of xs left x m is many = let e : length (left ++ x ∷ []) ≡ length left + length (x ∷ []) = append_length left (x ∷ []) in let f : length xs ≡ length (left ++ x ∷ []) = ap length is in omega arith
@@ -114,5 +114,6 @@ deal_next l k m d e okd row pubd log board rise h a b p q r =
         board = v.1.seen i;
         drawn = v.1.drawn i;
         own = [];
+        spare = 0;
       };
     }

@@ -36,7 +36,7 @@ pub of_outcome : {A X : Type 0} (r : Result A X) (P Q Z : Type 0) → OnOk r P �
 of_outcome (Ok v) P Q Z ok err f g = f ok
 of_outcome (Err x) P Q Z ok err f g = g err
 
-module _ (z : LockIds) (n : ℕ) (okd : SeatIs (Entry OkdEvent)) (ps : List (SeatIs (Entry ProxyEvent))) (pubd : SeatIs (Entry PubdEvent)) (log : SeatIs (Entry LogEvent)) (board : BoardSeat) (mine : List Own) (inv : AreSeats z n okd ps pubd log board) (ts : List TurnIs) (count : ℕ) (ids : map (λ (t : TurnIs). t.id) ts ≡ z.proxies) (counts : length ts ≡ count) (p : ℕ) (lt : p < count) where
+module _ (z : LockIds) (n : ℕ) (okd : SeatIs (Entry OkdEvent)) (ps : List (SeatIs (Entry ProxyEvent))) (pubd : SeatIs (Entry PubdEvent)) (log : SeatIs (Entry LogEvent)) (board : BoardSeat) (mine : List Own) (spare : ℕ) (inv : AreSeats z n okd ps pubd log board) (ts : List TurnIs) (count : ℕ) (ids : map (λ (t : TurnIs). t.id) ts ≡ z.proxies) (counts : length ts ≡ count) (p : ℕ) (lt : p < count) where
   pub within : p < length ps
   within = (within_row z.proxies ps ts n p count inv.proxies_at ids counts lt).0
 
@@ -56,19 +56,19 @@ module _ (z : LockIds) (n : ℕ) (okd : SeatIs (Entry OkdEvent)) (ps : List (Sea
   }
 
   pub enters_there : (c d : SeatIs (Entry ProxyEvent)) (t : TurnIs) (event : ProxyEvent) (before : List (Entry ProxyEvent)) (now : List Own) → c ≡ get_or ps p c → t ≡ get_or ts p t → Enters event before c d → now ≡ mine
-      → EntersProxy p event before (sat_of n okd ps pubd log board mine) (sat_of n okd (set ps p d) pubd log board now)
-  enters_there c d t event before now e f h same = proxy_enters z n okd ps pubd log board mine inv p c d event before now within e (there c t e f).at.number_is h same
+      → EntersProxy p event before (sat_of n okd ps pubd log board mine spare) (sat_of n okd (set ps p d) pubd log board now spare)
+  enters_there c d t event before now e f h same = proxy_enters z n okd ps pubd log board mine spare inv p c d event before now within e (there c t e f).at.number_is h same
 
   pub sees_there : (c d : SeatIs (Entry ProxyEvent)) (t : TurnIs) (before : List (Entry ProxyEvent)) (now : List Own) → c ≡ get_or ps p c → t ≡ get_or ts p t → Sees before c d → now ≡ mine
-      → SeesProxy p before (sat_of n okd ps pubd log board mine) (sat_of n okd (set ps p d) pubd log board now)
-  sees_there c d t before now e f h same = proxy_sees z n okd ps pubd log board mine inv p c d before now within e (there c t e f).at.number_is h same
+      → SeesProxy p before (sat_of n okd ps pubd log board mine spare) (sat_of n okd (set ps p d) pubd log board now spare)
+  sees_there c d t before now e f h same = proxy_sees z n okd ps pubd log board mine spare inv p c d before now within e (there c t e f).at.number_is h same
 
   pub revokes_there : (c d : SeatIs (Entry ProxyEvent)) (t : TurnIs) (event : ℕ → ProxyEvent) (o : Option ℕ) (before : List (Entry ProxyEvent)) → c ≡ get_or ps p c → t ≡ get_or ts p t → EntersAny event o before c d
-      → RevokesProxy p event o before (sat_of n okd ps pubd log board mine) (sat_of n okd (set ps p d) pubd log board mine)
+      → RevokesProxy p event o before (sat_of n okd ps pubd log board mine spare) (sat_of n okd (set ps p d) pubd log board mine spare)
   revokes_there c d t event None before e f h = sees_there c d t before mine e f h refl
   revokes_there c d t event (Some k) before e f h = enters_there c d t (event k) before mine e f h refl
 
   pub turned_there : {A X : Type 0} (r : Result A X) (c d : SeatIs (Entry ProxyEvent)) (t : TurnIs) (before : List (Entry ProxyEvent)) (now : List Own) → c ≡ get_or ps p c → t ≡ get_or ts p t → Sees before c d → now ≡ mine
-      → OnErr r ((before : List (Entry ProxyEvent)) × SeesProxy p before (sat_of n okd ps pubd log board mine) (sat_of n okd (set ps p d) pubd log board now))
+      → OnErr r ((before : List (Entry ProxyEvent)) × SeesProxy p before (sat_of n okd ps pubd log board mine spare) (sat_of n okd (set ps p d) pubd log board now spare))
   turned_there (Ok v) c d t before now e f h same = tt
   turned_there (Err x) c d t before now e f h same = (before, sees_there c d t before now e f h same)

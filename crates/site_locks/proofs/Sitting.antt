@@ -29,20 +29,20 @@ entry_is n event before a d number h = ap (λ (x : SeatIs (Entry _)). x.seen) h.
 sight_is : {E : Type 0} (before : List (Entry E)) (a d : SeatIs (Entry E)) → Sees before a d → d.seen ≡ before
 sight_is before a d h = ap (λ (x : SeatIs (Entry _)). x.seen) h.is
 
-module _ (z : LockIds) (n : ℕ) (okd : SeatIs (Entry OkdEvent)) (ps : List (SeatIs (Entry ProxyEvent))) (pubd : SeatIs (Entry PubdEvent)) (log : SeatIs (Entry LogEvent)) (board : BoardSeat) (mine : List Own) (h : AreSeats z n okd ps pubd log board) where
+module _ (z : LockIds) (n : ℕ) (okd : SeatIs (Entry OkdEvent)) (ps : List (SeatIs (Entry ProxyEvent))) (pubd : SeatIs (Entry PubdEvent)) (log : SeatIs (Entry LogEvent)) (board : BoardSeat) (mine : List Own) (spare : ℕ) (h : AreSeats z n okd ps pubd log board) where
   pub okd_enters : (event : OkdEvent) (before : List (Entry OkdEvent)) (d : SeatIs (Entry OkdEvent)) (now : List Own) → Enters event before okd d → now ≡ mine
-      → EntersOkd event before (sat_of n okd ps pubd log board mine) (sat_of n d ps pubd log board now)
+      → EntersOkd event before (sat_of n okd ps pubd log board mine spare) (sat_of n d ps pubd log board now spare)
   okd_enters event before d now t more =
       let entry : d.seen ≡ record { worker = n; event = event } ∷ before = entry_is n event before okd d h.okd_at.number_is t in record {
         grows = subst (λ k. GrowsBy by_entry k okd.seen before) h.okd_at.number_is t.grows;
-        is = λ k. record { number = n; okd = entry k; proxies = map (λ (a : SeatIs (Entry ProxyEvent)). a.seen) ps; pubd = pubd.seen; oklogd = log.seen; board = board.seen; drawn = board.drawn; own = more k };
+        is = λ k. record { number = n; okd = entry k; proxies = map (λ (a : SeatIs (Entry ProxyEvent)). a.seen) ps; pubd = pubd.seen; oklogd = log.seen; board = board.seen; drawn = board.drawn; own = more k; spare = spare };
       }
 
-  pub okd_sees : (before : List (Entry OkdEvent)) (d : SeatIs (Entry OkdEvent)) (now : List Own) → Sees before okd d → now ≡ mine → SeesOkd before (sat_of n okd ps pubd log board mine) (sat_of n d ps pubd log board now)
+  pub okd_sees : (before : List (Entry OkdEvent)) (d : SeatIs (Entry OkdEvent)) (now : List Own) → Sees before okd d → now ≡ mine → SeesOkd before (sat_of n okd ps pubd log board mine spare) (sat_of n d ps pubd log board now spare)
   okd_sees before d now t same =
       let sight : d.seen ≡ before = sight_is before okd d t in record {
         grows = subst (λ k. GrowsBy by_entry k okd.seen before) h.okd_at.number_is t.grows;
-        is = λ k. record { number = n; okd = sight k; proxies = map (λ (a : SeatIs (Entry ProxyEvent)). a.seen) ps; pubd = pubd.seen; oklogd = log.seen; board = board.seen; drawn = board.drawn; own = same k };
+        is = λ k. record { number = n; okd = sight k; proxies = map (λ (a : SeatIs (Entry ProxyEvent)). a.seen) ps; pubd = pubd.seen; oklogd = log.seen; board = board.seen; drawn = board.drawn; own = same k; spare = spare };
       }
 
   pub okd_entered : (event : OkdEvent) (before : List (Entry OkdEvent)) (d : SeatIs (Entry OkdEvent)) → Enters event before okd d → AreSeats z n d ps pubd log board
@@ -52,18 +52,18 @@ module _ (z : LockIds) (n : ℕ) (okd : SeatIs (Entry OkdEvent)) (ps : List (Sea
   okd_seen before d t = record { okd_at = still z.okd 0 n before okd d h.okd_at t.is; proxies_at = h.proxies_at; pubd_at = h.pubd_at; oklogd_at = h.oklogd_at; board_at = h.board_at }
 
   pub pubd_enters : (event : PubdEvent) (before : List (Entry PubdEvent)) (d : SeatIs (Entry PubdEvent)) (now : List Own) → Enters event before pubd d → now ≡ mine
-      → EntersPubd event before (sat_of n okd ps pubd log board mine) (sat_of n okd ps d log board now)
+      → EntersPubd event before (sat_of n okd ps pubd log board mine spare) (sat_of n okd ps d log board now spare)
   pubd_enters event before d now t more =
       let entry : d.seen ≡ record { worker = n; event = event } ∷ before = entry_is n event before pubd d h.pubd_at.number_is t in record {
         grows = subst (λ k. GrowsBy by_entry k pubd.seen before) h.pubd_at.number_is t.grows;
-        is = λ k. record { number = n; okd = okd.seen; proxies = map (λ (a : SeatIs (Entry ProxyEvent)). a.seen) ps; pubd = entry k; oklogd = log.seen; board = board.seen; drawn = board.drawn; own = more k };
+        is = λ k. record { number = n; okd = okd.seen; proxies = map (λ (a : SeatIs (Entry ProxyEvent)). a.seen) ps; pubd = entry k; oklogd = log.seen; board = board.seen; drawn = board.drawn; own = more k; spare = spare };
       }
 
-  pub pubd_sees : (before : List (Entry PubdEvent)) (d : SeatIs (Entry PubdEvent)) (now : List Own) → Sees before pubd d → now ≡ mine → SeesPubd before (sat_of n okd ps pubd log board mine) (sat_of n okd ps d log board now)
+  pub pubd_sees : (before : List (Entry PubdEvent)) (d : SeatIs (Entry PubdEvent)) (now : List Own) → Sees before pubd d → now ≡ mine → SeesPubd before (sat_of n okd ps pubd log board mine spare) (sat_of n okd ps d log board now spare)
   pubd_sees before d now t same =
       let sight : d.seen ≡ before = sight_is before pubd d t in record {
         grows = subst (λ k. GrowsBy by_entry k pubd.seen before) h.pubd_at.number_is t.grows;
-        is = λ k. record { number = n; okd = okd.seen; proxies = map (λ (a : SeatIs (Entry ProxyEvent)). a.seen) ps; pubd = sight k; oklogd = log.seen; board = board.seen; drawn = board.drawn; own = same k };
+        is = λ k. record { number = n; okd = okd.seen; proxies = map (λ (a : SeatIs (Entry ProxyEvent)). a.seen) ps; pubd = sight k; oklogd = log.seen; board = board.seen; drawn = board.drawn; own = same k; spare = spare };
       }
 
   pub pubd_entered : (event : PubdEvent) (before : List (Entry PubdEvent)) (d : SeatIs (Entry PubdEvent)) → Enters event before pubd d → AreSeats z n okd ps d log board
@@ -73,18 +73,18 @@ module _ (z : LockIds) (n : ℕ) (okd : SeatIs (Entry OkdEvent)) (ps : List (Sea
   pubd_seen before d t = record { okd_at = h.okd_at; proxies_at = h.proxies_at; pubd_at = still z.pubd 0 n before pubd d h.pubd_at t.is; oklogd_at = h.oklogd_at; board_at = h.board_at }
 
   pub log_enters : (event : LogEvent) (before : List (Entry LogEvent)) (d : SeatIs (Entry LogEvent)) (now : List Own) → Enters event before log d → now ≡ mine
-      → EntersLog event before (sat_of n okd ps pubd log board mine) (sat_of n okd ps pubd d board now)
+      → EntersLog event before (sat_of n okd ps pubd log board mine spare) (sat_of n okd ps pubd d board now spare)
   log_enters event before d now t more =
       let entry : d.seen ≡ record { worker = n; event = event } ∷ before = entry_is n event before log d h.oklogd_at.number_is t in record {
         grows = subst (λ k. GrowsBy by_entry k log.seen before) h.oklogd_at.number_is t.grows;
-        is = λ k. record { number = n; okd = okd.seen; proxies = map (λ (a : SeatIs (Entry ProxyEvent)). a.seen) ps; pubd = pubd.seen; oklogd = entry k; board = board.seen; drawn = board.drawn; own = more k };
+        is = λ k. record { number = n; okd = okd.seen; proxies = map (λ (a : SeatIs (Entry ProxyEvent)). a.seen) ps; pubd = pubd.seen; oklogd = entry k; board = board.seen; drawn = board.drawn; own = more k; spare = spare };
       }
 
-  pub log_sees : (before : List (Entry LogEvent)) (d : SeatIs (Entry LogEvent)) (now : List Own) → Sees before log d → now ≡ mine → SeesLog before (sat_of n okd ps pubd log board mine) (sat_of n okd ps pubd d board now)
+  pub log_sees : (before : List (Entry LogEvent)) (d : SeatIs (Entry LogEvent)) (now : List Own) → Sees before log d → now ≡ mine → SeesLog before (sat_of n okd ps pubd log board mine spare) (sat_of n okd ps pubd d board now spare)
   log_sees before d now t same =
       let sight : d.seen ≡ before = sight_is before log d t in record {
         grows = subst (λ k. GrowsBy by_entry k log.seen before) h.oklogd_at.number_is t.grows;
-        is = λ k. record { number = n; okd = okd.seen; proxies = map (λ (a : SeatIs (Entry ProxyEvent)). a.seen) ps; pubd = pubd.seen; oklogd = sight k; board = board.seen; drawn = board.drawn; own = same k };
+        is = λ k. record { number = n; okd = okd.seen; proxies = map (λ (a : SeatIs (Entry ProxyEvent)). a.seen) ps; pubd = pubd.seen; oklogd = sight k; board = board.seen; drawn = board.drawn; own = same k; spare = spare };
       }
 
   pub log_entered : (event : LogEvent) (before : List (Entry LogEvent)) (d : SeatIs (Entry LogEvent)) → Enters event before log d → AreSeats z n okd ps pubd d board
@@ -95,74 +95,74 @@ module _ (z : LockIds) (n : ℕ) (okd : SeatIs (Entry OkdEvent)) (ps : List (Sea
 
   -- seat c is that of proxy p
   pub proxy_enters : (p : ℕ) (c d : SeatIs (Entry ProxyEvent)) (event : ProxyEvent) (before : List (Entry ProxyEvent)) (now : List Own) → p < length ps → c ≡ get_or ps p c → c.number ≡ n → Enters event before c d
-      → now ≡ mine → EntersProxy p event before (sat_of n okd ps pubd log board mine) (sat_of n okd (set ps p d) pubd log board now)
+      → now ≡ mine → EntersProxy p event before (sat_of n okd ps pubd log board mine spare) (sat_of n okd (set ps p d) pubd log board now spare)
   proxy_enters p c d event before now lt is number t more =
       let entry : d.seen ≡ record { worker = n; event = event } ∷ before = entry_is n event before c d number t in
       let row : map (λ (a : SeatIs (Entry ProxyEvent)). a.seen) (set ps p d) ≡ set (map (λ (a : SeatIs (Entry ProxyEvent)). a.seen) ps) p (record { worker = n; event = event } ∷ before) = map_set (λ (a : SeatIs (Entry ProxyEvent)). a.seen) ps p d ∙ ap (set (map (λ (a : SeatIs (Entry ProxyEvent)). a.seen) ps) p) entry in record {
         grows = subst (λ J. GrowsBy by_entry n J before) (sym (seen_at ps p c lt is)) (subst (λ k. GrowsBy by_entry k c.seen before) number t.grows);
-        is = λ k. record { number = n; okd = okd.seen; proxies = row k; pubd = pubd.seen; oklogd = log.seen; board = board.seen; drawn = board.drawn; own = more k };
+        is = λ k. record { number = n; okd = okd.seen; proxies = row k; pubd = pubd.seen; oklogd = log.seen; board = board.seen; drawn = board.drawn; own = more k; spare = spare };
       }
 
   pub proxy_sees : (p : ℕ) (c d : SeatIs (Entry ProxyEvent)) (before : List (Entry ProxyEvent)) (now : List Own) → p < length ps → c ≡ get_or ps p c → c.number ≡ n → Sees before c d → now ≡ mine
-      → SeesProxy p before (sat_of n okd ps pubd log board mine) (sat_of n okd (set ps p d) pubd log board now)
+      → SeesProxy p before (sat_of n okd ps pubd log board mine spare) (sat_of n okd (set ps p d) pubd log board now spare)
   proxy_sees p c d before now lt is number t same =
       let sight : d.seen ≡ before = sight_is before c d t in
       let row : map (λ (a : SeatIs (Entry ProxyEvent)). a.seen) (set ps p d) ≡ set (map (λ (a : SeatIs (Entry ProxyEvent)). a.seen) ps) p before = map_set (λ (a : SeatIs (Entry ProxyEvent)). a.seen) ps p d ∙ ap (set (map (λ (a : SeatIs (Entry ProxyEvent)). a.seen) ps) p) sight in record {
         grows = subst (λ J. GrowsBy by_entry n J before) (sym (seen_at ps p c lt is)) (subst (λ k. GrowsBy by_entry k c.seen before) number t.grows);
-        is = λ k. record { number = n; okd = okd.seen; proxies = row k; pubd = pubd.seen; oklogd = log.seen; board = board.seen; drawn = board.drawn; own = same k };
+        is = λ k. record { number = n; okd = okd.seen; proxies = row k; pubd = pubd.seen; oklogd = log.seen; board = board.seen; drawn = board.drawn; own = same k; spare = spare };
       }
 
   -- nothing was entered, and nothing was seen
-  pub okd_rests : (now : List Own) → now ≡ mine → SeesOkd okd.seen (sat_of n okd ps pubd log board mine) (sat_of n okd ps pubd log board now)
+  pub okd_rests : (now : List Own) → now ≡ mine → SeesOkd okd.seen (sat_of n okd ps pubd log board mine spare) (sat_of n okd ps pubd log board now spare)
   okd_rests now same = record {
     grows = ([], refl, refl);
-    is = λ k. record { number = n; okd = okd.seen; proxies = map (λ (a : SeatIs (Entry ProxyEvent)). a.seen) ps; pubd = pubd.seen; oklogd = log.seen; board = board.seen; drawn = board.drawn; own = same k };
+    is = λ k. record { number = n; okd = okd.seen; proxies = map (λ (a : SeatIs (Entry ProxyEvent)). a.seen) ps; pubd = pubd.seen; oklogd = log.seen; board = board.seen; drawn = board.drawn; own = same k; spare = spare };
   }
 
-  pub proxy_rests : (p : ℕ) (now : List Own) → now ≡ mine → SeesProxy p (proxy_past (map (λ (a : SeatIs (Entry ProxyEvent)). a.seen) ps) p) (sat_of n okd ps pubd log board mine) (sat_of n okd ps pubd log board now)
+  pub proxy_rests : (p : ℕ) (now : List Own) → now ≡ mine → SeesProxy p (proxy_past (map (λ (a : SeatIs (Entry ProxyEvent)). a.seen) ps) p) (sat_of n okd ps pubd log board mine spare) (sat_of n okd ps pubd log board now spare)
   proxy_rests p now same =
       let row : map (λ (a : SeatIs (Entry ProxyEvent)). a.seen) ps ≡ set (map (λ (a : SeatIs (Entry ProxyEvent)). a.seen) ps) p (get_or (map (λ (a : SeatIs (Entry ProxyEvent)). a.seen) ps) p []) = sym (set_same (map (λ (a : SeatIs (Entry ProxyEvent)). a.seen) ps) p []) in record {
         grows = ([], refl, refl);
-        is = λ k. record { number = n; okd = okd.seen; proxies = row k; pubd = pubd.seen; oklogd = log.seen; board = board.seen; drawn = board.drawn; own = same k };
+        is = λ k. record { number = n; okd = okd.seen; proxies = row k; pubd = pubd.seen; oklogd = log.seen; board = board.seen; drawn = board.drawn; own = same k; spare = spare };
       }
 
-  pub pubd_rests : (now : List Own) → now ≡ mine → SeesPubd pubd.seen (sat_of n okd ps pubd log board mine) (sat_of n okd ps pubd log board now)
+  pub pubd_rests : (now : List Own) → now ≡ mine → SeesPubd pubd.seen (sat_of n okd ps pubd log board mine spare) (sat_of n okd ps pubd log board now spare)
   pubd_rests now same = record {
     grows = ([], refl, refl);
-    is = λ k. record { number = n; okd = okd.seen; proxies = map (λ (a : SeatIs (Entry ProxyEvent)). a.seen) ps; pubd = pubd.seen; oklogd = log.seen; board = board.seen; drawn = board.drawn; own = same k };
+    is = λ k. record { number = n; okd = okd.seen; proxies = map (λ (a : SeatIs (Entry ProxyEvent)). a.seen) ps; pubd = pubd.seen; oklogd = log.seen; board = board.seen; drawn = board.drawn; own = same k; spare = spare };
   }
 
-  pub log_rests : (now : List Own) → now ≡ mine → SeesLog log.seen (sat_of n okd ps pubd log board mine) (sat_of n okd ps pubd log board now)
+  pub log_rests : (now : List Own) → now ≡ mine → SeesLog log.seen (sat_of n okd ps pubd log board mine spare) (sat_of n okd ps pubd log board now spare)
   log_rests now same = record {
     grows = ([], refl, refl);
-    is = λ k. record { number = n; okd = okd.seen; proxies = map (λ (a : SeatIs (Entry ProxyEvent)). a.seen) ps; pubd = pubd.seen; oklogd = log.seen; board = board.seen; drawn = board.drawn; own = same k };
+    is = λ k. record { number = n; okd = okd.seen; proxies = map (λ (a : SeatIs (Entry ProxyEvent)). a.seen) ps; pubd = pubd.seen; oklogd = log.seen; board = board.seen; drawn = board.drawn; own = same k; spare = spare };
   }
 
   -- the same where a call is refused memory before its turn, or in it
-  pub okd_unturned : {A X : Type 0} (r : Result A X) (now : List Own) → now ≡ mine → OnErr r ((before : List (Entry OkdEvent)) × SeesOkd before (sat_of n okd ps pubd log board mine) (sat_of n okd ps pubd log board now))
+  pub okd_unturned : {A X : Type 0} (r : Result A X) (now : List Own) → now ≡ mine → OnErr r ((before : List (Entry OkdEvent)) × SeesOkd before (sat_of n okd ps pubd log board mine spare) (sat_of n okd ps pubd log board now spare))
   okd_unturned (Ok v) now same = tt
   okd_unturned (Err x) now same = (okd.seen, okd_rests now same)
 
-  pub okd_turned : {A X : Type 0} (r : Result A X) (before : List (Entry OkdEvent)) (d : SeatIs (Entry OkdEvent)) (now : List Own) → Sees before okd d → now ≡ mine → OnErr r ((before : List (Entry OkdEvent)) × SeesOkd before (sat_of n okd ps pubd log board mine) (sat_of n d ps pubd log board now))
+  pub okd_turned : {A X : Type 0} (r : Result A X) (before : List (Entry OkdEvent)) (d : SeatIs (Entry OkdEvent)) (now : List Own) → Sees before okd d → now ≡ mine → OnErr r ((before : List (Entry OkdEvent)) × SeesOkd before (sat_of n okd ps pubd log board mine spare) (sat_of n d ps pubd log board now spare))
   okd_turned (Ok v) before d now t same = tt
   okd_turned (Err x) before d now t same = (before, okd_sees before d now t same)
 
-  pub pubd_unturned : {A X : Type 0} (r : Result A X) (now : List Own) → now ≡ mine → OnErr r ((before : List (Entry PubdEvent)) × SeesPubd before (sat_of n okd ps pubd log board mine) (sat_of n okd ps pubd log board now))
+  pub pubd_unturned : {A X : Type 0} (r : Result A X) (now : List Own) → now ≡ mine → OnErr r ((before : List (Entry PubdEvent)) × SeesPubd before (sat_of n okd ps pubd log board mine spare) (sat_of n okd ps pubd log board now spare))
   pubd_unturned (Ok v) now same = tt
   pubd_unturned (Err x) now same = (pubd.seen, pubd_rests now same)
 
-  pub pubd_turned : {A X : Type 0} (r : Result A X) (before : List (Entry PubdEvent)) (d : SeatIs (Entry PubdEvent)) (now : List Own) → Sees before pubd d → now ≡ mine → OnErr r ((before : List (Entry PubdEvent)) × SeesPubd before (sat_of n okd ps pubd log board mine) (sat_of n okd ps d log board now))
+  pub pubd_turned : {A X : Type 0} (r : Result A X) (before : List (Entry PubdEvent)) (d : SeatIs (Entry PubdEvent)) (now : List Own) → Sees before pubd d → now ≡ mine → OnErr r ((before : List (Entry PubdEvent)) × SeesPubd before (sat_of n okd ps pubd log board mine spare) (sat_of n okd ps d log board now spare))
   pubd_turned (Ok v) before d now t same = tt
   pubd_turned (Err x) before d now t same = (before, pubd_sees before d now t same)
 
-  pub log_unturned : {A X : Type 0} (r : Result A X) (now : List Own) → now ≡ mine → OnErr r ((before : List (Entry LogEvent)) × SeesLog before (sat_of n okd ps pubd log board mine) (sat_of n okd ps pubd log board now))
+  pub log_unturned : {A X : Type 0} (r : Result A X) (now : List Own) → now ≡ mine → OnErr r ((before : List (Entry LogEvent)) × SeesLog before (sat_of n okd ps pubd log board mine spare) (sat_of n okd ps pubd log board now spare))
   log_unturned (Ok v) now same = tt
   log_unturned (Err x) now same = (log.seen, log_rests now same)
 
-  pub log_turned : {A X : Type 0} (r : Result A X) (before : List (Entry LogEvent)) (d : SeatIs (Entry LogEvent)) (now : List Own) → Sees before log d → now ≡ mine → OnErr r ((before : List (Entry LogEvent)) × SeesLog before (sat_of n okd ps pubd log board mine) (sat_of n okd ps pubd d board now))
+  pub log_turned : {A X : Type 0} (r : Result A X) (before : List (Entry LogEvent)) (d : SeatIs (Entry LogEvent)) (now : List Own) → Sees before log d → now ≡ mine → OnErr r ((before : List (Entry LogEvent)) × SeesLog before (sat_of n okd ps pubd log board mine spare) (sat_of n okd ps pubd d board now spare))
   log_turned (Ok v) before d now t same = tt
   log_turned (Err x) before d now t same = (before, log_sees before d now t same)
 
-  pub proxy_unturned : {A X : Type 0} (r : Result A X) (p : ℕ) (now : List Own) → now ≡ mine → OnErr r ((before : List (Entry ProxyEvent)) × SeesProxy p before (sat_of n okd ps pubd log board mine) (sat_of n okd ps pubd log board now))
+  pub proxy_unturned : {A X : Type 0} (r : Result A X) (p : ℕ) (now : List Own) → now ≡ mine → OnErr r ((before : List (Entry ProxyEvent)) × SeesProxy p before (sat_of n okd ps pubd log board mine spare) (sat_of n okd ps pubd log board now spare))
   proxy_unturned (Ok v) p now same = tt
   proxy_unturned (Err x) p now same = (proxy_past (map (λ (a : SeatIs (Entry ProxyEvent)). a.seen) ps) p, proxy_rests p now same)

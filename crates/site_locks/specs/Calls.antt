@@ -66,8 +66,9 @@ PublishesAt w t content NoSuchTemplate J before now = now ≡ J
 PublishesAt w t content TooLong J before now = now ≡ J
 PublishesAt w t content EditionsSpent J before now = now ≡ J
 
--- The number is the same, and what it has seen and drawn on the board.
+-- The number is the same, what it has seen and drawn on the board, and how many items it may note without memory.
 pub record SameBoard (s now : Sat) : Type 0 where
   pub number_is : now.number ≡ s.number
   pub board_is : now.board ≡ s.board
   pub drawn_is : now.drawn ≡ s.drawn
+  pub spare_is : now.spare ≡ s.spare

@@ -56,7 +56,7 @@ pub record EndsAre : Type 0 where
 -- The seats of one number at these locks.
 pub record AreOf (l : LocksAre) (s : Sat) (e : EndsAre) : Type 0 where
   pub seats : AreSeats (ids_of l) s.number e.okd e.proxies e.pubd e.oklogd e.board
-  pub sat_is : s ≡ sat_of s.number e.okd e.proxies e.pubd e.oklogd e.board s.own
+  pub sat_is : s ≡ sat_of s.number e.okd e.proxies e.pubd e.oklogd e.board s.own s.spare
 
 -- They are at these locks, and hold no turn.
 pub record RestAt (l : LocksAre) (e : EndsAre) : Type 0 where

@@ -12,9 +12,9 @@ use Rattle.turn_lock.specs.Rows.{FreshRows}
 use Rattle.turn_lock.specs.Seats.{SeatIs, AreFresh}
 use Rattle.site_locks.specs.Sat.{LocksAre, AreLocks, Sat, ids_of}
 
--- What number k has seen before it did anything, in a run of so many proxies.
+-- What number k has seen before it did anything, in a run of so many proxies. It has no spare place in its own list.
 abbrev pub fresh : ℕ → ℕ → Sat
-fresh proxies k = record { number = k; okd = []; proxies = replicate proxies []; pubd = []; oklogd = []; board = none_begun; drawn = []; own = [] }
+fresh proxies k = record { number = k; okd = []; proxies = replicate proxies []; pubd = []; oklogd = []; board = none_begun; drawn = []; own = []; spare = 0 }
 
 -- The same of numbers that rise by one from k.
 abbrev pub AreFreshFrom : ℕ → ℕ → List Sat → Type 0

@@ -92,7 +92,7 @@ pub record AreSeats (z : LockIds) (n : ℕ) (okd : SeatIs (Entry OkdEvent)) (pro
   pub oklogd_at : AtLock z.oklogd 0 n oklogd
   pub board_at : AtBoard z.board n board
 
--- What a number has seen of each column, the newest first, what it has seen on the board of each service, the connection numbers that it drew, the last one first, and its own items.
+-- What a number has seen of each column, the newest first, what it has seen on the board of each service, the connection numbers that it drew, the last one first, its own items, and how many more of these it may note without memory.
 pub record Sat : Type 0 where
   pub number : ℕ
   pub okd : List (Entry OkdEvent)
@@ -102,10 +102,11 @@ pub record Sat : Type 0 where
   pub board : List ℕ
   pub drawn : List ℕ
   pub own : List Own
+  pub spare : ℕ
 
--- The same, of its seats and its own list.
-abbrev pub sat_of : ℕ → SeatIs (Entry OkdEvent) → List (SeatIs (Entry ProxyEvent)) → SeatIs (Entry PubdEvent) → SeatIs (Entry LogEvent) → BoardSeat → List Own → Sat
-sat_of n okd proxies pubd oklogd board mine = record {
+-- The same, of its seats, its own list and its spare places there.
+abbrev pub sat_of : ℕ → SeatIs (Entry OkdEvent) → List (SeatIs (Entry ProxyEvent)) → SeatIs (Entry PubdEvent) → SeatIs (Entry LogEvent) → BoardSeat → List Own → ℕ → Sat
+sat_of n okd proxies pubd oklogd board mine places = record {
   number = n;
   okd = okd.seen;
   proxies = map (λ (a : SeatIs (Entry ProxyEvent)). a.seen) proxies;
@@ -114,6 +115,7 @@ sat_of n okd proxies pubd oklogd board mine = record {
   board = board.seen;
   drawn = board.drawn;
   own = mine;
+  spare = places;
 }
 
 -- What a number had seen of each column at its own last entry there, and its own items.

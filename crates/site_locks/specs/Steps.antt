@@ -1,5 +1,5 @@
 -- What one call of a number does to what it has seen.
-use Rattle.std.specs.Prelude.{◌≡◌, ℕ, List, ◌∷◌, Option, Some, None, slice_set}
+use Rattle.std.specs.Prelude.{◌≡◌, ◌+◌, ℕ, List, ◌∷◌, Option, Some, None, slice_set}
 use Rattle.okws_base.specs.Turns.{GrowsBy}
 use Rattle.okws_base.specs.declared.journal.Entry.{Entry}
 use Rattle.okws_plan.specs.declared.event.OkdEvent.{OkdEvent}
@@ -15,6 +15,10 @@ use Rattle.site_locks.specs.Sat.{Sat}
 -- An item of the number's that is no entry.
 abbrev pub noted : Sat → Own → Sat
 noted s item = record s { own = item ∷ s.own }
+
+-- Such an item is noted in a spare place.
+abbrev pub NotesSpare : Own → Sat → Sat → Type 0
+NotesSpare item s now = (now ≡ record (noted s item) { spare = now.spare }) × (now.spare + 1 ≡ s.spare)
 
 -- The number entered an event at okd, on `before`, which is what it had seen and what others entered since. Everything else stays.
 pub record EntersOkd (event : OkdEvent) (before : List (Entry OkdEvent)) (s now : Sat) : Type 0 where

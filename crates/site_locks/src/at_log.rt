@@ -39,7 +39,7 @@ impl<N: Backed, J: Site, K: Keeper, S: Sink> Seats<N, J, K, S> {
         ensures ok { IfOk result (λ v. (before : List (Entry LogEvent)) × (v ≡ log_verdict N.site before service incarnation text) × NotesLog (event.Log service incarnation text) before self.old self.new) }
         ensures err { OnErr result ((before : List (Entry LogEvent)) × SeesLog before self.old self.new) }
     {
-        self.own.make_room(1)?;
+        self.own.make_room(self.spare as usize + 1)?;
         let item = Own::Oklogd(LogEvent::Log {
             service,
             incarnation,

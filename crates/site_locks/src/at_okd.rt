@@ -38,7 +38,7 @@ impl<N: Backed, J: Site, K: Keeper, S: Sink> Seats<N, J, K, S> {
         ensures goes { IfOk result (λ way. IfSome (goes_of way) (λ (at : ℕ × ℕ). (at.0 < length N.site.services) × (0 < at.1))) }
         ensures err { OnErr result ((before : List (Entry OkdEvent)) × SeesOkd before self.old self.new) }
     {
-        self.own.make_room(1)?;
+        self.own.make_room(self.spare as usize + 1)?;
         let item = Own::Okd(OkdEvent::Accept(path.copy(self.alloc)?));
         let way = okd_turn::accept(rt, &locks.okd, &mut self.okd, path)?;
         self.own.enter(item);

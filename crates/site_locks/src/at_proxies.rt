@@ -76,7 +76,7 @@ impl<N: Backed, J: Site, K: Keeper, S: Sink> Seats<N, J, K, S> {
         ensures ok { IfOk result (λ v. (before : List (Entry ProxyEvent)) × (v ≡ open_verdict before service incarnation shown) × NotesProxy proxy (event.Open service incarnation shown) before self.old self.new) }
         ensures err { OnErr result ((before : List (Entry ProxyEvent)) × SeesProxy proxy before self.old self.new) }
     {
-        self.own.make_room(1)?;
+        self.own.make_room(self.spare as usize + 1)?;
         let turn = &locks.proxies[proxy as usize];
         let seat = &mut self.proxies[proxy as usize];
         let verdict = proxy_turn::open_session(rt, turn, seat, service, incarnation, shown)?;
@@ -107,7 +107,7 @@ impl<N: Backed, J: Site, K: Keeper, S: Sink> Seats<N, J, K, S> {
         ensures narrow { IfOk result (λ s. IsNarrow (verdict_of (λ p. Rows (K.Pin.width p) (K.Pin.rows p)) s)) }
         ensures err { OnErr result ((before : List (Entry ProxyEvent)) × SeesProxy proxy before self.old self.new) }
     {
-        self.own.make_room(1)?;
+        self.own.make_room(self.spare as usize + 1)?;
         let copy = copy_of_call(self.alloc, &call)?;
         let turn = &locks.proxies[proxy as usize];
         let seat = &mut self.proxies[proxy as usize];

@@ -44,7 +44,7 @@ impl<N: Backed, J: Site, K: Keeper, S: Sink> Seats<N, J, K, S> {
         ensures short { IfOk result (λ v. Each IsShortPush v.items) }
         ensures err { OnErr result ((before : List (Entry PubdEvent)) × SeesPubd before self.old self.new) }
     {
-        self.own.make_room(2)?;
+        self.own.make_room(self.spare as usize + 2)?;
         let pushes = pubd_turn::drain(rt, &locks.pubd, &mut self.pubd, service, incarnation)?;
         self.own.enter(Own::Dialog(service));
         self.own.enter(Own::Pubd(PubdEvent::Drain {
@@ -69,7 +69,7 @@ impl<N: Backed, J: Site, K: Keeper, S: Sink> Seats<N, J, K, S> {
         ensures short { IfOk result IsShortGot }
         ensures err { OnErr result ((before : List (Entry PubdEvent)) × SeesPubd before self.old self.new) }
     {
-        self.own.make_room(1)?;
+        self.own.make_room(self.spare as usize + 1)?;
         let item = Own::Pubd(PubdEvent::Get {
             service,
             incarnation,
@@ -94,7 +94,7 @@ impl<N: Backed, J: Site, K: Keeper, S: Sink> Seats<N, J, K, S> {
         ensures ok { IfOk result (λ v. (before : List (Entry PubdEvent)) × (v ≡ publish_at before (Some template) content) × Publishes template content v before self.old self.new) }
         ensures err { OnErr result ((before : List (Entry PubdEvent)) × SeesPubd before self.old self.new) }
     {
-        self.own.make_room(1)?;
+        self.own.make_room(self.spare as usize + 1)?;
         let item = Own::Pubd(PubdEvent::Publish {
             template,
             content: content.copy(self.alloc)?,

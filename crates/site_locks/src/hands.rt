@@ -1,6 +1,6 @@
 //! The columns behind their locks, as dialogs ask them.
 
-ghost use Rattle.std.specs.Prelude.{◌≡◌, ◌<◌, ◌≤◌, ◌∷◌, ℕ, List, true, false, IfOk, IfSome, OnErr, Some, length, slice_index};
+ghost use Rattle.std.specs.Prelude.{◌≡◌, ◌<◌, ◌≤◌, ◌∷◌, ℕ, List, true, false, IfOk, IfSome, OnOk, OnErr, Some, length, slice_index};
 ghost use Rattle.okws_base.specs.declared.journal.Entry.{Entry};
 ghost use Rattle.okws_base.specs.declared.limit.TheConstants.{LONGEST_TEMPLATE};
 ghost use Rattle.okws_plan.specs.declared.event.OkdEvent.{OkdEvent};
@@ -14,6 +14,7 @@ ghost use Rattle.monitor_model.specs.Script.{goes_of};
 ghost use Rattle.monitor_model.specs.Seen.{AtOkd};
 ghost use Rattle.site_locks.specs.Calls.{PublishesAt, SameBoard};
 ghost use Rattle.site_locks.specs.Sat.{seen_of};
+ghost use Rattle.site_locks.specs.Steps.{NotesSpare};
 
 use crate::locks::{Locks, Seats};
 use crate::named::Site;
@@ -106,6 +107,30 @@ impl<'a, R: Wait, G: Gate, N: Backed, J: Site, K: Keeper, S: Sink> Hands<'a, R, 
         self.seats.write_out(self.rt, self.locks)
     }
 
+    /// Makes so many spare places in the number's own list. Where memory is refused, there are as many as
+    /// before.
+    pub fn make_spare(&mut self, places: u32) -> Result<(), AllocError>
+        ensures ok { OnOk result (self.new ≡ record self.old { spare = places }) }
+        ensures err { OnErr result (self.new ≡ self.old) }
+    {
+        self.seats.make_spare(places)
+    }
+
+    /// How many spare places the number's own list has.
+    pub fn spare_places(&self) -> u32
+        ensures { result ≡ self.now.spare }
+    {
+        self.seats.spare_places()
+    }
+
+    /// Notes an own item that is no entry in a spare place. Takes no memory.
+    pub fn note_spare(&mut self, item: Own)
+        requires { 0 < self.old.spare }
+        ensures { NotesSpare item self.old self.new }
+    {
+        self.seats.note_spare(item);
+    }
+
     /// Draws a connection number, above all that the number drew. No other number is given it.
     pub fn draw(&mut self) -> u64
         requires { MayDraw self.old.drawn }
@@ -133,6 +158,8 @@ impl<'a, R: Wait, G: Gate, N: Backed, J: Site, K: Keeper, S: Sink> Columns
     ghost asker = { λ h. record { config = N.site; worker = h.number; alone = false } };
 
     ghost token_seed = { λ h. N.run_seed };
+
+    ghost spare = { λ h. h.spare };
 
     ghost seen = { λ h. seen_of h };
 

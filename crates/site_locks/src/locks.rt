@@ -1,8 +1,8 @@
 //! The locks of a run, and the seats of one number at them.
 
-ghost use Rattle.std.specs.Prelude.{◌≡◌, OnOk, OnErr, length};
+ghost use Rattle.std.specs.Prelude.{◌≡◌, ◌≤◌, ◌<◌, OnOk, OnErr, length};
 ghost use Rattle.site_locks.specs.Sat.{AreLocks, AreSeats, LocksAre, sat_of};
-ghost use Rattle.site_locks.specs.Steps.{noted};
+ghost use Rattle.site_locks.specs.Steps.{noted, NotesSpare};
 
 use crate::named::Site;
 use live_board::Board;
@@ -50,7 +50,8 @@ impl<N: Backed, J: Site, K: Keeper, S: Sink> Locks<N, J, K, S> {
     }
 }
 
-/// The seats of one number at the locks and at the board, and its own list.
+/// The seats of one number at the locks and at the board, and its own list. Of the places that its list has
+/// ahead some are spare: each call leaves so many, and an item noted in one takes no memory.
 #[derive(Drop)]
 pub struct Seats<N: Backed, J: Site, K: Keeper, S: Sink> {
     pub(crate) alloc: Global,
@@ -61,17 +62,19 @@ pub struct Seats<N: Backed, J: Site, K: Keeper, S: Sink> {
     pub(crate) oklogd: Seat<SiteLog<N, S>>,
     pub(crate) board: live_board::Seat,
     pub(crate) own: Journal<Own>,
+    pub(crate) spare: u32,
     pub(crate) of: PhantomData<J>,
 }
 
 impl<N: Backed, J: Site, K: Keeper, S: Sink> Model for Seats<N, J, K, S> {
+    ghost use Rattle.std.specs.Prelude.{◌≤◌};
     ghost use Rattle.site_locks.specs.Sat.{Sat, AreSeats, sat_of};
 
     ghost Value = { Sat };
 
-    ghost view = { λ s. sat_of s.number s.okd s.proxies.items s.pubd s.oklogd s.board s.own.past };
+    ghost view = { λ s. sat_of s.number s.okd s.proxies.items s.pubd s.oklogd s.board s.own.past s.spare };
 
-    ghost invariant = { λ s. AreSeats J.ids s.number s.okd s.proxies.items s.pubd s.oklogd s.board };
+    ghost invariant = { λ s. AreSeats J.ids s.number s.okd s.proxies.items s.pubd s.oklogd s.board × (s.spare ≤ s.own.room) };
 }
 
 impl<N: Backed, J: Site, K: Keeper, S: Sink> Seats<N, J, K, S> {
@@ -87,8 +90,34 @@ impl<N: Backed, J: Site, K: Keeper, S: Sink> Seats<N, J, K, S> {
         ensures ok { OnOk result (self.new ≡ noted self.old item) }
         ensures err { OnErr result (self.new ≡ self.old) }
     {
-        self.own.make_room(1)?;
+        self.own.make_room(self.spare as usize + 1)?;
         self.own.enter(item);
         Ok(())
+    }
+
+    /// Makes so many spare places in its own list. Where memory is refused, there are as many as before.
+    pub fn make_spare(&mut self, places: u32) -> Result<(), AllocError>
+        ensures ok { OnOk result (self.new ≡ record self.old { spare = places }) }
+        ensures err { OnErr result (self.new ≡ self.old) }
+    {
+        self.own.make_room(places as usize)?;
+        self.spare = places;
+        Ok(())
+    }
+
+    /// How many spare places its own list has.
+    pub fn spare_places(&self) -> u32
+        ensures { result ≡ self.now.spare }
+    {
+        self.spare
+    }
+
+    /// Notes an own item that is no entry in a spare place. Takes no memory.
+    pub fn note_spare(&mut self, item: Own)
+        requires { 0 < self.old.spare }
+        ensures { NotesSpare item self.old self.new }
+    {
+        self.own.enter(item);
+        self.spare -= 1;
     }
 }

@@ -87,6 +87,7 @@ impl<N: Backed, K: Keeper, S: Sink> Deck<N, K, S> {
             oklogd: last(&mut self.oklogd),
             board: last(&mut self.board),
             own: Journal::new(alloc, keeps),
+            spare: 0,
             of: PhantomData,
         }
     }

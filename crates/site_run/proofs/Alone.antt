@@ -21,12 +21,12 @@ use Rattle.monitor_model.specs.declared.record.CellEvent.TheVariants as cell
 use Rattle.monitor_model.specs.declared.record.Own.{Own}
 use Rattle.monitor_model.specs.declared.record.Own.TheVariants as own
 use Rattle.monitor_model.specs.declared.record.Record.{Record}
-use Rattle.monitor_model.specs.Merged.{LaunchesAlone, cell_items, cell_past, is_at_cell, is_launch, is_log_launch, is_okd_launch, is_proxy_launch, is_pubd_launch, list_of, log_item, okd_item, proxy_item, pubd_item}
+use Rattle.monitor_model.specs.Merged.{IsOwn, LaunchesAlone, cell_items, cell_past, is_at_cell, is_launch, is_log_launch, is_okd_launch, is_proxy_launch, is_pubd_launch, list_of, log_item, okd_item, proxy_item, pubd_item}
 use Rattle.monitor_model.specs.Seen.{proxy_past}
 use Rattle.monitor_model.specs.Standing.{log_grant, okd_grant, proxy_grant, pubd_grant}
 use Rattle.named_columns.specs.Launched.{IsLaunch, LaunchedBy}
 use Rattle.site_run.specs.Journals.{AllProxies, KeepLaws}
-use Rattle.site_run.specs.Tied.{LaunchesAreOwn, ListIsOwn}
+use Rattle.site_run.specs.Tied.{LaunchesAreOwn}
 
 or_first : (a b : Bool) → (a || b) ≡ false → a ≡ false
 or_first true b e = e
@@ -160,12 +160,12 @@ no_launches [] h = refl
 no_launches (x ∷ items) h = or_both (is_launch x) (list_any is_launch items) (first_none x items h) (no_launches items (rest_of x items h))
 
 -- the list of a worker
-worker_none : (C : Config) (seed : List ℕ) (n w : ℕ) (R : Record) → (w ≡ n → ⊥) → KeepLaws C seed n R → ListIsOwn n w R → list_any is_launch (list_of R w) ≡ false
+worker_none : (C : Config) (seed : List ℕ) (n w : ℕ) (R : Record) → (w ≡ n → ⊥) → KeepLaws C seed n R → IsOwn R n w (list_of R w) → list_any is_launch (list_of R w) ≡ false
 worker_none C seed n w R other laws list = no_launches (list_of R w) (record {
-  okd_none = ap (list_any is_okd_launch) (sym list.columns.okd) ∙ none_launched okd_grant is_okd_launch n w (okd_mine n w) other R.okd laws.okd.1;
-  proxies_none = λ p. ap (list_any is_proxy_launch) (sym (list.columns.proxies p)) ∙ none_launched proxy_grant is_proxy_launch n w (proxy_mine n w) other (proxy_past R.proxies p) (proxies_launched C seed n 0 R.proxies laws.proxies p);
-  pubd_none = ap (list_any is_pubd_launch) (sym list.columns.pubd) ∙ none_launched pubd_grant is_pubd_launch n w (pubd_mine n w) other R.pubd laws.pubd.1;
-  log_none = ap (list_any is_log_launch) (sym list.columns.oklogd) ∙ none_launched log_grant is_log_launch n w (log_mine n w) other R.oklogd laws.oklogd.1;
+  okd_none = ap (list_any is_okd_launch) (sym list.okd) ∙ none_launched okd_grant is_okd_launch n w (okd_mine n w) other R.okd laws.okd.1;
+  proxies_none = λ p. ap (list_any is_proxy_launch) (sym (list.proxies p)) ∙ none_launched proxy_grant is_proxy_launch n w (proxy_mine n w) other (proxy_past R.proxies p) (proxies_launched C seed n 0 R.proxies laws.proxies p);
+  pubd_none = ap (list_any is_pubd_launch) (sym list.pubd) ∙ none_launched pubd_grant is_pubd_launch n w (pubd_mine n w) other R.pubd laws.pubd.1;
+  log_none = ap (list_any is_log_launch) (sym list.oklogd) ∙ none_launched log_grant is_log_launch n w (log_mine n w) other R.oklogd laws.oklogd.1;
   cells_none = λ s. ap (list_any is_booted) (sym (list.cells s)) ∙ none_booted n w s other (cell_past R s);
 })
 
@@ -174,7 +174,7 @@ any_list [] tail h = refl
 any_list (L ∷ Ls) tail h = or_both (list_any is_launch L) (list_any (λ (items : List Own). list_any is_launch items) Ls) (h 0 (omega arith)) (any_list Ls tail (λ w l. h (suc w) (omega arith)))
 
 -- the launcher's number makes all launches
-pub launches_alone : (C : Config) (seed : List ℕ) (n : ℕ) (R : Record) → length R.workers ≡ n → KeepLaws C seed n R → LaunchesAreOwn n R → ((w : ℕ) → w < n → ListIsOwn n w R) → LaunchesAlone R
+pub launches_alone : (C : Config) (seed : List ℕ) (n : ℕ) (R : Record) → length R.workers ≡ n → KeepLaws C seed n R → LaunchesAreOwn n R → ((w : ℕ) → w < n → IsOwn R n w (list_of R w)) → LaunchesAlone R
 launches_alone C seed n R many laws launched lists = record {
   workers = any_list R.workers (R.launches ∷ []) (λ w l. let u : w < n = omega arith in worker_none C seed n w R (λ e. absurd (omega arith)) laws (lists w u));
   launches = launched.launches;

@@ -1,6 +1,6 @@
 -- The seats of all numbers, at the beginning of a run and at its end.
-use Rattle.std.proofs.Common.{◌≡◌, ◌⊎◌, inl, inr, ℕ, suc, ◌+◌, ◌<◌, ◌≤◌, List, [], ◌∷◌, ◌++◌, length, reverse, sym, ap, ◌∙◌, subst, arith}
-use Rattle.std.proofs.lemmas.List.{length-reverse, reverse-append, reverse-reverse}
+use Rattle.std.proofs.Common.{◌≡◌, ◌⊎◌, inl, inr, ℕ, suc, ◌+◌, ◌<◌, ◌≤◌, ◌*◌, List, [], ◌∷◌, ◌++◌, length, reverse, set, get_or, refl, sym, ap, ◌∙◌, subst, arith}
+use Rattle.std.proofs.lemmas.List.{length-reverse, length-set, reverse-append, reverse-reverse}
 use mathlib.Core.Logic.{dite}
 use native.Mathlib.Decide.{ℕ_discrete}
 use Rattle.atomic_table.specs.Seated.{TableId}
@@ -19,10 +19,12 @@ use Rattle.site_locks.specs.Sat.{Sat}
 use Rattle.turn_lock.specs.Seats.{TurnIs, SeatIs, IsFresh, AreFresh, AllRest, SomeHas}
 use Rattle.site_run.specs.Places.{AllIdle}
 use Rattle.site_run.specs.Rooms.{AreOffered}
-use Rattle.site_run.specs.Rows.{AreChairs}
-use Rattle.site_run.specs.Tied.{AreUnused}
+use Rattle.site_worker.specs.declared.worker.TheConstants.{TURN_ITEMS}
+use Rattle.site_run.specs.Rows.{AreChairs, spare_first}
+use Rattle.site_run.specs.Tied.{AreUnused, OnlyLaunches}
 use Rattle.site_run.specs.Whole.{AreNewFrom, AreNamed, IsReady}
-use Rattle.site_run.proofs.Seating.{push_length}
+use Rattle.site_run.proofs.Seating.{first_seat, push_length}
+use Rattle.site_run.proofs.Tying.{unused_spare}
 
 new_push : (cells k m : ℕ) (as' : List CellsSeen) (a : CellsSeen) → m ≡ length as' + k → AreNewFrom cells k as' → IsNew cells m a → AreNewFrom cells k (as' ++ a ∷ [])
 new_push cells k m [] a e h i = (subst (λ x. IsNew cells x a) (let q : m ≡ k = omega arith in q) i, tt)
@@ -95,7 +97,17 @@ unused_from C z label k [] (c ∷ cs) as' p q h i j = absurd (omega arith)
 unused_from C z label k (s ∷ ss) [] as' p q h i j = absurd (omega arith)
 unused_from C z label k (s ∷ ss) (c ∷ cs) [] p q h i j = absurd (omega arith)
 unused_from C z label k (s ∷ ss) (c ∷ cs) (a ∷ as') p q h i j =
-    (record { sat_is = h.0; cells = i.0; turn = λ l. j.0.seen }, unused_from C z label (suc k) ss cs as' (omega arith) (omega arith) h.1 i.1 j.1)
+    let own_is : s.own ≡ [] = ap (λ (x : Sat). x.own) h.0 in
+    let seen_is : a.seen ≡ [] = j.0.seen in (
+      record {
+        sat_is = h.0 ∙ ap (λ (x : Sat). record (fresh (length C.proxies) k) { own = x.own; spare = x.spare }) (sym h.0);
+        cells = i.0;
+        seat = j.0.number_is;
+        launches = subst (λ items. OnlyLaunches k items a.seen) (sym own_is) (subst (λ past. OnlyLaunches k [] past) (sym seen_is) (record { entered = refl; only = refl }));
+        turn = λ l. (own_is, seen_is);
+      },
+      unused_from C z label (suc k) ss cs as' (omega arith) (omega arith) h.1 i.1 j.1,
+    )
 
 pub first_unused : (C : Config) (t : TurnIs) (ss : List Sat) (cs : List CellsSeen) (as' : List (SeatIs (Entry LauncherEvent)))
     → length cs ≡ length ss → length as' ≡ length ss → AreFreshFrom (length C.proxies) 0 ss → AreNewFrom (length C.services) 0 cs → AreFresh t.id t.label 0 (reverse as') → AreUnused C 0 ss cs as'
@@ -145,15 +157,20 @@ has_push j (d ∷ cs) c (inl (inl e)) = inl e
 has_push j (d ∷ cs) c (inl (inr h)) = inr (has_push j cs c (inl h))
 has_push j (d ∷ cs) c (inr e) = inr (has_push j cs c (inr e))
 
--- a run whose launcher was hired is ready
-pub ready : (C : Config) (n doors : ℕ) (t : TurnIs) (b : BoardIs) (cell_turns : List TurnIs) (all ss : List Sat) (s : Sat) (all_cs cs : List CellsSeen) (c : CellsSeen) (as' : List (SeatIs (Entry LauncherEvent)))
+spare_there : (ss : List Sat) (s : Sat) → 0 < length ss → spare_first (set ss 0 s) ≡ s.spare
+spare_there [] s l = absurd (omega arith)
+spare_there (x ∷ ss) s l = refl
+
+-- a run whose launcher was hired is ready, and number 0 has spare places
+pub ready : (C : Config) (n doors : ℕ) (t : TurnIs) (b : BoardIs) (cell_turns : List TurnIs) (all ss : List Sat) (r first : Sat) (s : Sat) (all_cs cs : List CellsSeen) (c : CellsSeen) (as' : List (SeatIs (Entry LauncherEvent)))
     (es : List Entrance) (places : List Place) (all_room seats_room all_cells_room cells_room turns_room doors_room desks_room : ℕ)
+    → r ≡ get_or ss 0 r → first ≡ record r { spare = first.spare } → length C.services * TURN_ITEMS ≤ first.spare
     → AreNamed C n cell_turns all all_cs all_room all_cells_room → all ≡ ss ++ s ∷ [] → all_cs ≡ cs ++ c ∷ [] → n ≡ doors + 1 → n + 1 ≤ seats_room → n + 1 ≤ cells_room
     → t.count ≡ n → length as' ≡ n → n ≤ turns_room → AreFresh t.id t.label 0 (reverse as')
     → 0 < doors → doors ≤ MOST_DOORS → length es ≡ doors → AllIdle es → AreOffered doors b places → doors ≤ doors_room → doors ≤ desks_room
-    → IsReady C n t b cell_turns (record { seats = ss; cells = cs; turns = as'; seats_room = seats_room; cells_room = cells_room; turns_room = turns_room })
+    → IsReady C n t b cell_turns (record { seats = set ss 0 first; cells = cs; turns = as'; seats_room = seats_room; cells_room = cells_room; turns_room = turns_room })
     (record { entrances = es; places = places; doors_room = doors_room; desks_room = desks_room })
-ready C n doors t b cell_turns all ss s all_cs cs c as' es places all_room seats_room all_cells_room cells_room turns_room doors_room desks_room named e f d sr cr count many tr fresh some few doors_are idle offered dr kr =
+ready C n doors t b cell_turns all ss r first s all_cs cs c as' es places all_room seats_room all_cells_room cells_room turns_room doors_room desks_room here given enough named e f d sr cr count many tr fresh some few doors_are idle offered dr kr =
     let seats_many : length ss ≡ n = (let l = push_length ss s in let q = ap length e in let m = named.seats_many in omega arith) in
     let cells_many : length cs ≡ n = (let l = push_length cs c in let q = ap length f in let m = named.cells_many in omega arith) in
     let seats = seats_pop (length C.proxies) 0 n ss s (omega arith) (subst (AreFreshFrom (length C.proxies) 0) e named.seats_fresh) in
@@ -162,8 +179,8 @@ ready C n doors t b cell_turns all ss s all_cs cs c as' es places all_room seats
     let board = offered.count_is in
     record {
       held = record {
-        seated = first_chairs t (length C.proxies) (length C.services) ss cs as' (omega arith) (omega arith) seats.0 cells.0 fresh;
-        seats_many = seats_many;
+        seated = first_seat t (length C.services) 0 ss r first cs as' here (ap (λ (x : Sat). x.number) given) (first_chairs t (length C.proxies) (length C.services) ss cs as' (omega arith) (omega arith) seats.0 cells.0 fresh);
+        seats_many = length-set ss 0 first ∙ seats_many;
         seats_roomy = sr;
         cells_roomy = cr;
         doors_many = omega arith;
@@ -176,7 +193,8 @@ ready C n doors t b cell_turns all ss s all_cs cs c as' es places all_room seats
         cells_count = named.counts;
         services = named.services;
       };
-      unused = first_unused C t ss cs as' (omega arith) (omega arith) seats.0 cells.0 fresh;
+      unused = unused_spare C ss r first cs as' here given (first_unused C t ss cs as' (omega arith) (omega arith) seats.0 cells.0 fresh);
+      spare = subst (λ k. length C.services * TURN_ITEMS ≤ k) (sym (spare_there ss first (omega arith))) enough;
       turns_roomy = tr;
       placed = record { idle = idle; fresh = offered.rising; alike = omega arith };
       roomy = record { doors = omega arith; desks = omega arith };

@@ -220,7 +220,7 @@ cell_others n w s (cell.Speaking v spoken ∷ more) J none =
 pub cell_went : (n w s : ℕ) (I J : List CellEvent) → GrowsBy (by_event n) w I J → cell_items n w s J ≡ cell_items n w s I
 cell_went n w s I J g = ap (cell_items n w s) g.2 ∙ cell_others n w s g.0 I g.1
 
-went : {E : Type 0} (n : ℕ) (J K : List (Entry E)) → GrowsBy by_entry n J K → events_of n K ≡ events_of n J
+pub went : {E : Type 0} (n : ℕ) (J K : List (Entry E)) → GrowsBy by_entry n J K → events_of n K ≡ events_of n J
 went n J K g = others_leave_entries n J K (grows_foreign n J K g)
 
 -- a journal in which the number has no entry

@@ -7,6 +7,10 @@ pub mod Backing
 pub mod Tying
 pub mod Leaving
 pub mod Rounding
+pub mod Beside
+pub mod Launched
+pub mod Merging
+pub mod Noted
 pub mod Owning
 pub mod Showing
 pub mod Alone

@@ -3,13 +3,15 @@ use Rattle.std.proofs.Common.{◌≡◌, ◌≢◌, inl, inr, ℕ, zero, suc, �
 use Rattle.std.proofs.lemmas.Bool.{true≢false}
 use Rattle.std.proofs.lemmas.List.{length-replicate}
 use Rattle.std.proofs.lemmas.List.Elements.{filter-append}
-use Rattle.std.specs.Prelude.{◌&&◌, if◌then◌else◌, filter, replicate}
+use Rattle.std.specs.Prelude.{◌&&◌, if◌then◌else◌, filter, filter_map, replicate}
 use Rattle.std.specs.List.{list_all}
 use mathlib.Core.Logic.{dite}
 use native.Mathlib.Decide.{ℕ_discrete}
 use Rattle.okws_base.specs.Past.{events_of}
 use Rattle.okws_base.specs.Turns.{GrowsBy}
+use Rattle.okws_base.specs.declared.journal.Entry.{Entry}
 use Rattle.okws_plan.specs.declared.configuration.Config.{Config}
+use Rattle.okws_plan.specs.declared.event.LauncherEvent.{LauncherEvent}
 use Rattle.okws_plan.specs.declared.event.OkdEvent.TheVariants as okd
 use Rattle.okws_plan.specs.declared.event.PubdEvent.TheVariants as pubd
 use Rattle.monitor_model.specs.declared.record.CellEvent.{CellEvent}
@@ -21,12 +23,12 @@ use Rattle.monitor_model.specs.declared.record.Own.{Own}
 use Rattle.monitor_model.specs.declared.record.Own.TheVariants as own
 use Rattle.monitor_model.specs.declared.record.Record.{Record}
 use Rattle.monitor_model.specs.declared.verdict.Way.{Way}
-use Rattle.monitor_model.specs.Merged.{cell_items, is_at_cell}
+use Rattle.monitor_model.specs.Merged.{IsOwn, cell_items, is_at_cell, list_of, okd_item, proxy_item, pubd_item, log_item}
 use Rattle.monitor_model.specs.Pieces.{is_entry_of, is_proxy_entry_of, is_pubd_entry_of, is_log_entry_of}
 use Rattle.monitor_model.specs.Seen.{Seen, AtOkd, AtPubd, noted, proxy_past}
-use Rattle.monitor_model.specs.Tied.{OwnsColumns, OwnsEntries}
+use Rattle.monitor_model.specs.Tied.{OwnsEntries}
 use Rattle.monitor_model.specs.Worker.{nothing_seen}
-use Rattle.monitor_model.proofs.Tied.{okd_keeps, pubd_keeps}
+use Rattle.monitor_model.proofs.Tied.{okd_keeps, pubd_keeps, others_leave_entries}
 use Rattle.monitor_model.proofs.Tied as tied
 use Rattle.monitor_model.proofs.Went.{begins, dialog_went}
 use Rattle.service_cell.specs.Dialogs.{HasDialog}
@@ -40,17 +42,26 @@ use Rattle.door_worker.specs.Asking.{Asked}
 use Rattle.admin_console.specs.declared.controls.Publishing.{Publishing}
 use Rattle.admin_console.specs.declared.controls.Publishing.TheVariants as publishing
 use Rattle.site_worker.specs.Handling.{Accepts, Talks, asker_of}
-use Rattle.site_worker.specs.Launching.{OnlyLauncher}
+use Rattle.site_worker.specs.Launching.{TakesTurn}
 use Rattle.site_worker.specs.Lives.{Life, Sees, Starves, number_of}
 use Rattle.site_worker.specs.Steering.{Publishes}
-use Rattle.site_run.proofs.Leaving.{cell_at, cell_went}
+use Rattle.named_columns.specs.Launched.{by_entry}
+use Rattle.turn_lock.specs.Seats.{SeatIs}
+use Rattle.site_run.proofs.Beside.{beside, okd_beside, pubd_beside, dialog_beside}
+use Rattle.site_run.proofs.Launched.{none_taken, none_held, rest_taken, rest_held, launches_taken, entries_own}
+use Rattle.site_run.proofs.Leaving.{cell_at, cell_went, went}
 use Rattle.site_run.proofs.Rounding.{IsKept}
-use Rattle.site_run.specs.Tied.{LifeBegins, LifeEnds, ListIsOwn}
+use Rattle.site_run.specs.Tied.{LifeBegins, LifeEnds, OnlyLaunches}
+
+-- what a life has seen of the columns and of the launcher's journal
+abbrev pub whole : Life → Seen
+whole J = beside J.launcher.seen J.seen
 
 -- In what a life of number w has seen, the entries that name w are its own items.
 pub record Owns (C : Config) (n w : ℕ) (J : Life) : Type 0 where
   pub number_is : number_of J ≡ w
-  pub columns : OwnsEntries (length C.proxies) w J.seen
+  pub seat_is : J.launcher.number ≡ w
+  pub columns : OwnsEntries (length C.proxies) w (whole J)
   pub cells : (s : ℕ) → cell_items n w s (seen_at J.cells s) ≡ filter (is_at_cell s) J.seen.own
 
 -- ---- at first
@@ -60,21 +71,22 @@ no_past zero p = refl
 no_past (suc m) zero = refl
 no_past (suc m) (suc p) = no_past m p
 
-nothing_owned : (m w : ℕ) → OwnsEntries m w (nothing_seen m)
-nothing_owned m w = record {
+launches_owned : (m w : ℕ) (items : List Own) (seen : List (Entry LauncherEvent)) → OnlyLaunches w items seen → OwnsEntries m w (beside seen (record (nothing_seen m) { own = items }))
+launches_owned m w items seen h = record {
   many = length-replicate m [];
-  okd = refl;
-  proxies_are = λ p. ap (events_of w) (no_past m p);
-  pubd = refl;
-  oklogd = refl;
-  launcher = refl;
+  okd = sym (none_taken okd_item (λ e. refl) refl items h.only);
+  proxies_are = λ p. ap (events_of w) (no_past m p) ∙ sym (none_taken (proxy_item p) (λ e. refl) refl items h.only);
+  pubd = sym (none_taken pubd_item (λ e. refl) refl items h.only);
+  oklogd = sym (none_taken log_item (λ e. refl) refl items h.only);
+  launcher = h.entered;
 }
 
 pub owns_nothing : (C : Config) (n w : ℕ) (J : Life) → LifeBegins C w J → Owns C n w J
 owns_nothing C n w J h = record {
   number_is = h.cells.number_is;
-  columns = subst (OwnsEntries (length C.proxies) w) (sym h.seen_is) (nothing_owned (length C.proxies) w);
-  cells = λ s. ap (cell_items n w s) (new_at (length C.services) w s J.cells h.cells) ∙ sym (ap (λ (S : Seen). filter (is_at_cell s) S.own) h.seen_is);
+  seat_is = h.seat;
+  columns = subst (λ (S : Seen). OwnsEntries (length C.proxies) w (beside J.launcher.seen S)) (sym h.seen_is) (launches_owned (length C.proxies) w J.seen.own J.launcher.seen h.launches);
+  cells = λ s. ap (cell_items n w s) (new_at (length C.services) w s J.cells h.cells) ∙ sym (none_held (is_at_cell s) (λ e. refl) refl J.seen.own h.launches.only);
 }
 
 -- ---- what is noted beside the columns
@@ -120,26 +132,47 @@ at_cell_of s taken items t h = filter-append (is_at_cell s) taken items ∙ ap (
 
 -- ---- one step of a life
 
+-- where the seat at the launcher stays as it is
+whole_then : {m w : ℕ} (J K : Life) (now : Seen) → K.launcher ≡ J.launcher → K.seen ≡ now → OwnsEntries m w (beside J.launcher.seen now) → OwnsEntries m w (whole K)
+whole_then {m} {w} J K now seat seen h =
+    subst (λ (S : Seen). OwnsEntries m w (beside K.launcher.seen S)) (sym seen) (subst (λ (x : SeatIs (Entry LauncherEvent)). OwnsEntries m w (beside x.seen now)) (sym seat) h)
+
 module _ (C : Config) (n w : ℕ) where
   -- where nothing was done at the cells
-  pub sees_owned : (J K : Life) (now : Seen) → Sees now J K → OwnsEntries (length C.proxies) w now → ((s : ℕ) → filter (is_at_cell s) now.own ≡ filter (is_at_cell s) J.seen.own) → Owns C n w J → Owns C n w K
+  pub sees_owned : (J K : Life) (now : Seen) → Sees now J K → OwnsEntries (length C.proxies) w (beside J.launcher.seen now) → ((s : ℕ) → filter (is_at_cell s) now.own ≡ filter (is_at_cell s) J.seen.own)
+      → Owns C n w J → Owns C n w K
   sees_owned J K now h columns same o = record {
     number_is = ap (λ (x : CellsSeen). x.number) h.cells_is ∙ o.number_is;
-    columns = subst (OwnsEntries (length C.proxies) w) (sym h.seen_is) columns;
+    seat_is = ap (λ (x : SeatIs (Entry LauncherEvent)). x.number) h.launcher_is ∙ o.seat_is;
+    columns = whole_then J K now h.launcher_is h.seen_is columns;
     cells = λ s. ap (λ (x : CellsSeen). cell_items n w s (seen_at x s)) h.cells_is ∙ (o.cells s ∙ (sym (same s) ∙ sym (ap (λ (S : Seen). filter (is_at_cell s) S.own) h.seen_is)));
   }
 
   pub starves_owned : (J K : Life) → Starves J K → Owns C n w J → Owns C n w K
-  starves_owned J K (inl h) o = sees_owned J K (noted J.seen own.NoMemory) h (starved_owned (length C.proxies) w J.seen o.columns) (λ s. refl) o
-  starves_owned J K (inr h) o = sees_owned J K J.seen h o.columns (λ s. refl) o
+  starves_owned J K h o = sees_owned J K (noted J.seen own.NoMemory) h (starved_owned (length C.proxies) w (whole J) o.columns) (λ s. refl) o
 
-  launcher_owned : (J K : Life) → OnlyLauncher J K → Owns C n w J → Owns C n w K
-  launcher_owned J K h o = subst (Owns C n w) (sym h) (record { number_is = o.number_is; columns = o.columns; cells = o.cells })
+  turns_owned : (events : List LauncherEvent) (J K : Life) → TakesTurn events J K → Owns C n w J → Owns C n w K
+  turns_owned events J K h o = subst (Owns C n w) (sym h.only) (record {
+    number_is = o.number_is;
+    seat_is = o.seat_is;
+    columns = record {
+      many = o.columns.many;
+      okd = o.columns.okd ∙ sym (rest_taken okd_item (λ e. refl) refl events J.seen.own);
+      proxies_are = λ p. o.columns.proxies_are p ∙ sym (rest_taken (proxy_item p) (λ e. refl) refl events J.seen.own);
+      pubd = o.columns.pubd ∙ sym (rest_taken pubd_item (λ e. refl) refl events J.seen.own);
+      oklogd = o.columns.oklogd ∙ sym (rest_taken log_item (λ e. refl) refl events J.seen.own);
+      launcher = ap (events_of w) h.enters ∙ (entries_own w J.launcher.number events h.before o.seat_is
+          ∙ (ap (λ (l : List LauncherEvent). events ++ l) (went w J.launcher.seen h.before (subst (λ v. GrowsBy by_entry v J.launcher.seen h.before) o.seat_is h.grows) ∙ o.columns.launcher)
+          ∙ sym (launches_taken events J.seen.own)));
+    };
+    cells = λ s. o.cells s ∙ sym (rest_held (is_at_cell s) (λ e. refl) refl events J.seen.own);
+  })
 
   accepts_owned : (path : List ℕ) (goes : Way) (J K : Life) → Accepts C path goes J K → Owns C n w J → Owns C n w K
   accepts_owned path goes J K h o =
       let enters = subst (λ v. AtOkd v (okd.Accept path) J.seen h.before K.seen) o.number_is h.enters in
-      sees_owned J K K.seen h.rest (okd_keeps (length C.proxies) w (okd.Accept path) J.seen h.before K.seen enters o.columns)
+      let l = J.launcher.seen in
+      sees_owned J K K.seen h.rest (okd_keeps (length C.proxies) w (okd.Accept path) (whole J) h.before (beside l K.seen) (okd_beside l w (okd.Accept path) J.seen h.before K.seen enters) o.columns)
       (λ s. ap (λ (S : Seen). filter (is_at_cell s) S.own) enters.1) o
 
   -- one event more at a cell, which is noted, and entries at columns
@@ -171,24 +204,30 @@ module _ (C : Config) (n w : ℕ) where
   missed_made : (s v k is : ℕ) (before : List CellEvent) → v ≡ w → cell_items n w s (cell.Missed v k is ∷ before) ≡ own.Missed s k is ∷ cell_items n w s before
   missed_made s v k is before e = ap (λ (b : Bool). if b then own.Missed s k is ∷ cell_items n w s before else cell_items n w s before) (eq-eqb v w e)
 
-  module _ (asked : Asked) (s k : ℕ) (J K : Life) (b a : Standing) (service_is : b.service ≡ s) (only : OnlyAt s J.cells K.cells) (grows : GrowsBy (by_event n) (number_of J) (seen_at J.cells s) b.past)
+  module _ (asked : Asked) (s k : ℕ) (J K : Life) (b a : Standing) (service_is : b.service ≡ s) (only : OnlyAt s J.cells K.cells) (seat : K.launcher ≡ J.launcher) (grows : GrowsBy (by_event n) (number_of J) (seen_at J.cells s) b.past)
       (seen_is : seen_at K.cells s ≡ a.past) (o : Owns C n w J) where
     number_then : number_of K ≡ w
     number_then = ap (λ (x : CellsSeen). x.number) only ∙ o.number_is
+
+    seat_then : K.launcher.number ≡ w
+    seat_then = ap (λ (x : SeatIs (Entry LauncherEvent)). x.number) seat ∙ o.seat_is
 
     grown : GrowsBy (by_event n) w (seen_at J.cells s) b.past
     grown = subst (λ v. GrowsBy (by_event n) v (seen_at J.cells s) b.past) o.number_is grows
 
     dialog_owned : (head content : List ℕ) (items : List Item) (how : End) → HasDialog (asker_of C J) head content b J.seen items how a K.seen → Owns C n w K
     dialog_owned head content items how h =
+        let l = J.launcher.seen in
         let I = noted J.seen (own.Dialog b.service) in
         let who = speaker b (number_of J) in
-        let start = subst (λ v. OwnsEntries (length C.proxies) v J.seen) (sym o.number_is) o.columns in
-        let went = dialog_went C who I h.since h.left head content I K.seen items how h.follows (begins C who I (noted_owned (length C.proxies) (number_of J) J.seen b.service start)) in
+        let start = subst (λ v. OwnsEntries (length C.proxies) v (whole J)) (sym o.number_is) o.columns in
+        let follows = dialog_beside C who l h.since h.left head content I items how K.seen h.follows in
+        let went = dialog_went C who (beside l I) h.since h.left head content (beside l I) (beside l K.seen) items how follows (begins C who (beside l I) (noted_owned (length C.proxies) (number_of J) (whole J) b.service start)) in
         let d : Dialog = record { worker = number_of J; items = items; end = how } in
         record {
           number_is = number_then;
-          columns = subst (λ v. OwnsEntries (length C.proxies) v K.seen) o.number_is went.owns;
+          seat_is = seat_then;
+          columns = whole_then J K K.seen seat refl (subst (λ v. OwnsEntries (length C.proxies) v (beside l K.seen)) o.number_is went.owns);
           cells = more_cells s J K b.past only grown o (cell.Dialog d) (own.Dialog s) went.taken b.service
               (seen_is ∙ ap (λ (x : Standing). x.past) h.entered) (dialog_made s d b.past o.number_is) (λ q. refl)
               (went.taken_is ∙ ap (λ u. went.taken ++ own.Dialog u ∷ J.seen.own) service_is) went.entries;
@@ -197,7 +236,8 @@ module _ (C : Config) (n w : ℕ) where
     missed_owned_there : (is : ℕ) → a ≡ record b { past = cell.Missed (number_of J) k is ∷ b.past } → K.seen ≡ noted J.seen (own.Missed b.service k is) → Owns C n w K
     missed_owned_there is after now = record {
       number_is = number_then;
-      columns = subst (OwnsEntries (length C.proxies) w) (sym now) (missed_owned (length C.proxies) w J.seen b.service k is o.columns);
+      seat_is = seat_then;
+      columns = whole_then J K (noted J.seen (own.Missed b.service k is)) seat now (missed_owned (length C.proxies) w (whole J) b.service k is o.columns);
       cells = more_cells s J K b.past only grown o (cell.Missed (number_of J) k is) (own.Missed s k is) [] s
           (seen_is ∙ ap (λ (x : Standing). x.past) after) (missed_made s (number_of J) k is b.past o.number_is) (λ q. refl)
           (ap (λ (S : Seen). S.own) now ∙ ap (λ u. own.Missed u k is ∷ J.seen.own) service_is) refl;
@@ -206,48 +246,57 @@ module _ (C : Config) (n w : ℕ) where
     nothing_owned_there : a ≡ b → K.seen ≡ J.seen → Owns C n w K
     nothing_owned_there after now = record {
       number_is = number_then;
-      columns = subst (OwnsEntries (length C.proxies) w) (sym now) o.columns;
+      seat_is = seat_then;
+      columns = whole_then J K J.seen seat now o.columns;
       cells = same_cells s J K b.past only grown o (seen_is ∙ ap (λ (x : Standing). x.past) after) now;
     }
 
   talks_owned : (asked : Asked) (s k : ℕ) (answer : Talked) (J K : Life) → Talks C n asked s k answer J K → Owns C n w J → Owns C n w K
   talks_owned asked s k (talked.Replied r) J K h o =
       let t = h.talked in
-      dialog_owned asked s k J K t.before t.after t.found.service_is h.only t.found.grows t.seen_is o asked.head asked.content _ _ t.talks.1.6
+      dialog_owned asked s k J K t.before t.after t.found.service_is h.only h.launcher_is t.found.grows t.seen_is o asked.head asked.content _ _ t.talks.1.6
   talks_owned asked s k talked.Uncopied J K h o =
       let t = h.talked in
-      dialog_owned asked s k J K t.before t.after t.found.service_is h.only t.found.grows t.seen_is o asked.head asked.content _ _ t.talks.1.6
+      dialog_owned asked s k J K t.before t.after t.found.service_is h.only h.launcher_is t.found.grows t.seen_is o asked.head asked.content _ _ t.talks.1.6
   talks_owned asked s k (talked.Crashed why) J K h o =
       let t = h.talked in
-      dialog_owned asked s k J K t.before t.after t.found.service_is h.only t.found.grows t.seen_is o asked.head asked.content _ _ t.talks.1.2
+      dialog_owned asked s k J K t.before t.after t.found.service_is h.only h.launcher_is t.found.grows t.seen_is o asked.head asked.content _ _ t.talks.1.2
   talks_owned asked s k (talked.Missed wanted is) J K h o =
       let t = h.talked in
       let b = t.before in
-      missed_owned_there asked s k J K t.before t.after t.found.service_is h.only t.found.grows t.seen_is o is
+      missed_owned_there asked s k J K t.before t.after t.found.service_is h.only h.launcher_is t.found.grows t.seen_is o is
       (subst (λ i. t.after ≡ record b { past = cell.Missed (number_of J) i is ∷ b.past }) refl t.talks.3) t.talks.4
   talks_owned asked s k (talked.Superseded i shown) J K h o =
       let t = h.talked in
-      dialog_owned asked s k J K t.before t.after t.found.service_is h.only t.found.grows t.seen_is o asked.head asked.content _ _ t.talks.1.4
+      dialog_owned asked s k J K t.before t.after t.found.service_is h.only h.launcher_is t.found.grows t.seen_is o asked.head asked.content _ _ t.talks.1.4
   talks_owned asked s k talked.NoMemory J K h o =
       let t = h.talked in
-      nothing_owned_there asked s k J K t.before t.after t.found.service_is h.only t.found.grows t.seen_is o t.talks.0 t.talks.1
+      nothing_owned_there asked s k J K t.before t.after t.found.service_is h.only h.launcher_is t.found.grows t.seen_is o t.talks.0 t.talks.1
 
   publishes_owned : (J : Life) (t : ℕ) (content : List ℕ) (p : Publishing) (K : Life) → Publishes J t content p K → Owns C n w J → Owns C n w K
   publishes_owned J t content (publishing.Edition m) K h o =
       let enters = subst (λ v. AtPubd v (pubd.Publish t content) J.seen h.0 K.seen) o.number_is h.2 in
-      sees_owned J K K.seen h.3 (pubd_keeps (length C.proxies) w (pubd.Publish t content) J.seen h.0 K.seen enters o.columns) (λ s. ap (λ (S : Seen). filter (is_at_cell s) S.own) enters.1) o
+      let l = J.launcher.seen in
+      sees_owned J K K.seen h.3 (pubd_keeps (length C.proxies) w (pubd.Publish t content) (whole J) h.0 (beside l K.seen) (pubd_beside l w (pubd.Publish t content) J.seen h.0 K.seen enters) o.columns) (λ s. ap (λ (S : Seen). filter (is_at_cell s) S.own) enters.1) o
   publishes_owned J t content publishing.EditionsSpent K h o = sees_owned J K J.seen h.2 o.columns (λ s. refl) o
-  publishes_owned J t content publishing.NoMemory K h o = starves_owned J K h o
+  publishes_owned J t content publishing.NoMemory K (inl h) o = starves_owned J K h o
+  publishes_owned J t content publishing.NoMemory K (inr h) o = subst (Owns C n w) (sym h) o
 
   -- each thing that a worker does keeps it so
   pub owns_kept : IsKept C n (Owns C n w)
-  owns_kept = record { starves = starves_owned; launcher = launcher_owned; accepts = accepts_owned; talks = talks_owned; publishes = publishes_owned }
+  owns_kept = record { starves = starves_owned; turns = turns_owned; accepts = accepts_owned; talks = talks_owned; publishes = publishes_owned }
 
 -- ---- at last
 
 -- what a life owned is what the record has of its number
-pub owned_then : (C : Config) (n w : ℕ) (J : Life) (R : Record) → Owns C n w J → LifeEnds n w J R → ListIsOwn n w R
-owned_then C n w J R o l = record {
-  columns = subst (OwnsColumns R w) l.own_is (tied.ends_are_own R (length C.proxies) w J.seen o.columns l.columns);
-  cells = λ s. cell_went n w s (get_or J.cells.cells s []) (get_or R.cells s []) (cell_at n w J.cells.cells R.cells l.cells s) ∙ (o.cells s ∙ ap (filter (is_at_cell s)) l.own_is);
-}
+pub owned_then : (C : Config) (n w : ℕ) (J : Life) (R : Record) → Owns C n w J → LifeEnds n w J R → IsOwn R n w (list_of R w)
+owned_then C n w J R o l =
+    let columns = tied.ends_are_own R (length C.proxies) w (whole J) o.columns (record { okd = l.columns.okd; proxies = l.columns.proxies; pubd = l.columns.pubd; oklogd = l.columns.oklogd }) in
+    subst (IsOwn R n w) l.own_is (record {
+      okd = columns.okd;
+      proxies = columns.proxies;
+      pubd = columns.pubd;
+      oklogd = columns.oklogd;
+      launchers = others_leave_entries w J.launcher.seen R.launcher l.launcher ∙ o.columns.launcher;
+      cells = λ s. cell_went n w s (get_or J.cells.cells s []) (get_or R.cells s []) (cell_at n w J.cells.cells R.cells l.cells s) ∙ o.cells s;
+    })

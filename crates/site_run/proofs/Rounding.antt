@@ -1,8 +1,9 @@
 -- What holds of a worker's life at first and is kept by each thing that a worker does holds of it at last: in all rounds at its door, and in all commands at the console.
-use Rattle.std.proofs.Common.{◌≡◌, inl, inr, ℕ, ◌%◌, Bool, true, false, List, [], ◌∷◌, length, sym, subst}
+use Rattle.std.proofs.Common.{◌≡◌, ◌∙◌, inl, inr, ℕ, ◌%◌, Bool, true, false, List, [], ◌∷◌, length, sym, subst}
 use Rattle.std.specs.Prelude.{Some, None}
 use Rattle.std.specs.declared.option.Option.{Option}
 use Rattle.okws_plan.specs.declared.configuration.Config.{Config}
+use Rattle.okws_plan.specs.declared.event.LauncherEvent.{LauncherEvent}
 use Rattle.okws_outer.specs.Conns.{ConnWire}
 use Rattle.okws_outer.specs.Doors.{Entrance}
 use Rattle.monitor_model.specs.declared.verdict.Way.{Way}
@@ -24,10 +25,12 @@ use Rattle.admin_console.specs.declared.step.Stepped.{Stepped}
 use Rattle.admin_console.specs.declared.step.Stepped.TheVariants as stepped
 use Rattle.cell_locks.specs.declared.answer.Talked.{Talked}
 use Rattle.cell_locks.specs.declared.answer.Talked.TheVariants as talked
+use Rattle.okld_launch.specs.Launchers.{LauncherIs}
+use Rattle.okld_launch.specs.Turns.{InTurn}
 use Rattle.okld_launch.specs.declared.answer.Launched.{Launched}
 use Rattle.site_worker.specs.Commands.{Commands, Oversees, StepsAt}
 use Rattle.site_worker.specs.Handling.{Accepts, Follows, Goes, Handles, Talks}
-use Rattle.site_worker.specs.Launching.{Asks, OnlyLauncher, Reports, Tends}
+use Rattle.site_worker.specs.Launching.{Asks, OnlyLauncher, Reports, TakesTurn, Tends}
 use Rattle.site_worker.specs.Lives.{Life, Starves, StarvesWhere}
 use Rattle.site_worker.specs.Rounds.{Attends, Rounds, TendsAfter, TendsNext}
 use Rattle.site_worker.specs.Steering.{Publishes, Relaunches}
@@ -37,7 +40,7 @@ use Rattle.site_worker.specs.declared.door.Attended.{Attended}
 -- Each thing that a worker does keeps this of its life.
 pub record IsKept (C : Config) (n : ℕ) (P : Life → Type 0) : Type 0 where
   pub starves : (J K : Life) → Starves J K → P J → P K
-  pub launcher : (J K : Life) → OnlyLauncher J K → P J → P K
+  pub turns : (events : List LauncherEvent) (J K : Life) → TakesTurn events J K → P J → P K
   pub accepts : (path : List ℕ) (goes : Way) (J K : Life) → Accepts C path goes J K → P J → P K
   pub talks : (asked : Asked) (s k : ℕ) (answer : Talked) (J K : Life) → Talks C n asked s k answer J K → P J → P K
   pub publishes : (J : Life) (t : ℕ) (content : List ℕ) (p : Publishing) (K : Life) → Publishes J t content p K → P J → P K
@@ -52,14 +55,17 @@ module _ (C : Config) (n : ℕ) (P : Life → Type 0) (kept : IsKept C n P) wher
 
   -- ---- the launcher's turns
 
+  turned : (events : List LauncherEvent) (J K : Life) (b a : LauncherIs) → OnlyLauncher events J K → InTurn C J.launcher.number J.launcher.seen b events a K.launcher.seen → TakesTurn events J K
+  turned events J K b a only t = record { before = b.journal.past; grows = t.grows; enters = t.seen_is ∙ t.enters; only = only }
+
   reports : (s k : ℕ) (J K : Life) → Reports C s k J K → P J → P K
-  reports s k J K h p = where_starved _ h.mid K h.notes (kept.launcher J h.mid h.only p)
+  reports s k J K h p = let t = h.reports in where_starved _ h.mid K h.notes (kept.turns h.events J h.mid (turned h.events J h.mid t.before t.after h.only t.turn) p)
 
   tends : (s : ℕ) (J K : Life) → Tends C s J K → P J → P K
-  tends s J K h p = where_starved _ h.mid K h.notes (kept.launcher J h.mid h.only p)
+  tends s J K h p = let t = h.tends in where_starved _ h.mid K h.notes (kept.turns h.events J h.mid (turned h.events J h.mid t.before t.after h.only t.turn) p)
 
   asks : (s : ℕ) (answer : Launched) (J K : Life) → Asks C s answer J K → P J → P K
-  asks s answer J K h p = where_starved _ h.mid K h.notes (kept.launcher J h.mid h.only p)
+  asks s answer J K h p = let t = h.relaunches in where_starved _ h.mid K h.notes (kept.turns h.events J h.mid (turned h.events J h.mid t.before t.after h.only t.turn) p)
 
   -- ---- a request
 
@@ -118,11 +124,15 @@ module _ (C : Config) (n : ℕ) (P : Life → Type 0) (kept : IsKept C n P) wher
 
   -- ---- at the console
 
+  relaunches : (s : ℕ) (r : _) (J K : Life) → Relaunches C J s r K → P J → P K
+  relaunches s r J K (inl h) p = asks s h.0 J K h.2 p
+  relaunches s r J K (inr h) p = same J K h.1 p
+
   done : (line : ℕ) (o : Order) (bytes : List ℕ) (left : Option (List ℕ)) (J : Life) (a : Answer) (K : Life) → IsDone Publishes (Relaunches C) line o bytes left J a K → P J → P K
   done line (order.Publish t size) bytes left J a K (inl h) p = kept.publishes J t bytes h.1 K h.2 p
   done line (order.Publish t size) bytes left J a K (inr (inl h)) p = same J K h.3 p
   done line (order.Publish t size) bytes left J a K (inr (inr h)) p = same J K h.2 p
-  done line (order.Relaunch s) bytes left J a K h p = let r = h.2 in asks s r.0 J K r.2 p
+  done line (order.Relaunch s) bytes left J a K h p = relaunches s h.1 J K h.2 p
   done line order.End bytes left J a K h p = absurd h
   done line (order.Refused broken size) bytes left J a K h p = same J K h.2 p
 

@@ -1,5 +1,7 @@
 -- Seats that are taken from a row at its end by a worker, and put back there.
 use Rattle.std.proofs.Common.{◌≡◌, ℕ, suc, ◌+◌, ◌<◌, List, [], ◌∷◌, ◌++◌, length, get_or, set, refl, sym, ap, ◌∙◌, subst, arith}
+use Rattle.std.specs.Prelude.{Result, Ok, Err, OnOk, Bool, false}
+use Rattle.std.specs.Result.{is_err}
 use Rattle.okws_base.specs.declared.journal.Entry.{Entry}
 use Rattle.okws_plan.specs.declared.event.LauncherEvent.{LauncherEvent}
 use Rattle.turn_lock.specs.Rows.{RestsAt}
@@ -111,19 +113,40 @@ module _ (t : TurnIs) (cells : ℕ) where
       let pushed = chairs_push t cells 0 (length x.seats) x.seats s x.cells c x.turns a (omega arith) h (chair_back (length x.seats) s c a J n e f m w) in
       subst (λ ys. AreChairs t cells 0 ss cs ys) (sym r) (subst (λ ys. AreChairs t cells 0 ss ys (x.turns ++ a ∷ [])) (sym q) (subst (λ ys. AreChairs t cells 0 ys (x.cells ++ c ∷ []) (x.turns ++ a ∷ [])) (sym p) pushed))
 
+  first_named : (k : ℕ) (x s : Sat) (ss : List Sat) (c : CellsSeen) (cs : List CellsSeen) (a : SeatIs (Entry LauncherEvent)) (as' : List (SeatIs (Entry LauncherEvent))) → s.number ≡ x.number
+      → AreChairs t cells k (x ∷ ss) (c ∷ cs) (a ∷ as') → AreChairs t cells k (s ∷ ss) (c ∷ cs) (a ∷ as')
+  first_named k x s ss c cs a as' n h =
+      let i = h.0 in (record { sat_number = n ∙ i.sat_number; cells_number = i.cells_number; cells_are = i.cells_are; seat_number = i.seat_number; rests = i.rests }, h.1)
+
   -- the first seat at the launcher rests there
   pub first_rests : (k : ℕ) (ss : List Sat) (cs : List CellsSeen) (as' : List (SeatIs (Entry LauncherEvent))) (a : SeatIs (Entry LauncherEvent)) → 0 < length as' → a ≡ get_or as' 0 a → AreChairs t cells k ss cs as' → RestsAt t a
   first_rests k ss cs [] a l e h = absurd (omega arith)
   first_rests k ss cs (b ∷ as') a l e h = subst (RestsAt t) (sym e) (chairs_rest t cells k ss cs b as' h)
 
-  -- it saw more
-  pub first_seen : (k : ℕ) (ss : List Sat) (cs : List CellsSeen) (as' : List (SeatIs (Entry LauncherEvent))) (a b : SeatIs (Entry LauncherEvent)) → 0 < length as' → a ≡ get_or as' 0 a → b ≡ record a { seen = b.seen }
-      → AreChairs t cells k ss cs as' → AreChairs t cells k ss cs (set as' 0 b)
-  first_seen k ss cs [] a b l e f h = absurd (omega arith)
-  first_seen k ss cs (y ∷ as') a b l e f h =
-      chairs_first t cells k ss cs y b as' (f ∙ ap (λ (x : SeatIs (Entry LauncherEvent)). record x { seen = b.seen }) e) h
+  -- it saw more, and what number 0 did from its other seats names that number
+  pub first_seen : (k : ℕ) (ss : List Sat) (r s : Sat) (cs : List CellsSeen) (as' : List (SeatIs (Entry LauncherEvent))) (a b : SeatIs (Entry LauncherEvent)) → 0 < length as' → r ≡ get_or ss 0 r → s.number ≡ r.number
+      → a ≡ get_or as' 0 a → b ≡ record a { seen = b.seen } → AreChairs t cells k ss cs as' → AreChairs t cells k (set ss 0 s) cs (set as' 0 b)
+  first_seen k ss r s cs [] a b l p n e f h = absurd (omega arith)
+  first_seen k [] r s [] (y ∷ as') a b l p n e f h = absurd h
+  first_seen k [] r s (c ∷ cs) (y ∷ as') a b l p n e f h = absurd h
+  first_seen k (x ∷ ss) r s [] (y ∷ as') a b l p n e f h = absurd h
+  first_seen k (x ∷ ss) r s (c ∷ cs) (y ∷ as') a b l p n e f h =
+      first_named k x s ss c cs b as' (n ∙ ap (λ (z : Sat). z.number) p)
+      (chairs_first t cells k (x ∷ ss) (c ∷ cs) y b as' (f ∙ ap (λ (x : SeatIs (Entry LauncherEvent)). record x { seen = b.seen }) e) h)
+
+  -- number 0 has other seats of that number
+  pub first_seat : (k : ℕ) (ss : List Sat) (r s : Sat) (cs : List CellsSeen) (as' : List (SeatIs (Entry LauncherEvent))) → r ≡ get_or ss 0 r → s.number ≡ r.number → AreChairs t cells k ss cs as' → AreChairs t cells k (set ss 0 s) cs as'
+  first_seat k [] r s cs as' p n h = h
+  first_seat k (x ∷ ss) r s [] as' p n h = absurd h
+  first_seat k (x ∷ ss) r s (c ∷ cs) [] p n h = absurd h
+  first_seat k (x ∷ ss) r s (c ∷ cs) (y ∷ as') p n h = first_named k x s ss c cs y as' (n ∙ ap (λ (z : Sat). z.number) p) h
 
   -- no seats
   pub none_seated : (x : ChairsAre) → x.seats ≡ [] → x.cells ≡ [] → x.turns ≡ [] → Seated t cells x
   none_seated x p q r =
       subst (λ ys. AreChairs t cells 0 x.seats x.cells ys) (sym r) (subst (λ ys. AreChairs t cells 0 x.seats ys []) (sym q) (subst (λ ys. AreChairs t cells 0 ys [] []) (sym p) tt))
+
+-- what was made where nothing was refused
+pub ok_of : {A X : Type 0} (r : Result A X) (P : Type 0) → is_err r ≡ false → OnOk r P → P
+ok_of (Ok x) P is p = p
+ok_of (Err e) P is p = let never : ⊥ = cc in absurd never

@@ -8,6 +8,7 @@ use Rattle.okws_base.specs.Turns.{of, GrowsBy}
 use Rattle.okws_base.specs.declared.crash.Cause.{Cause}
 use Rattle.okws_base.specs.declared.crash.Cause.TheVariants as cause
 use Rattle.okws_plan.specs.declared.configuration.Config.{Config}
+use Rattle.okws_plan.specs.declared.event.LauncherEvent.{LauncherEvent}
 use Rattle.monitor_model.specs.declared.record.CellEvent.{CellEvent}
 use Rattle.monitor_model.specs.declared.record.CellEvent.TheVariants as cell
 use Rattle.monitor_model.specs.declared.record.Dialog.{Dialog}
@@ -30,7 +31,7 @@ use Rattle.cell_locks.specs.declared.answer.Talked.{Talked}
 use Rattle.cell_locks.specs.declared.answer.Talked.TheVariants as talked
 use Rattle.door_worker.specs.Asking.{Asked}
 use Rattle.site_worker.specs.Handling.{Accepts, Talks, asker_of}
-use Rattle.site_worker.specs.Launching.{OnlyLauncher}
+use Rattle.site_worker.specs.Launching.{TakesTurn}
 use Rattle.site_worker.specs.Lives.{Life, Rises, Sees, Starves, number_of}
 use Rattle.site_worker.specs.Steering.{Publishes}
 use Rattle.site_run.proofs.Leaving.{tail_none}
@@ -106,11 +107,10 @@ module _ (C : Config) (n w : ℕ) where
   }
 
   starves_shown : (J K : Life) → Starves J K → Shows w J → Shows w K
-  starves_shown J K (inl h) o = sees_shown J K (noted J.seen own.NoMemory) h o
-  starves_shown J K (inr h) o = sees_shown J K J.seen h o
+  starves_shown J K h o = sees_shown J K (noted J.seen own.NoMemory) h o
 
-  launcher_shown : (J K : Life) → OnlyLauncher J K → Shows w J → Shows w K
-  launcher_shown J K h o = subst (Shows w) (sym h) (record { number_is = o.number_is; shown = o.shown })
+  turns_shown : (events : List LauncherEvent) (J K : Life) → TakesTurn events J K → Shows w J → Shows w K
+  turns_shown events J K h o = subst (Shows w) (sym h.only) (record { number_is = o.number_is; shown = o.shown })
 
   accepts_shown : (path : List ℕ) (goes : Way) (J K : Life) → Accepts C path goes J K → Shows w J → Shows w K
   accepts_shown path goes J K h o = sees_shown J K K.seen h.rest o
@@ -118,7 +118,8 @@ module _ (C : Config) (n w : ℕ) where
   publishes_shown : (J : Life) (t : ℕ) (content : List ℕ) (p : Publishing) (K : Life) → Publishes J t content p K → Shows w J → Shows w K
   publishes_shown J t content (publishing.Edition m) K h o = sees_shown J K K.seen h.3 o
   publishes_shown J t content publishing.EditionsSpent K h o = sees_shown J K J.seen h.2 o
-  publishes_shown J t content publishing.NoMemory K h o = starves_shown J K h o
+  publishes_shown J t content publishing.NoMemory K (inl h) o = starves_shown J K h o
+  publishes_shown J t content publishing.NoMemory K (inr h) o = subst (Shows w) (sym h) o
 
   module _ (s : ℕ) (J K : Life) (b a : Standing) (only : OnlyAt s J.cells K.cells) (grows : GrowsBy (by_event n) (number_of J) (seen_at J.cells s) b.past) (board : Rises J.board K.board) (seen_is : seen_at K.cells s ≡ a.past) (o : Shows w J) where
     number_then : number_of K ≡ w
@@ -173,4 +174,4 @@ module _ (C : Config) (n w : ℕ) where
 
   -- each thing that a worker does keeps it so
   pub shows_kept : IsKept C n (Shows w)
-  shows_kept = record { starves = starves_shown; launcher = launcher_shown; accepts = accepts_shown; talks = talks_shown; publishes = publishes_shown }
+  shows_kept = record { starves = starves_shown; turns = turns_shown; accepts = accepts_shown; talks = talks_shown; publishes = publishes_shown }

@@ -1,12 +1,14 @@
 -- The seats of a run's workers and the lives that they are of.
-use Rattle.std.proofs.Common.{◌≡◌, ℕ, zero, suc, ◌+◌, List, [], ◌∷◌, ◌++◌, map, set, refl, sym, ap, ◌∙◌, subst, arith, append_assoc, append-nil}
+use Rattle.std.proofs.Common.{◌≡◌, ℕ, zero, suc, ◌+◌, List, [], ◌∷◌, ◌++◌, map, set, get_or, refl, sym, ap, ◌∙◌, subst, arith, append_assoc, append-nil}
 use Rattle.std.specs.Prelude.{length, replicate}
 use Rattle.okws_base.specs.Turns.{up_to_own}
 use Rattle.okws_base.specs.declared.journal.Entry.{Entry}
 use Rattle.okws_plan.specs.declared.configuration.Config.{Config}
 use Rattle.okws_plan.specs.declared.event.LauncherEvent.{LauncherEvent}
 use Rattle.okws_plan.specs.declared.event.ProxyEvent.{ProxyEvent}
+use Rattle.monitor_model.specs.declared.record.Own.{Own}
 use Rattle.monitor_model.specs.declared.record.Record.{Record}
+use Rattle.monitor_model.specs.Seen.{Seen}
 use Rattle.monitor_model.specs.Worker.{nothing_seen}
 use Rattle.named_columns.specs.Launched.{by_entry}
 use Rattle.turn_lock.specs.Seats.{SeatIs}
@@ -15,7 +17,7 @@ use Rattle.site_locks.specs.Made.{fresh}
 use Rattle.site_locks.specs.Sat.{Sat, seen_of}
 use Rattle.site_worker.specs.Lives.{Life}
 use Rattle.site_run.specs.Rows.{ChairsAre}
-use Rattle.site_run.specs.Tied.{IsUnusedChair, AreUnused, IsChairOf, AreChairsOf, SeatsOf, MoreOf, LifeBegins, AllBegin, LifeEnds, AllEnd}
+use Rattle.site_run.specs.Tied.{IsUnusedChair, OnlyLaunches, AreUnused, IsChairOf, AreChairsOf, SeatsOf, MoreOf, LifeBegins, AllBegin, LifeEnds, AllEnd}
 
 -- ---- whose the seats are
 
@@ -78,29 +80,70 @@ all_seats Js x y p q r h =
 
 -- ---- the seats of a run that begins
 
--- from number 0's seat at the launcher more was seen
-pub unused_first : (C : Config) (ss : List Sat) (cs : List CellsSeen) (as' : List (SeatIs (Entry LauncherEvent))) (b : SeatIs (Entry LauncherEvent)) → AreUnused C 0 ss cs as' → AreUnused C 0 ss cs (set as' 0 b)
-unused_first C ss cs [] b h = h
-unused_first C [] [] (a ∷ as') b h = absurd h
-unused_first C [] (c ∷ cs) (a ∷ as') b h = absurd h
-unused_first C (s ∷ ss) [] (a ∷ as') b h = absurd h
-unused_first C (s ∷ ss) (c ∷ cs) (a ∷ as') b h = (record { sat_is = h.0.sat_is; cells = h.0.cells; turn = λ l. absurd (omega arith) }, h.1)
+-- number 0 launched the services from its seat at the launcher
+pub unused_launched : (C : Config) (ss : List Sat) (r s : Sat) (cs : List CellsSeen) (as' : List (SeatIs (Entry LauncherEvent))) (b a : SeatIs (Entry LauncherEvent))
+    → r ≡ get_or ss 0 r → b ≡ get_or as' 0 b → s ≡ record r { own = s.own; spare = s.spare } → a ≡ record b { seen = a.seen } → (OnlyLaunches b.number r.own b.seen → OnlyLaunches b.number s.own a.seen)
+    → AreUnused C 0 ss cs as' → AreUnused C 0 (set ss 0 s) cs (set as' 0 a)
+unused_launched C [] r s [] [] b a p q e f l h = h
+unused_launched C [] r s [] (y ∷ as') b a p q e f l h = absurd h
+unused_launched C [] r s (c ∷ cs) as' b a p q e f l h = absurd h
+unused_launched C (x ∷ ss) r s [] as' b a p q e f l h = absurd h
+unused_launched C (x ∷ ss) r s (c ∷ cs) [] b a p q e f l h = absurd h
+unused_launched C (x ∷ ss) r s (c ∷ cs) (y ∷ as') b a p q e f l h =
+    let u = h.0 in
+    let number : b.number ≡ 0 = ap (λ (z : SeatIs (Entry LauncherEvent)). z.number) q ∙ u.seat in
+    let before : OnlyLaunches b.number r.own b.seen = subst (λ k. OnlyLaunches k r.own b.seen) (sym number)
+    (subst (λ (z : SeatIs (Entry LauncherEvent)). OnlyLaunches 0 r.own z.seen) (sym q) (subst (λ (z : Sat). OnlyLaunches 0 z.own y.seen) (sym p) u.launches)) in (
+      record {
+        sat_is = e ∙ ap (λ (z : Sat). record z { own = s.own; spare = s.spare }) (p ∙ u.sat_is);
+        cells = u.cells;
+        seat = ap (λ (z : SeatIs (Entry LauncherEvent)). z.number) f ∙ number;
+        launches = subst (λ k. OnlyLaunches k s.own a.seen) number (l before);
+        turn = λ o. absurd (omega arith);
+      },
+      h.1,
+    )
+
+-- number 0 was given spare places
+pub unused_spare : (C : Config) (ss : List Sat) (r s : Sat) (cs : List CellsSeen) (as' : List (SeatIs (Entry LauncherEvent))) → r ≡ get_or ss 0 r → s ≡ record r { spare = s.spare }
+    → AreUnused C 0 ss cs as' → AreUnused C 0 (set ss 0 s) cs as'
+unused_spare C [] r s cs as' p e h = h
+unused_spare C (x ∷ ss) r s [] as' p e h = absurd h
+unused_spare C (x ∷ ss) r s (c ∷ cs) [] p e h = absurd h
+unused_spare C (x ∷ ss) r s (c ∷ cs) (y ∷ as') p e h =
+    let u = h.0 in
+    let own_is : s.own ≡ x.own = ap (λ (z : Sat). z.own) (e ∙ ap (λ (z : Sat). record z { spare = s.spare }) p) in (
+      record {
+        sat_is = subst (λ items. s ≡ record (fresh (length C.proxies) 0) { own = items; spare = s.spare }) (sym own_is) (e ∙ ap (λ (z : Sat). record z { spare = s.spare }) (p ∙ u.sat_is));
+        cells = u.cells;
+        seat = u.seat;
+        launches = subst (λ items. OnlyLaunches 0 items y.seen) (sym own_is) u.launches;
+        turn = λ o. absurd (omega arith);
+      },
+      h.1,
+    )
 
 none_seen : (m w : ℕ) → map (up_to_own by_entry w) (replicate m []) ≡ replicate {A = List (Entry ProxyEvent)} m []
 none_seen zero w = refl
 none_seen (suc m) w = ap (λ l. [] ∷ l) (none_seen m w)
 
--- what a fresh number has seen
-fresh_seen : (m w : ℕ) → seen_of (fresh m w) ≡ nothing_seen m
-fresh_seen m w = ap (λ ps. record (nothing_seen m) { proxies = ps }) (none_seen m w)
+-- what a fresh number has seen, with these items
+fresh_seen : (m w : ℕ) (items : List Own) (k : ℕ) → seen_of (record (fresh m w) { own = items; spare = k }) ≡ record (nothing_seen m) { own = items }
+fresh_seen m w items k = ap (λ ps. record (nothing_seen m) { proxies = ps; own = items }) (none_seen m w)
 
 life_begins : (C : Config) (w : ℕ) (J : Life) (s : Sat) (c : CellsSeen) (a : SeatIs (Entry LauncherEvent)) → IsUnusedChair C w s c a → IsChairOf J s c a → LifeBegins C w J
-life_begins C w J s c a u h = record {
-  seen_is = h.seen_is ∙ (ap seen_of u.sat_is ∙ fresh_seen (length C.proxies) w);
-  board_is = h.board_is ∙ ap (λ (x : Sat). x.board) u.sat_is;
-  cells = subst (IsNew (length C.services) w) (sym h.cells_is) u.cells;
-  launcher = λ l. ap (λ (x : SeatIs (Entry LauncherEvent)). x.seen) h.launcher_is ∙ u.turn l;
-}
+life_begins C w J s c a u h =
+    let own_is : J.seen.own ≡ s.own = ap (λ (S : Seen). S.own) h.seen_is in
+    let seen_is : J.seen ≡ record (nothing_seen (length C.proxies)) { own = s.own } = h.seen_is ∙ (ap seen_of u.sat_is ∙ fresh_seen (length C.proxies) w s.own s.spare) in
+    let past_is : J.launcher.seen ≡ a.seen = ap (λ (x : SeatIs (Entry LauncherEvent)). x.seen) h.launcher_is in
+    record {
+      seen_is = subst (λ (items : List Own). J.seen ≡ record (nothing_seen (length C.proxies)) { own = items }) (sym own_is) seen_is;
+      board_is = h.board_is ∙ ap (λ (x : Sat). x.board) u.sat_is;
+      cells = subst (IsNew (length C.services) w) (sym h.cells_is) u.cells;
+      seat = ap (λ (x : SeatIs (Entry LauncherEvent)). x.number) h.launcher_is ∙ u.seat;
+      launches = subst (λ (items : List Own). OnlyLaunches w items J.launcher.seen) (sym own_is) (subst (OnlyLaunches w s.own) (sym past_is) u.launches);
+      launcher = λ l. (own_is ∙ (u.turn l).0, past_is ∙ (u.turn l).1);
+    }
 
 pub lives_begin : (C : Config) (w : ℕ) (Js : List Life) (ss : List Sat) (cs : List CellsSeen) (as' : List (SeatIs (Entry LauncherEvent))) → AreUnused C w ss cs as' → AreChairsOf Js ss cs as' → AllBegin C w Js
 lives_begin C w [] ss cs as' u h = tt

@@ -1,7 +1,7 @@
 -- What is made before a run.
 use Rattle.std.specs.Prelude.{◌≡◌, ◌≤◌, ℕ, List, [], length}
 use Rattle.okws_base.specs.declared.journal.Entry.{Entry}
-use Rattle.okws_base.specs.declared.limit.TheConstants.{MOST_PROXIES, MOST_SERVICES, MOST_TEMPLATES}
+use Rattle.okws_base.specs.declared.limit.TheConstants.{GREATEST_RETRY, MOST_PROXIES, MOST_SERVICES, MOST_TEMPLATES}
 use Rattle.okws_plan.specs.declared.configuration.Config.{Config}
 use Rattle.okws_plan.specs.declared.event.LogEvent.{LogEvent}
 use Rattle.okws_plan.specs.declared.event.ProxyEvent.{ProxyEvent}
@@ -15,6 +15,7 @@ use Rattle.site_locks.specs.Sat.{RiseFrom}
 pub record IsServable (C : Config) : Type 0 where
   pub rules : KeepsRules C
   pub services : length C.services ≤ MOST_SERVICES
+  pub retry : C.retry ≤ GREATEST_RETRY
   pub templates : length C.templates ≤ MOST_TEMPLATES
   pub proxies : length C.proxies ≤ MOST_PROXIES
 

@@ -38,6 +38,15 @@ AreChairs t cells k (s ∷ ss) (c ∷ cs) (a ∷ as') = IsChair t cells k s c a 
 abbrev pub Seated : TurnIs → ℕ → ChairsAre → Type 0
 Seated t cells x = AreChairs t cells 0 x.seats x.cells x.turns
 
+-- How many items the first of these numbers may note without memory.
+abbrev pub spare_first : List Sat → ℕ
+spare_first [] = 0
+spare_first (s ∷ ss) = s.spare
+
+-- The same of number 0.
+abbrev pub first_spare : ChairsAre → ℕ
+first_spare x = spare_first x.seats
+
 -- There is room for so many numbers.
 pub record Spacious (many : ℕ) (x : ChairsAre) : Type 0 where
   pub seats : many ≤ x.seats_room

@@ -1,7 +1,7 @@
 -- How the seats of a run's workers are tied to what the workers saw, and both to the record that the run leaves. Number n launches; the workers have the numbers below it.
-use Rattle.std.specs.Prelude.{◌≡◌, ◌<◌, ◌≤◌, ℕ, suc, List, [], ◌∷◌, ◌++◌, length, map, filter, slice_index, IsTrue}
+use Rattle.std.specs.Prelude.{◌≡◌, ◌<◌, ◌≤◌, ℕ, suc, Bool, true, false, List, [], ◌∷◌, ◌++◌, length, map, filter_map, is_none, slice_index, IsTrue}
 use Rattle.std.specs.List.{list_all}
-use Rattle.okws_base.specs.Past.{Grows}
+use Rattle.okws_base.specs.Past.{Grows, events_of}
 use Rattle.okws_base.specs.declared.journal.Entry.{Entry}
 use Rattle.okws_plan.specs.declared.configuration.Config.{Config}
 use Rattle.okws_plan.specs.declared.event.LauncherEvent.{LauncherEvent}
@@ -10,10 +10,12 @@ use Rattle.okws_plan.specs.declared.event.OkdEvent.{OkdEvent}
 use Rattle.okws_plan.specs.declared.event.ProxyEvent.{ProxyEvent}
 use Rattle.okws_plan.specs.declared.event.PubdEvent.{PubdEvent}
 use Rattle.monitor_model.specs.declared.record.Own.{Own}
+use Rattle.monitor_model.specs.declared.record.Own.TheVariants as own
 use Rattle.monitor_model.specs.declared.record.Record.{Record}
 use Rattle.monitor_model.specs.Launcher.{begun}
-use Rattle.monitor_model.specs.Merged.{IsOwn, cell_items, cell_past, is_at_cell, is_launch, list_of}
-use Rattle.monitor_model.specs.Tied.{EndsIn, OwnsColumns}
+use Rattle.monitor_model.specs.Merged.{IsOwn, is_launch, launcher_item, list_of}
+use Rattle.monitor_model.specs.Outside.{launcher_order}
+use Rattle.monitor_model.specs.Tied.{EndsIn}
 use Rattle.monitor_model.specs.Worker.{nothing_seen}
 use Rattle.live_board.specs.Board.{none_begun}
 use Rattle.turn_lock.specs.Seats.{SeatIs}
@@ -25,11 +27,29 @@ use Rattle.site_locks.specs.Sat.{Sat, seen_of}
 use Rattle.site_worker.specs.Lives.{Life, number_of}
 use Rattle.site_run.specs.Rows.{ChairsAre}
 
--- Nothing was seen or done from the seats of number w. From number 0's seat at the launcher its entries may have been seen: the services are launched from there before the workers begin.
+-- The item is an event at the launcher that no operator asked for, or tells that memory was refused.
+abbrev pub is_launching : Own → Bool
+is_launching (own.Launcher e) = is_none (launcher_order e)
+is_launching own.NoMemory = true
+is_launching _ = false
+
+-- Number w took turns at the launcher, which no operator asked for, and did nothing else: what it entered there it noted, in order, and besides it noted want of memory alone.
+pub record OnlyLaunches (w : ℕ) (items : List Own) (seen : List (Entry LauncherEvent)) : Type 0 where
+  pub entered : events_of w seen ≡ filter_map launcher_item items
+  pub only : IsTrue (list_all is_launching items)
+
+-- Want of memory was noted so, where there was any.
+abbrev pub IsNotedWhere : Bool → List Own → List Own → Type 0
+IsNotedWhere true items now = now ≡ own.NoMemory ∷ items
+IsNotedWhere false items now = now ≡ items
+
+-- Nothing was seen or done from the seats of number w, unless it is number 0: from its seat at the launcher the services are launched before the workers begin.
 pub record IsUnusedChair (C : Config) (w : ℕ) (s : Sat) (c : CellsSeen) (a : SeatIs (Entry LauncherEvent)) : Type 0 where
-  pub sat_is : s ≡ fresh (length C.proxies) w
+  pub sat_is : s ≡ record (fresh (length C.proxies) w) { own = s.own; spare = s.spare }
   pub cells : IsNew (length C.services) w c
-  pub turn : 0 < w → a.seen ≡ []
+  pub seat : a.number ≡ w
+  pub launches : OnlyLaunches w s.own a.seen
+  pub turn : 0 < w → (s.own ≡ []) × (a.seen ≡ [])
 
 -- The same of numbers that rise by one from w.
 abbrev pub AreUnused : Config → ℕ → List Sat → List CellsSeen → List (SeatIs (Entry LauncherEvent)) → Type 0
@@ -76,12 +96,14 @@ pub record MoreOf (Js : List Life) (x y : ChairsAre) : Type 0 where
   pub turns_are : y.turns ≡ x.turns ++ turns
   pub whose : AreChairsOf Js seats cells turns
 
--- A life of number w begins: it has seen nothing of the columns, of the cells and of the board, and did nothing. Number 0 may have seen entries of the launcher's, since the services are launched under it before the workers begin.
+-- A life of number w begins: it has seen nothing of the columns, of the cells and of the board, and did nothing. Number 0 took turns at the launcher before, since the services are launched under it before the workers begin.
 pub record LifeBegins (C : Config) (w : ℕ) (J : Life) : Type 0 where
-  pub seen_is : J.seen ≡ nothing_seen (length C.proxies)
+  pub seen_is : J.seen ≡ record (nothing_seen (length C.proxies)) { own = J.seen.own }
   pub board_is : J.board ≡ none_begun
   pub cells : IsNew (length C.services) w J.cells
-  pub launcher : 0 < w → J.launcher.seen ≡ []
+  pub seat : J.launcher.number ≡ w
+  pub launches : OnlyLaunches w J.seen.own J.launcher.seen
+  pub launcher : 0 < w → (J.seen.own ≡ []) × (J.launcher.seen ≡ [])
 
 -- The same of numbers that rise by one from w.
 abbrev pub AllBegin : Config → ℕ → List Life → Type 0
@@ -118,8 +140,3 @@ pub record ColumnsGrown (seats : List Sat) (okd : List (Entry OkdEvent)) (proxie
 pub record AreLists (seats : List Sat) (lists : List (List Own)) : Type 0 where
   pub last : List Own
   pub lists_are : map (λ (s : Sat). s.own) seats ≡ lists ++ last ∷ []
-
--- In each column's journal the entries of number w are the items of its list there, in order, and in each cell its dialogs and Misseds; of number n, which launches, its Boots and Retireds.
-pub record ListIsOwn (n w : ℕ) (R : Record) : Type 0 where
-  pub columns : OwnsColumns R w (list_of R w)
-  pub cells : (s : ℕ) → cell_items n w s (cell_past R s) ≡ filter (is_at_cell s) (list_of R w)

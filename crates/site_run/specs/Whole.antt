@@ -1,5 +1,5 @@
 -- A run between its beginning and its end. Number n launches; the doors' workers and the console's have the numbers below it.
-use Rattle.std.specs.Prelude.{◌≡◌, ◌≤◌, ◌<◌, ℕ, suc, ◌+◌, List, [], ◌∷◌, length}
+use Rattle.std.specs.Prelude.{◌≡◌, ◌≤◌, ◌<◌, ℕ, suc, ◌+◌, ◌*◌, List, [], ◌∷◌, length}
 use Rattle.okws_base.specs.declared.limit.TheConstants.{MOST_DOORS}
 use Rattle.live_board.specs.Board.{drawn_by}
 use Rattle.live_board.specs.Seats.{BoardIs, AllAt}
@@ -10,7 +10,8 @@ use Rattle.site_locks.specs.Made.{AreFreshFrom}
 use Rattle.site_locks.specs.Sat.{Sat}
 use Rattle.turn_lock.specs.Rows.{AllCount}
 use Rattle.turn_lock.specs.Seats.{TurnIs}
-use Rattle.site_run.specs.Rows.{ChairsAre, Seated}
+use Rattle.site_worker.specs.declared.worker.TheConstants.{TURN_ITEMS}
+use Rattle.site_run.specs.Rows.{ChairsAre, Seated, first_spare}
 use Rattle.site_run.specs.Places.{PlacesAre, HasPlaces, Placed}
 use Rattle.site_run.specs.Tied.{Unused}
 
@@ -46,10 +47,11 @@ pub record IsHeld (C : Config) (n : ℕ) (turn : TurnIs) (numbers : BoardIs) (ce
   pub cells_count : AllCount (n + 1) cell_turns
   pub services : length cell_turns ≡ length C.services
 
--- The same before the workers began, with room for what they take.
+-- The same before the workers began, with room for what they take, and for what number 0 notes when the services are launched.
 pub record IsReady (C : Config) (n : ℕ) (turn : TurnIs) (numbers : BoardIs) (cell_turns : List TurnIs) (chairs : ChairsAre) (places : PlacesAre) : Type 0 where
   pub held : IsHeld C n turn numbers cell_turns chairs places
   pub unused : Unused C chairs
+  pub spare : length C.services * TURN_ITEMS ≤ first_spare chairs
   pub turns_roomy : n ≤ chairs.turns_room
   pub placed : Placed numbers.id places
   pub roomy : HasPlaces (length places.entrances) places

@@ -51,6 +51,13 @@ impl Papers {
             seed: *seed,
         })
     }
+
+    /// How many services the site has.
+    pub(crate) fn services(&self) -> usize
+        ensures { result ≡ length (arc_value self.now.site).services }
+    {
+        self.site.services.as_slice().len()
+    }
 }
 
 // The launcher of a site at which nothing was launched. Where memory is refused, the children come back.

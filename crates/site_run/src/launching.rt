@@ -1,49 +1,109 @@
 //! Launching the services of a run before its workers begin.
 
-ghost use Rattle.std.specs.Prelude.{◌≡◌, ◌≤◌, ◌<◌, length};
-ghost use Rattle.okws_base.specs.declared.limit.TheConstants.{MOST_SERVICES};
+ghost use Rattle.std.specs.Prelude.{◌≡◌, ◌≤◌, ◌<◌, ◌+◌, ◌*◌, ◌++◌, ℕ, length, map};
+ghost use Rattle.okws_base.specs.declared.limit.TheConstants.{MOST_SERVICES, GREATEST_RETRY};
+ghost use Rattle.monitor_model.specs.declared.record.Own.TheVariants as own;
 ghost use Rattle.turn_lock.specs.Rows.{RestsAt};
-ghost use Rattle.site_run.specs.Rows.{Seated, SameRoom};
-ghost use Rattle.site_run.specs.Tied.{Unused};
+ghost use Rattle.site_worker.specs.declared.worker.TheConstants.{TURN_ITEMS};
+ghost use Rattle.site_run.specs.Rows.{Seated, SameRoom, first_spare};
+ghost use Rattle.site_run.specs.Tied.{IsNotedWhere, OnlyLaunches, Unused};
 
 use crate::row::{Chairs, Ground};
 use cell_locks::named::CellNames;
+use monitor_model::record::Own;
 use named_columns::named::Backed;
+use okld_launch::answer::Launched;
+use okld_launch::entered::Entered;
 use okld_launch::launcher::Launcher;
 use okld_launch::turns::launch_by;
 use okws_outer::children::Children;
 use okws_outer::gate::Gate;
 use okws_outer::keeper::Keeper;
 use okws_outer::stream::Sink;
+use site_locks::locks::Seats;
 use site_locks::named::Site;
 use std::sync::Wait;
 use turn_lock::Seat;
 
+// Notes events that a turn entered at the launcher, in spare places, the oldest first. Takes no memory.
+fn note_entered<N: Backed, J: Site, K: Keeper, S: Sink>(
+    seats: &mut Seats<N, J, K, S>,
+    entered: Entered,
+)
+    requires { length entered ≤ seats.old.spare }
+    ensures notes { seats.new ≡ record seats.old { own = map own.Launcher entered ++ seats.old.own; spare = seats.new.spare } }
+    ensures spends { seats.old.spare ≤ seats.new.spare + length entered }
+{
+    let mut entered = entered;
+    while let Some(event) = entered.pop_oldest() {
+        seats.note_spare(Own::Launcher(event));
+    }
+}
+
+// Notes want of memory so, where there was any. Takes no memory.
+fn note_where<N: Backed, J: Site, K: Keeper, S: Sink>(seats: &mut Seats<N, J, K, S>, starved: bool)
+    requires { 0 < seats.old.spare }
+    ensures seats { seats.new ≡ record seats.old { own = seats.new.own; spare = seats.new.spare } }
+    ensures notes { IsNotedWhere starved seats.old.own seats.new.own }
+    ensures spends { seats.old.spare ≤ seats.new.spare + 1 }
+{
+    if starved {
+        seats.note_spare(Own::NoMemory);
+    }
+}
+
+// Launches a service that isn't up, in a turn of this seat; what the turn entered is noted, and want of memory.
+fn launch_one<R: Wait, G: Gate, N: Backed, J: Site, C: CellNames, K: Keeper, S: Sink, F: Children>(
+    ground: &Ground<'_, R, G, N, J, C, K, S, F>,
+    seats: &mut Seats<N, J, K, S>,
+    seat: &mut Seat<Launcher<N, J, C, K, S, F>>,
+    service: u16,
+)
+    requires retry { N.site.retry ≤ GREATEST_RETRY }
+    requires service { service < length N.site.services }
+    requires rest { RestsAt ground.now.turn.now seat.old }
+    requires spare { TURN_ITEMS ≤ seats.old.spare }
+    ensures seat { seat.new ≡ record seat.old { seen = seat.new.seen } }
+    ensures seats { seats.new ≡ record seats.old { own = seats.new.own; spare = seats.new.spare } }
+    ensures launches { OnlyLaunches seat.old.number seats.old.own seat.old.seen → OnlyLaunches seat.old.number seats.new.own seat.new.seen }
+    ensures spends { seats.old.spare ≤ seats.new.spare + TURN_ITEMS }
+{
+    let (launched, entered) = launch_by(
+        ground.rt,
+        ground.gate,
+        ground.turn,
+        seat,
+        ground.locks,
+        ground.cells,
+        service,
+    );
+    note_entered(seats, entered);
+    note_where(seats, matches!(launched, Some(Launched::NoMemory)));
+}
+
 // Launches each service that isn't up, in turns of this seat.
 fn launch_from<R: Wait, G: Gate, N: Backed, J: Site, C: CellNames, K: Keeper, S: Sink, F: Children>(
     ground: &Ground<'_, R, G, N, J, C, K, S, F>,
+    seats: &mut Seats<N, J, K, S>,
     seat: &mut Seat<Launcher<N, J, C, K, S, F>>,
 )
     requires site { ground.now.site.now ≡ N.site }
     requires few { length N.site.services ≤ MOST_SERVICES }
+    requires retry { N.site.retry ≤ GREATEST_RETRY }
     requires rest { RestsAt ground.now.turn.now seat.old }
-    ensures { seat.new ≡ record seat.old { seen = seat.new.seen } }
+    requires spare { length N.site.services * TURN_ITEMS ≤ seats.old.spare }
+    ensures seat { seat.new ≡ record seat.old { seen = seat.new.seen } }
+    ensures seats { seats.new ≡ record seats.old { own = seats.new.own; spare = seats.new.spare } }
+    ensures launches { OnlyLaunches seat.old.number seats.old.own seat.old.seen → OnlyLaunches seat.old.number seats.new.own seat.new.seen }
 {
     let services = ground.site.services.as_slice().len() as u16;
     for service in 0..services {
-        let _launched = launch_by(
-            ground.rt,
-            ground.gate,
-            ground.turn,
-            seat,
-            ground.locks,
-            ground.cells,
-            service,
-        );
+        launch_one(ground, seats, seat, service);
     }
 }
 
-/// Launches each service that isn't up, in number 0's turns at the launcher.
+/// Launches each service that isn't up, in number 0's turns at the launcher; number 0 notes what it enters there.
+/// It has the places for that.
 pub fn launch_all<
     R: Wait,
     G: Gate,
@@ -56,12 +116,14 @@ pub fn launch_all<
 >(ground: &Ground<'_, R, G, N, J, C, K, S, F>, chairs: &mut Chairs<N, J, C, K, S, F>)
     requires site { ground.now.site.now ≡ N.site }
     requires few { length N.site.services ≤ MOST_SERVICES }
-    requires some { 0 < length chairs.old.turns }
+    requires retry { N.site.retry ≤ GREATEST_RETRY }
+    requires some { (0 < length chairs.old.seats) × (0 < length chairs.old.turns) }
+    requires spare { length N.site.services * TURN_ITEMS ≤ first_spare chairs.old }
     requires seated { Seated ground.now.turn.now (length N.site.services) chairs.old }
     ensures seated { Seated ground.now.turn.now (length N.site.services) chairs.new }
     ensures unused { Unused N.site chairs.old → Unused N.site chairs.new }
     ensures room { SameRoom chairs.old chairs.new }
     ensures many { (length chairs.new.seats ≡ length chairs.old.seats) × (length chairs.new.turns ≡ length chairs.old.turns) }
 {
-    launch_from(ground, &mut chairs.turns[0]);
+    launch_from(ground, &mut chairs.seats[0], &mut chairs.turns[0]);
 }

@@ -1,7 +1,7 @@
 //! The seats of a run's workers, by their numbers.
 
 ghost use Rattle.std.specs.Prelude.{◌≡◌, ◌≤◌, ◌<◌, ◌+◌, [], ◌∷◌, length, true, vec_capacity};
-ghost use Rattle.okws_base.specs.declared.limit.TheConstants.{MOST_SERVICES};
+ghost use Rattle.okws_base.specs.declared.limit.TheConstants.{MOST_SERVICES, GREATEST_RETRY};
 ghost use Rattle.turn_lock.specs.Seats.{TurnIs};
 ghost use Rattle.site_run.specs.Rows.{Seated, Spacious, SameRoom, WorksAs};
 ghost use Rattle.site_run.specs.Tied.{MoreOf};
@@ -91,13 +91,14 @@ impl<N: Backed, J: Site, C: CellNames, K: Keeper, S: Sink, F: Children> Chairs<N
     ) -> Worker<'a, R, G, N, J, C, K, S, F>
         requires tells { N.tells ≡ true }
         requires few { length N.site.services ≤ MOST_SERVICES }
+        requires retry { N.site.retry ≤ GREATEST_RETRY }
         requires some { 0 < length self.old.seats }
         requires seated { Seated ground.now.turn.now (length N.site.services) self.old }
         ensures seated { Seated ground.now.turn.now (length N.site.services) self.new }
         ensures less { length self.new.seats + 1 ≡ length self.old.seats }
         ensures room { SameRoom self.old self.new }
-        ensures worker { WorksAs ground.now.turn.now (length self.new.seats) result }
-        ensures whose { MoreOf (result ∷ []) self.new self.old }
+        ensures worker { WorksAs ground.now.turn.now (length self.new.seats) result.life }
+        ensures whose { MoreOf (result.life ∷ []) self.new self.old }
     {
         let Some(seats) = self.seats.pop() else {
             unreachable!()
@@ -122,9 +123,9 @@ impl<N: Backed, J: Site, C: CellNames, K: Keeper, S: Sink, F: Children> Chairs<N
     pub fn take_back<R: Wait, G: Gate>(&mut self, worker: Worker<'_, R, G, N, J, C, K, S, F>)
         requires room { Spacious (length self.old.seats + 1) self.old }
         requires alike { (length self.old.cells ≡ length self.old.seats) × (length self.old.turns ≡ length self.old.seats) }
-        ensures seated { (t : TurnIs) → WorksAs t (length self.old.seats) worker.entry → Seated t (length N.site.services) self.old → Seated t (length N.site.services) self.new }
+        ensures seated { (t : TurnIs) → WorksAs t (length self.old.seats) worker.entry.life → Seated t (length N.site.services) self.old → Seated t (length N.site.services) self.new }
         ensures more { (length self.new.seats ≡ length self.old.seats + 1) × (length self.new.cells ≡ length self.old.seats + 1) × (length self.new.turns ≡ length self.old.seats + 1) }
-        ensures whose { MoreOf (worker.entry ∷ []) self.old self.new }
+        ensures whose { MoreOf (worker.entry.life ∷ []) self.old self.new }
         ensures room { SameRoom self.old self.new }
     {
         let (seats, at_cells, at_launcher) = worker.into_seats();

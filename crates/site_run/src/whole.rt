@@ -36,6 +36,7 @@ use okws_outer::stream::{Link, Sink};
 use site_locks::locks::{Locks, Seats};
 use site_locks::making::Made;
 use site_locks::named::Site;
+use site_worker::worker::TURN_ITEMS;
 use std::alloc::{AllocError, Global};
 use std::sync::Wait;
 use turn_lock::Turn;
@@ -137,6 +138,10 @@ impl<
         let Some(own_cells) = at_cells.pop() else {
             unreachable!()
         };
+        let services = papers.services() as u32;
+        if seats[0].make_spare(services * TURN_ITEMS).is_err() {
+            return Err((doors, children));
+        }
         let workers = doors.len() as u16 + 1;
         match hire(alloc, papers, own, own_cells, children, workers, keeps) {
             Err(children) => Err((doors, children)),

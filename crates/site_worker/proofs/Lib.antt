@@ -2,5 +2,6 @@ mod Booted
 mod Lives
 mod Turns
 mod Same
+mod Spending
 mod Rounds
 mod Commands

@@ -1,8 +1,15 @@
 -- What becomes of a worker step by step.
-use Rattle.std.proofs.Common.{inl, inr, ◌∙◌, subst}
+use Rattle.std.proofs.Common.{◌≡◌, ℕ, ◌≤◌, List, refl, sym, ap, ◌∙◌, subst}
+use Rattle.std.specs.Prelude.{slice_index}
+use Rattle.okws_base.specs.declared.journal.Entry.{Entry}
+use Rattle.okws_plan.specs.declared.event.LauncherEvent.{LauncherEvent}
 use Rattle.monitor_model.specs.Seen.{Seen, noted}
 use Rattle.monitor_model.specs.declared.record.Own.TheVariants as own
-use Rattle.site_worker.specs.Lives.{Life, Sees, Starves}
+use Rattle.cell_locks.specs.Row.{CellsSeen}
+use Rattle.site_locks.specs.Sat.{Sat, seen_of}
+use Rattle.site_locks.specs.Steps.{NotesSpare}
+use Rattle.turn_lock.specs.Seats.{SeatIs}
+use Rattle.site_worker.specs.Lives.{Life, Working, Sees, Starves}
 
 pub sees_on : (J M K : Life) (now : Seen) → Sees J.seen J M → Sees now M K → Sees now J K
 sees_on J M K now a b = record {
@@ -14,5 +21,22 @@ sees_on J M K now a b = record {
 
 -- nothing, and then a note
 pub starves_on : (J M K : Life) → Sees J.seen J M → Starves M K → Starves J K
-starves_on J M K a (inl b) = inl (sees_on J M K (noted J.seen own.NoMemory) a (subst (λ (x : Seen). Sees (noted x own.NoMemory) M K) a.seen_is b))
-starves_on J M K a (inr b) = inr (sees_on J M K J.seen a (subst (λ (x : Seen). Sees x M K) a.seen_is b))
+starves_on J M K a b = sees_on J M K (noted J.seen own.NoMemory) a (subst (λ (x : Seen). Sees (noted x own.NoMemory) M K) a.seen_is b)
+
+-- a note in a spare place, by what the number has seen at the columns and at the cells
+pub noted_starves : (s now : Sat) (cells : CellsSeen) (launcher : SeatIs (Entry LauncherEvent)) → NotesSpare own.NoMemory s now
+    → Starves (record { seen = seen_of s; cells = cells; board = s.board; launcher = launcher }) (record { seen = seen_of now; cells = cells; board = now.board; launcher = launcher })
+noted_starves s now cells launcher h = record {
+  seen_is = ap seen_of h.0;
+  cells_is = refl;
+  launcher_is = refl;
+  board = λ t k l. subst (λ (b : List ℕ). k ≤ slice_index b t) (sym (ap (λ (x : Sat). x.board) h.0)) l;
+}
+
+-- the worker of these seats
+abbrev pub working_of : Sat → CellsSeen → SeatIs (Entry LauncherEvent) → Working
+working_of s cells launcher = record { life = record { seen = seen_of s; cells = cells; board = s.board; launcher = launcher }; spare = s.spare }
+
+pub spare_made : (s now : Sat) (cells : CellsSeen) (launcher : SeatIs (Entry LauncherEvent)) (places : ℕ) → now ≡ record s { spare = places }
+    → working_of now cells launcher ≡ record (working_of s cells launcher) { spare = places }
+spare_made s now cells launcher places e = ap (λ (x : Sat). working_of x cells launcher) e

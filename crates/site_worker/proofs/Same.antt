@@ -3,6 +3,7 @@ use Rattle.std.proofs.Common.{◌≡◌, inl, inr, ℕ, Bool, true, false, List,
 use Rattle.okws_base.specs.declared.journal.Entry.{Entry}
 use Rattle.okws_plan.specs.declared.configuration.Config.{Config}
 use Rattle.okws_plan.specs.declared.event.LauncherEvent.{LauncherEvent}
+use Rattle.okws_plan.specs.declared.event.LauncherEvent.{LauncherEvent}
 use Rattle.turn_lock.specs.Seats.{SeatIs}
 use Rattle.okws_outer.specs.Conns.{ConnWire}
 use Rattle.okws_outer.specs.Doors.{Entrance}
@@ -52,21 +53,20 @@ same_sees : (now : Seen) (J K : Life) → Sees now J K → SameWorker J K
 same_sees now J K h = record { number_is = ap (λ (x : CellsSeen). x.number) h.cells_is; launcher_is = same_seat J K h.launcher_is }
 
 same_starves : (J K : Life) → Starves J K → SameWorker J K
-same_starves J K (inl h) = same_sees _ J K h
-same_starves J K (inr h) = same_sees _ J K h
+same_starves J K h = same_sees _ J K h
 
 same_where : (b : Bool) (J K : Life) → StarvesWhere b J K → SameWorker J K
 same_where true J K h = same_starves J K h
 same_where false J K h = same_at_once J K h
 
-same_launcher : (J K : Life) → OnlyLauncher J K → SameWorker J K
-same_launcher J K e = record { number_is = ap (λ (x : Life). number_of x) e; launcher_is = ap (λ (x : Life). x.launcher) e }
+same_launcher : (events : List LauncherEvent) (J K : Life) → OnlyLauncher events J K → SameWorker J K
+same_launcher events J K e = record { number_is = ap (λ (x : Life). number_of x) e; launcher_is = ap (λ (x : Life). x.launcher) e }
 
 same_reports : (C : Config) (s k : ℕ) (J K : Life) → Reports C s k J K → SameWorker J K
-same_reports C s k J K h = same_on J h.mid K (same_launcher J h.mid h.only) (same_where _ h.mid K h.notes)
+same_reports C s k J K h = same_on J h.mid K (same_launcher h.events J h.mid h.only) (same_where _ h.mid K h.notes)
 
 same_tends : (C : Config) (s : ℕ) (J K : Life) → Tends C s J K → SameWorker J K
-same_tends C s J K h = same_on J h.mid K (same_launcher J h.mid h.only) (same_where _ h.mid K h.notes)
+same_tends C s J K h = same_on J h.mid K (same_launcher h.events J h.mid h.only) (same_where _ h.mid K h.notes)
 
 same_talks : (C : Config) (n : ℕ) (asked : Asked) (s k : ℕ) (answer : Talked) (J K : Life) → Talks C n asked s k answer J K → SameWorker J K
 same_talks C n asked s k answer J K h = record { number_is = ap (λ (x : CellsSeen). x.number) h.only; launcher_is = same_seat J K h.launcher_is }
@@ -118,10 +118,12 @@ same_round wire C n number e f J K what h = same_on J h.mid K (same_serves wire 
 same_publishes : (J : Life) (t : ℕ) (content : List ℕ) (p : Publishing) (K : Life) → Publishes J t content p K → SameWorker J K
 same_publishes J t content (publishing.Edition n) K h = same_sees _ J K h.3
 same_publishes J t content publishing.EditionsSpent K h = same_sees _ J K h.2
-same_publishes J t content publishing.NoMemory K h = same_starves J K h
+same_publishes J t content publishing.NoMemory K (inl h) = same_starves J K h
+same_publishes J t content publishing.NoMemory K (inr h) = same_at_once J K h
 
 same_asks : (C : Config) (J : Life) (s : ℕ) (r : _) (K : Life) → Relaunches C J s r K → SameWorker J K
-same_asks C J s r K h = same_on J h.2.mid K (same_launcher J h.2.mid h.2.only) (same_where _ h.2.mid K h.2.notes)
+same_asks C J s r K (inl h) = same_on J h.2.mid K (same_launcher h.2.events J h.2.mid h.2.only) (same_where _ h.2.mid K h.2.notes)
+same_asks C J s r K (inr h) = same_at_once J K h.1
 
 same_published : (line t size : ℕ) (bytes : List ℕ) (left : Option (List ℕ)) (J : Life) (a : Answer) (K : Life) → IsPublished Publishes line t size bytes left J a K → SameWorker J K
 same_published line t size bytes left J a K (inl h) = same_publishes J t bytes h.1 K h.2

@@ -24,7 +24,8 @@ use Rattle.door_worker.specs.declared.handler.Outcome.{Outcome}
 use Rattle.door_worker.specs.declared.handler.Outcome.TheVariants as outcome
 use Rattle.door_worker.specs.Asking.{Asked}
 use Rattle.door_worker.specs.Replies.{Replied}
-use Rattle.site_worker.specs.Lives.{Life, number_of, Rises, Sees, Starves}
+use Rattle.site_worker.specs.Lives.{Life, Working, Spends, number_of, Rises, Sees, Starves}
+use Rattle.site_worker.specs.declared.worker.TheConstants.{TURN_ITEMS}
 use Rattle.site_worker.specs.Launching.{Reports}
 
 -- The path was entered at okd as an Accept, whose verdict is this way.
@@ -88,3 +89,11 @@ abbrev pub Handles : Config → ℕ → Life → Asked → Outcome → Replied �
 Handles C n J asked became reply K =
     ((became ≡ outcome.NoMemory) × Starves J K)
     ⊎ ((goes : Way) × (M : Life) × Accepts C asked.path goes J M × Goes C n asked goes became reply M K)
+
+-- The same of a worker, which spends the spare places of one turn at most.
+abbrev pub HandlesBy : Config → ℕ → Working → Asked → Outcome → Replied → Working → Type 0
+HandlesBy C n J asked became reply K = Handles C n J.life asked became reply K.life × Spends TURN_ITEMS J K
+
+-- Want of memory was noted by a worker, in one of these.
+abbrev pub StarvesBy : Working → Working → Type 0
+StarvesBy J K = Starves J.life K.life × Spends TURN_ITEMS J K

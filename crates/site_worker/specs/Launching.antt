@@ -1,6 +1,14 @@
 -- A worker's turns at the launcher.
-use Rattle.std.specs.Prelude.{◌≡◌, ℕ, Bool, true, false}
+use Rattle.std.specs.Prelude.{◌≡◌, ℕ, Bool, true, false, List, ◌++◌, map}
+use Rattle.okws_base.specs.Turns.{GrowsBy}
+use Rattle.okws_base.specs.declared.journal.Entry.{Entry}
 use Rattle.okws_plan.specs.declared.configuration.Config.{Config}
+use Rattle.okws_plan.specs.declared.event.LauncherEvent.{LauncherEvent}
+use Rattle.monitor_model.specs.declared.record.Own.{Own}
+use Rattle.monitor_model.specs.declared.record.Own.TheVariants as own
+use Rattle.monitor_model.specs.Seen.{Seen}
+use Rattle.named_columns.specs.Launched.{by_entry}
+use Rattle.okld_launch.specs.Entering.{Enters}
 use Rattle.okld_launch.specs.Turns.{RelaunchesBy, ReportsBy, TendsBy}
 use Rattle.okld_launch.specs.declared.answer.Launched.{Launched}
 use Rattle.okld_launch.specs.declared.answer.Launched.TheVariants as launched
@@ -33,29 +41,43 @@ tend_starved (tended.Dead n) = false
 tend_starved tended.Spent = false
 tend_starved tended.NoMemory = true
 
--- Only the seat at the launcher may have seen more.
-abbrev pub OnlyLauncher : Life → Life → Type 0
-OnlyLauncher J K = K ≡ record J { launcher = record J.launcher { seen = K.launcher.seen } }
+-- Events that were entered at the launcher, the newest first, were noted as own items, too.
+abbrev pub with_launches : List LauncherEvent → Seen → Seen
+with_launches events J = record J { own = map own.Launcher events ++ J.own }
 
--- The launcher was told that incarnation k of s has crashed.
+-- Only the seat at the launcher may have seen more, and these events were noted.
+abbrev pub OnlyLauncher : List LauncherEvent → Life → Life → Type 0
+OnlyLauncher events J K = K ≡ record J { launcher = record J.launcher { seen = K.launcher.seen }; seen = with_launches events J.seen }
+
+-- A turn at the launcher: these events were entered there, the newest first, on what others had entered since, and each was noted.
+pub record TakesTurn (events : List LauncherEvent) (J K : Life) : Type 0 where
+  pub before : List (Entry LauncherEvent)
+  pub grows : GrowsBy by_entry J.launcher.number J.launcher.seen before
+  pub enters : Enters J.launcher.number events before K.launcher.seen
+  pub only : OnlyLauncher events J K
+
+-- The launcher was told that incarnation k of s has crashed; what the turn entered there was noted.
 pub record Reports (C : Config) (s k : ℕ) (J K : Life) : Type 0 where
   pub answer : Crashed
+  pub events : List LauncherEvent
   pub mid : Life
-  pub only : OnlyLauncher J mid
-  pub reports : ReportsBy C s k J.launcher answer mid.launcher
+  pub only : OnlyLauncher events J mid
+  pub reports : ReportsBy C s k J.launcher answer events mid.launcher
   pub notes : StarvesWhere (crash_starved answer) mid K
 
--- Service s was looked after.
+-- Service s was looked after; what the turn entered at the launcher was noted.
 pub record Tends (C : Config) (s : ℕ) (J K : Life) : Type 0 where
   pub answer : Tended
+  pub events : List LauncherEvent
   pub mid : Life
-  pub only : OnlyLauncher J mid
-  pub tends : TendsBy C s J.launcher answer mid.launcher
+  pub only : OnlyLauncher events J mid
+  pub tends : TendsBy C s J.launcher answer events mid.launcher
   pub notes : StarvesWhere (tend_starved answer) mid K
 
--- The operator asked for service s.
+-- The operator asked for service s; what the turn entered at the launcher was noted.
 pub record Asks (C : Config) (s : ℕ) (answer : Launched) (J K : Life) : Type 0 where
+  pub events : List LauncherEvent
   pub mid : Life
-  pub only : OnlyLauncher J mid
-  pub relaunches : RelaunchesBy C s J.launcher answer mid.launcher
+  pub only : OnlyLauncher events J mid
+  pub relaunches : RelaunchesBy C s J.launcher answer events mid.launcher
   pub notes : StarvesWhere (launch_starved answer) mid K

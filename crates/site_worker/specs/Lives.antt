@@ -1,6 +1,7 @@
 -- What a worker has seen and done.
-use Rattle.std.specs.Prelude.{◌≡◌, ◌⊎◌, ◌≤◌, ℕ, Bool, true, false, List, length, slice_index}
+use Rattle.std.specs.Prelude.{◌≡◌, ◌≤◌, ◌+◌, ℕ, Bool, true, false, List, length, slice_index}
 use Rattle.okws_base.specs.declared.journal.Entry.{Entry}
+use Rattle.okws_base.specs.declared.limit.TheConstants.{GREATEST_RETRY}
 use Rattle.okws_plan.specs.declared.configuration.Config.{Config}
 use Rattle.okws_plan.specs.declared.event.LauncherEvent.{LauncherEvent}
 use Rattle.monitor_model.specs.declared.record.Own.TheVariants as own
@@ -15,6 +16,15 @@ pub record Life : Type 0 where
   pub cells : CellsSeen
   pub board : List ℕ
   pub launcher : SeatIs (Entry LauncherEvent)
+
+-- A worker: what it has seen and done, and how many items it may note without memory.
+pub record Working : Type 0 where
+  pub life : Life
+  pub spare : ℕ
+
+-- It noted so many items in its spare places at most.
+abbrev pub Spends : ℕ → Working → Working → Type 0
+Spends most J K = J.spare ≤ K.spare + most
 
 -- The number that its entries name.
 abbrev pub number_of : Life → ℕ
@@ -31,22 +41,23 @@ pub record Sees (now : Seen) (J K : Life) : Type 0 where
   pub launcher_is : K.launcher ≡ J.launcher
   pub board : Rises J.board K.board
 
--- Want of memory was noted, unless memory for that was refused, too.
+-- Want of memory was noted.
 abbrev pub Starves : Life → Life → Type 0
-Starves J K = Sees (noted J.seen own.NoMemory) J K ⊎ Sees J.seen J K
+Starves J K = Sees (noted J.seen own.NoMemory) J K
 
 -- Want of memory was noted so, where there was any.
 abbrev pub StarvesWhere : Bool → Life → Life → Type 0
 StarvesWhere true J K = Starves J K
 StarvesWhere false J K = K ≡ J
 
--- A worker of this number at a site, at this lock of the launcher.
+-- A worker of this number at a site, which gives a service up after no more tries than are allowed, at this lock of the launcher.
 pub record IsWorker (C : Config) (services number : ℕ) (turn : TurnIs) (J : Life) : Type 0 where
   pub services_is : services ≡ length C.services
   pub number_is : number_of J ≡ number
   pub cells_are : length J.cells.cells ≡ length C.services
   pub rests : RestsAt turn J.launcher
   pub launcher_number : J.launcher.number ≡ number_of J
+  pub retry : C.retry ≤ GREATEST_RETRY
 
 -- The same worker: its number is the same, and its seat at the launcher, which may have seen more.
 pub record SameWorker (J K : Life) : Type 0 where

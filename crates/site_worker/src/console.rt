@@ -49,8 +49,8 @@ impl<
         requires config { site.now ≡ N.site }
         requires services { length N.site.services ≤ MOST_SERVICES }
         requires templates { length N.site.templates ≤ MOST_TEMPLATES }
-        ensures oversees { Oversees N.site (O.wire console.old) (O.wire console.new) reader.old reader.new self.old self.new result }
-        ensures same { SameWorker self.old self.new }
+        ensures oversees { Oversees N.site (O.wire console.old) (O.wire console.new) reader.old reader.new self.old.life self.new.life result }
+        ensures same { SameWorker self.old.life self.new.life }
     {
         let rt = self.rt;
         let alloc = self.alloc;

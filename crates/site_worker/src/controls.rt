@@ -3,7 +3,7 @@
 ghost use Rattle.std.specs.Prelude.{◌≡◌};
 ghost use Rattle.site_worker.specs.Steering.{told_of};
 
-use crate::worker::Worker;
+use crate::worker::{TURN_ITEMS, Worker};
 use admin_console::controls::{Controls, Publishing, Relaunching};
 use cell_locks::named::CellNames;
 use monitor_model::verdict::Published;
@@ -45,7 +45,7 @@ impl<
 
     ghost State = { Life };
 
-    ghost state = { λ w. w };
+    ghost state = { λ w. w.life };
 
     ghost config = { λ _. N.site };
 
@@ -54,6 +54,9 @@ impl<
     ghost relaunches = { Relaunches N.site };
 
     fn publish(&mut self, template: u16, content: Items<u8>) -> Publishing {
+        if self.make_spare(TURN_ITEMS).is_err() {
+            return Publishing::NoMemory;
+        }
         match self.hands.publish(template, content) {
             Ok(Published::Edition(number)) => Publishing::Edition(number),
             Ok(Published::EditionsSpent) => Publishing::EditionsSpent,
@@ -66,6 +69,9 @@ impl<
     }
 
     fn relaunch(&mut self, service: u16) -> Relaunching {
+        if self.make_spare(TURN_ITEMS).is_err() {
+            return Relaunching::NoMemory;
+        }
         told_of(self.ask(service))
     }
 }

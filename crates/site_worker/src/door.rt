@@ -5,8 +5,9 @@ ghost use Rattle.site_worker.specs.Lives.{SameWorker};
 ghost use Rattle.live_board.specs.Board.{most_drawn};
 ghost use Rattle.live_board.specs.Seats.{MayDraw};
 ghost use Rattle.site_worker.specs.Rounds.{Attends, Round, TendsAfter, TendsNext, is_starved, taken};
+ghost use Rattle.site_worker.specs.declared.worker.TheConstants.{TURN_ITEMS};
 
-use crate::worker::Worker;
+use crate::worker::{ROUND_ITEMS, Worker};
 use cell_locks::named::CellNames;
 use door_worker::reply::Reply;
 use door_worker::serving::{Serving, serve_one};
@@ -63,7 +64,8 @@ impl<
 > Worker<'a, R, G, N, J, C, K, S, F> {
     // Looks after a service, and writes the log out.
     fn look_round(&mut self, number: u64)
-        ensures { TendsNext N.site number self.old self.new }
+        requires { TURN_ITEMS ≤ self.old.spare }
+        ensures { TendsNext N.site number self.old.life self.new.life }
     {
         self.tend_next(number);
         self.hands.write_out();
@@ -71,7 +73,8 @@ impl<
 
     // What follows when the door was served so under a connection's number.
     fn follow(&mut self, serving: &Serving, number: u64)
-        ensures { TendsAfter N.site number serving.now self.old self.new }
+        requires { TURN_ITEMS ≤ self.old.spare }
+        ensures { TendsAfter N.site number serving.now self.old.life self.new.life }
     {
         match serving {
             Serving::Served(_) => {
@@ -87,7 +90,8 @@ impl<
         }
     }
 
-    // Serves the door once under a connection's number.
+    // Serves the door once under a connection's number. All that the round may have to note of want of
+    // memory has its place before a connection is accepted.
     fn go_round<D: Door>(
         &mut self,
         door: &mut D,
@@ -97,8 +101,11 @@ impl<
     ) -> Serving
         requires { IsNone (D.entrance door.old).out }
         ensures idle { IsNone (D.entrance door.new).out }
-        ensures round { Round D.Conn.wire N.site N.launcher number (D.entrance door.old) (D.entrance door.new) self.old self.new result }
+        ensures round { Round D.Conn.wire N.site N.launcher number (D.entrance door.old) (D.entrance door.new) self.old.life self.new.life result }
     {
+        if self.make_spare(ROUND_ITEMS).is_err() {
+            return Serving::NoMemory;
+        }
         let serving = serve_one(self.alloc, door, self, kept, reply);
         self.follow(&serving, number);
         serving
@@ -121,8 +128,8 @@ impl<
         requires idle { IsNone (D.entrance door.old).out }
         ensures idle { IsNone (D.entrance door.new).out }
         ensures place { place.new ≡ record place.old { drawn = place.new.drawn } }
-        ensures attends { Attends D.Conn.wire N.site N.launcher limit (D.entrance door.old) (D.entrance door.new) self.old self.new place.old.drawn place.new.drawn result }
-        ensures same { SameWorker self.old self.new }
+        ensures attends { Attends D.Conn.wire N.site N.launcher limit (D.entrance door.old) (D.entrance door.new) self.old.life self.new.life place.old.drawn place.new.drawn result }
+        ensures same { SameWorker self.old.life self.new.life }
     {
         let rt = self.rt;
         let mut connections = 0;

@@ -7,11 +7,12 @@ ghost use Rattle.monitor_model.specs.Script.{goes_of};
 ghost use Rattle.cell_locks.specs.Row.{seen_at};
 ghost use Rattle.door_worker.specs.Asking.{Asked, asked_by};
 ghost use Rattle.door_worker.specs.declared.handler.Outcome.TheVariants as outcome;
-ghost use Rattle.site_worker.specs.Lives.{Sees, Starves};
+ghost use Rattle.site_worker.specs.Lives.{Sees, Spends, Starves};
 ghost use Rattle.site_worker.specs.Handling.{Accepts, Talks, WasBooted, Follows, Goes};
+ghost use Rattle.site_worker.specs.declared.worker.TheConstants.{TURN_ITEMS};
 
 use crate::replying::{end_of, take_reply};
-use crate::worker::Worker;
+use crate::worker::{TURN_ITEMS, Worker};
 use cell_locks::answer::Talked;
 use cell_locks::named::CellNames;
 use door_worker::handler::{Handler, Outcome};
@@ -53,9 +54,10 @@ impl<
     // Asks okd where a request goes. Where memory is refused, nothing is entered.
     fn accept(&mut self, request: &Request) -> Result<Way, AllocError>
         requires { HasTarget request.now }
-        ensures ok { IfOk result (λ way. Accepts N.site (path_text request.now) way self.old self.new) }
+        ensures ok { IfOk result (λ way. Accepts N.site (path_text request.now) way self.old.life self.new.life) }
         ensures goes { IfOk result (λ way. IfSome (goes_of way) (λ (at : ℕ × ℕ). (at.0 < length N.site.services) × (0 < at.1))) }
-        ensures err { OnErr result (Sees self.old.seen self.old self.new) }
+        ensures err { OnErr result (Sees self.old.life.seen self.old.life self.new.life) }
+        ensures spare { self.new.spare ≡ self.old.spare }
     {
         let path = copies(self.alloc, request.path())?;
         self.hands.accept(Items::of(path))
@@ -63,8 +65,10 @@ impl<
 
     // Notes want of memory, which is what became of a request.
     fn no_memory(&mut self) -> Outcome
+        requires { TURN_ITEMS ≤ self.old.spare }
         ensures outcome { result ≡ outcome.NoMemory }
-        ensures notes { Starves self.old self.new }
+        ensures notes { Starves self.old.life self.new.life }
+        ensures spends { Spends TURN_ITEMS self.old self.new }
     {
         self.note_starved();
         Outcome::NoMemory
@@ -81,8 +85,9 @@ impl<
         requires service { service < length N.site.services }
         requires counted { 0 < incarnation }
         requires short { length head + length content + 9 ≤ LONGEST_FRAME }
-        ensures talks { (asked : Asked) → asked.head ≡ head → asked.content ≡ content → Talks N.site N.launcher asked service incarnation result self.old self.new }
-        ensures booted { WasBooted result incarnation (seen_at self.new.cells service) }
+        ensures talks { (asked : Asked) → asked.head ≡ head → asked.content ≡ content → Talks N.site N.launcher asked service incarnation result self.old.life self.new.life }
+        ensures booted { WasBooted result incarnation (seen_at self.new.life.cells service) }
+        ensures spare { self.new.spare ≡ self.old.spare }
     {
         let rt = self.rt;
         let cells = self.cells;
@@ -107,8 +112,10 @@ impl<
     ) -> Outcome
         requires service { service < length N.site.services }
         requires counted { 0 < incarnation }
-        requires booted { WasBooted talked incarnation (seen_at self.old.cells service) }
-        ensures { Follows N.site service incarnation talked result reply.new self.old self.new }
+        requires booted { WasBooted talked incarnation (seen_at self.old.life.cells service) }
+        requires spare { TURN_ITEMS ≤ self.old.spare }
+        ensures follows { Follows N.site service incarnation talked result reply.new self.old.life self.new.life }
+        ensures spends { Spends TURN_ITEMS self.old self.new }
     {
         match talked {
             Talked::Replied(copy) => {
@@ -139,7 +146,9 @@ impl<
         requires service { service < length N.site.services }
         requires counted { 0 < incarnation }
         requires short { length request.head + length request.content + 9 ≤ LONGEST_FRAME }
-        ensures { Goes N.site N.launcher (asked_by request) (Way.To service incarnation) result reply.new self.old self.new }
+        requires spare { TURN_ITEMS ≤ self.old.spare }
+        ensures goes { Goes N.site N.launcher (asked_by request) (Way.To service incarnation) result reply.new self.old.life self.new.life }
+        ensures spends { Spends TURN_ITEMS self.old self.new }
     {
         let Request { head, content, .. } = request;
         let talked = self.dialog(service, incarnation, head, content);
@@ -158,21 +167,26 @@ impl<
     S: Sink,
     F: Children,
 > Handler for Worker<'a, R, G, N, J, C, K, S, F> {
-    ghost use Rattle.std.specs.Prelude.{⊤};
-    ghost use Rattle.site_worker.specs.Lives.{Life, Starves};
-    ghost use Rattle.site_worker.specs.Handling.{Handles};
+    ghost use Rattle.std.specs.Prelude.{◌≤◌};
+    ghost use Rattle.site_worker.specs.Lives.{Working};
+    ghost use Rattle.site_worker.specs.Handling.{HandlesBy, StarvesBy};
+    ghost use Rattle.site_worker.specs.declared.worker.TheConstants.{TURN_ITEMS};
 
-    ghost State = { Life };
+    ghost State = { Working };
 
     ghost state = { λ w. w };
 
-    ghost has_room = { λ _. ⊤ };
+    ghost has_room = { λ w. TURN_ITEMS ≤ w.spare };
 
-    ghost handles = { Handles N.site N.launcher };
+    ghost handles = { HandlesBy N.site N.launcher };
 
-    ghost starves = { Starves };
+    ghost starves = { StarvesBy };
 
+    // The places are made before the door is served: here it is only seen that they are there.
     fn make_room(&mut self) -> Result<(), AllocError> {
+        if self.hands.spare_places() < TURN_ITEMS {
+            return Err(AllocError);
+        }
         Ok(())
     }
 

@@ -3,15 +3,19 @@
 ghost use Rattle.std.specs.Prelude.{◌≡◌, ◌<◌, ◌≤◌, length};
 ghost use Rattle.monitor_model.specs.Cell.{last_booted};
 ghost use Rattle.cell_locks.specs.Row.{seen_at};
+ghost use Rattle.okld_launch.specs.declared.entered.TheConstants.{MOST_ENTERED};
 ghost use Rattle.okld_launch.specs.Turns.{RelaunchesBy, ReportsBy, TendsBy};
-ghost use Rattle.site_worker.specs.Launching.{launch_starved, crash_starved, tend_starved, OnlyLauncher, Reports, Tends, Asks};
+ghost use Rattle.site_worker.specs.Launching.{launch_starved, crash_starved, tend_starved, Reports, Tends, Asks};
+ghost use Rattle.site_worker.specs.Lives.{Spends};
 ghost use Rattle.site_worker.specs.Rounds.{TendsNext};
+ghost use Rattle.site_worker.specs.declared.worker.TheConstants.{TURN_ITEMS};
 
 use crate::worker::Worker;
 use cell_locks::named::CellNames;
 use cell_locks::note::CellNote;
 use named_columns::named::Backed;
 use okld_launch::answer::{Crashed, Launched, Tended};
+use okld_launch::entered::Entered;
 use okld_launch::turns::{relaunch_by, report_by, tend_by};
 use okws_outer::children::Children;
 use okws_outer::gate::Gate;
@@ -64,7 +68,7 @@ impl<
     // A note of what was seen of a service's cell.
     fn note_of(&mut self, service: u16) -> CellNote<N, C, F::Link>
         requires { service < length N.site.services }
-        ensures note { result ≡ record { service = service; seen = seen_at self.old.cells service } }
+        ensures note { result ≡ record { service = service; seen = seen_at self.old.life.cells service } }
         ensures same { self.new ≡ self.old }
     {
         let cells = self.cells;
@@ -77,13 +81,15 @@ impl<
         note: CellNote<N, C, F::Link>,
         service: u16,
         incarnation: u32,
-    ) -> Crashed
+    ) -> (Crashed, Entered)
         requires service { service < length N.site.services }
         requires here { note.service ≡ service }
         requires counted { 0 < incarnation }
         requires booted { incarnation ≤ last_booted note.seen }
-        ensures reports { ReportsBy N.site service incarnation self.old.launcher result self.new.launcher }
-        ensures only { OnlyLauncher self.old self.new }
+        ensures reports { ReportsBy N.site service incarnation self.old.life.launcher result.0 result.1 self.new.life.launcher }
+        ensures only { self.new.life ≡ record self.old.life { launcher = record self.old.life.launcher { seen = self.new.life.launcher.seen } } }
+        ensures few { length result.1 ≤ MOST_ENTERED }
+        ensures spare { self.new.spare ≡ self.old.spare }
     {
         let rt = self.rt;
         let gate = self.gate;
@@ -105,10 +111,12 @@ impl<
     }
 
     // A turn in which a service is looked after.
-    fn tend_turn(&mut self, service: u16) -> Tended
+    fn tend_turn(&mut self, service: u16) -> (Tended, Entered)
         requires { service < length N.site.services }
-        ensures tends { TendsBy N.site service self.old.launcher result self.new.launcher }
-        ensures only { OnlyLauncher self.old self.new }
+        ensures tends { TendsBy N.site service self.old.life.launcher result.0 result.1 self.new.life.launcher }
+        ensures only { self.new.life ≡ record self.old.life { launcher = record self.old.life.launcher { seen = self.new.life.launcher.seen } } }
+        ensures few { length result.1 ≤ MOST_ENTERED }
+        ensures spare { self.new.spare ≡ self.old.spare }
     {
         let rt = self.rt;
         let gate = self.gate;
@@ -120,10 +128,12 @@ impl<
     }
 
     // A turn in which the operator's service is launched.
-    fn relaunch_turn(&mut self, service: u16) -> Launched
+    fn relaunch_turn(&mut self, service: u16) -> (Launched, Entered)
         requires { service < length N.site.services }
-        ensures relaunches { RelaunchesBy N.site service self.old.launcher result self.new.launcher }
-        ensures only { OnlyLauncher self.old self.new }
+        ensures relaunches { RelaunchesBy N.site service self.old.life.launcher result.0 result.1 self.new.life.launcher }
+        ensures only { self.new.life ≡ record self.old.life { launcher = record self.old.life.launcher { seen = self.new.life.launcher.seen } } }
+        ensures few { length result.1 ≤ MOST_ENTERED }
+        ensures spare { self.new.spare ≡ self.old.spare }
     {
         let rt = self.rt;
         let gate = self.gate;
@@ -138,36 +148,44 @@ impl<
     pub(crate) fn report(&mut self, service: u16, incarnation: u32)
         requires service { service < length N.site.services }
         requires counted { 0 < incarnation }
-        requires booted { incarnation ≤ last_booted (seen_at self.old.cells service) }
-        ensures { Reports N.site service incarnation self.old self.new }
+        requires booted { incarnation ≤ last_booted (seen_at self.old.life.cells service) }
+        requires spare { TURN_ITEMS ≤ self.old.spare }
+        ensures reports { Reports N.site service incarnation self.old.life self.new.life }
+        ensures spends { Spends TURN_ITEMS self.old self.new }
     {
         let note = self.note_of(service);
-        let answer = self.report_turn(note, service, incarnation);
+        let (answer, entered) = self.report_turn(note, service, incarnation);
+        self.note_entered(entered);
         self.note_where(crash_starved(answer));
     }
 
     /// Launches the service that the operator asks for.
     pub(crate) fn ask(&mut self, service: u16) -> Launched
-        requires { service < length N.site.services }
-        ensures { Asks N.site service result self.old self.new }
+        requires service { service < length N.site.services }
+        requires spare { TURN_ITEMS ≤ self.old.spare }
+        ensures { Asks N.site service result self.old.life self.new.life }
     {
-        let answer = self.relaunch_turn(service);
+        let (answer, entered) = self.relaunch_turn(service);
+        self.note_entered(entered);
         self.note_where(launch_starved(answer));
         answer
     }
 
     // Looks after a service.
     fn tend(&mut self, service: u16)
-        requires { service < length N.site.services }
-        ensures { Tends N.site service self.old self.new }
+        requires service { service < length N.site.services }
+        requires spare { TURN_ITEMS ≤ self.old.spare }
+        ensures { Tends N.site service self.old.life self.new.life }
     {
-        let answer = self.tend_turn(service);
+        let (answer, entered) = self.tend_turn(service);
+        self.note_entered(entered);
         self.note_where(tend_starved(answer));
     }
 
     /// Looks after the service of a connection's number, counted round.
     pub(crate) fn tend_next(&mut self, number: u64)
-        ensures { TendsNext N.site number self.old self.new }
+        requires { TURN_ITEMS ≤ self.old.spare }
+        ensures { TendsNext N.site number self.old.life self.new.life }
     {
         if self.services == 0 {
             return;

@@ -1,29 +1,53 @@
 //! A worker.
 
-ghost use Rattle.std.specs.Prelude.{◌≡◌, ◌≤◌, length, true};
-ghost use Rattle.okws_base.specs.declared.limit.TheConstants.{MOST_SERVICES};
+ghost use Rattle.std.specs.Prelude.{◌≡◌, ◌<◌, ◌≤◌, ◌+◌, ◌++◌, OnOk, OnErr, length, map, true};
+ghost use Rattle.okws_base.specs.declared.limit.TheConstants.{MOST_SERVICES, GREATEST_RETRY};
+ghost use Rattle.monitor_model.specs.declared.record.Own.TheVariants as own;
 ghost use Rattle.turn_lock.specs.Rows.{RestsAt};
 ghost use Rattle.site_locks.specs.Sat.{seen_of};
-ghost use Rattle.site_worker.specs.Lives.{Starves, StarvesWhere};
+ghost use Rattle.site_worker.specs.Launching.{with_launches};
+ghost use Rattle.site_worker.specs.Lives.{Spends, Starves, StarvesWhere};
 
 use cell_locks::locks::CellLocks;
 use cell_locks::named::CellNames;
 use cell_locks::seats::CellSeats;
 use monitor_model::record::Own;
 use named_columns::named::Backed;
+use okld_launch::entered::{Entered, MOST_ENTERED};
 use okld_launch::launcher::Launcher;
 use okws_outer::children::Children;
 use okws_outer::gate::Gate;
 use okws_outer::keeper::Keeper;
 use okws_outer::stream::Sink;
-use service_cell::columns::Columns;
 use site_locks::hands::Hands;
 use site_locks::locks::{Locks, Seats};
 use site_locks::named::Site;
-use std::alloc::Global;
+use std::alloc::{AllocError, Global};
 use std::marker::Model;
 use std::sync::Wait;
 use turn_lock::{Seat, Turn};
+
+/// How many items a worker notes in spare places at most for a turn at the launcher: what the turn entered
+/// there, and that memory was refused.
+pub const TURN_ITEMS: u32 = MOST_ENTERED as u32 + 1;
+
+/// The same of a round at a door: what a request's handling notes, and what looking after a service does.
+pub(crate) const ROUND_ITEMS: u32 = 2 * TURN_ITEMS;
+
+// Notes events as own items in spare places, the oldest first.
+fn note_events<R: Wait, G: Gate, N: Backed, J: Site, K: Keeper, S: Sink>(
+    hands: &mut Hands<'_, R, G, N, J, K, S>,
+    entered: Entered,
+)
+    requires { length entered ≤ hands.old.spare }
+    ensures notes { hands.new ≡ record hands.old { own = map own.Launcher entered ++ hands.old.own; spare = hands.new.spare } }
+    ensures spends { hands.old.spare ≤ hands.new.spare + length entered }
+{
+    let mut entered = entered;
+    while let Some(event) = entered.pop_oldest() {
+        hands.note_spare(Own::Launcher(event));
+    }
+}
 
 /// What all workers of a site share.
 pub struct Shared<
@@ -45,7 +69,7 @@ pub struct Shared<
 }
 
 /// The seats of one number at the columns and the board, at the cells, and at the launcher's lock, with these
-/// locks. None holds a turn. Contracts see what was seen by it.
+/// locks. None holds a turn. Contracts see what was seen by it, and how many items it may note without memory.
 #[derive(Drop)]
 pub struct Worker<
     'a,
@@ -73,11 +97,11 @@ pub struct Worker<
 impl<'a, R: Wait, G: Gate, N: Backed, J: Site, C: CellNames, K: Keeper, S: Sink, F: Children> Model
     for Worker<'a, R, G, N, J, C, K, S, F> {
     ghost use Rattle.site_locks.specs.Sat.{seen_of};
-    ghost use Rattle.site_worker.specs.Lives.{Life, IsWorker};
+    ghost use Rattle.site_worker.specs.Lives.{Working, IsWorker};
 
-    ghost Value = { Life };
+    ghost Value = { Working };
 
-    ghost view = { λ w. record { seen = seen_of w.hands; cells = w.at_cells; board = w.hands.board; launcher = w.at_launcher } };
+    ghost view = { λ w. record { life = record { seen = seen_of w.hands; cells = w.at_cells; board = w.hands.board; launcher = w.at_launcher }; spare = w.hands.spare } };
 
     ghost invariant = { λ w. IsWorker N.site w.services w.hands.number w.launcher.now (record { seen = seen_of w.hands; cells = w.at_cells; board = w.hands.board; launcher = w.at_launcher }) };
 }
@@ -106,8 +130,10 @@ impl<
         requires launcher { at_launcher.number ≡ seats.number }
         requires services { length at_cells.cells ≡ length N.site.services }
         requires few { length N.site.services ≤ MOST_SERVICES }
+        requires retry { N.site.retry ≤ GREATEST_RETRY }
         requires rest { RestsAt shared.launcher.now at_launcher }
-        ensures { result ≡ record { seen = seen_of seats; cells = at_cells; board = seats.board; launcher = at_launcher } }
+        ensures life { result.life ≡ record { seen = seen_of seats; cells = at_cells; board = seats.board; launcher = at_launcher } }
+        ensures spare { result.spare ≡ seats.spare }
     {
         let Shared {
             rt,
@@ -139,25 +165,47 @@ impl<
         CellSeats<N, C, F::Link>,
         Seat<Launcher<N, J, C, K, S, F>>,
     )
-        ensures columns { (seen_of result.0 ≡ self.entry.seen) × (result.0.board ≡ self.entry.board) }
-        ensures cells { result.1 ≡ self.entry.cells }
-        ensures launcher { result.2 ≡ self.entry.launcher }
-        ensures number { result.0.number ≡ self.entry.cells.number }
+        ensures columns { (seen_of result.0 ≡ self.entry.life.seen) × (result.0.board ≡ self.entry.life.board) }
+        ensures cells { result.1 ≡ self.entry.life.cells }
+        ensures launcher { result.2 ≡ self.entry.life.launcher }
+        ensures number { result.0.number ≡ self.entry.life.cells.number }
         ensures rest { length result.1.cells ≡ length N.site.services }
     {
         (self.hands.into_seats(), self.at_cells, self.at_launcher)
     }
 
-    /// Notes want of memory, unless memory for that is refused, too.
-    pub(crate) fn note_starved(&mut self)
-        ensures { Starves self.old self.new }
+    /// Makes so many spare places, in which items are noted without memory. Where memory is refused, nothing
+    /// changes.
+    pub(crate) fn make_spare(&mut self, places: u32) -> Result<(), AllocError>
+        ensures ok { OnOk result (self.new ≡ record self.old { spare = places }) }
+        ensures err { OnErr result (self.new ≡ self.old) }
     {
-        let _ = self.hands.note(Own::NoMemory);
+        self.hands.make_spare(places)
     }
 
-    /// Notes want of memory so, where there was any.
+    /// Notes events that a turn entered at the launcher, the oldest first. Takes no memory.
+    pub(crate) fn note_entered(&mut self, entered: Entered)
+        requires { length entered ≤ self.old.spare }
+        ensures notes { self.new.life ≡ record self.old.life { seen = with_launches entered self.old.life.seen } }
+        ensures spends { Spends (length entered) self.old self.new }
+    {
+        note_events(&mut self.hands, entered);
+    }
+
+    /// Notes want of memory. Takes no memory.
+    pub(crate) fn note_starved(&mut self)
+        requires { 0 < self.old.spare }
+        ensures notes { Starves self.old.life self.new.life }
+        ensures spends { Spends 1 self.old self.new }
+    {
+        self.hands.note_spare(Own::NoMemory);
+    }
+
+    /// Notes want of memory so, where there was any. Takes no memory.
     pub(crate) fn note_where(&mut self, starved: bool)
-        ensures { StarvesWhere starved self.old self.new }
+        requires { 0 < self.old.spare }
+        ensures notes { StarvesWhere starved self.old.life self.new.life }
+        ensures spends { Spends 1 self.old self.new }
     {
         if starved {
             self.note_starved();

@@ -4,10 +4,9 @@ use Rattle.okws_plan.specs.declared.event.LauncherEvent.{LauncherEvent}
 use Rattle.named_columns.specs.Launched.{by_entry}
 use Rattle.turn_lock.specs.Seats.{SeatIs}
 use Rattle.cell_locks.proofs.Stays.{given}
-use Rattle.okld_launch.specs.Going.{GoesAsked, GoesCrashed, GoesTended}
-use Rattle.okld_launch.specs.Launchers.{LauncherIs}
+use Rattle.okld_launch.specs.Entering.{Enters}
 use Rattle.okld_launch.specs.Turns.{GoesIf}
-use Rattle.okld_launch.proofs.Adds.{if_adds}
+use Rattle.okld_launch.proofs.Adds.{enters_adds, most_of}
 use Rattle.okld_launch.proofs.turns.launch_by.Goals as goal
 
 pub give-requires-clause-adds : goal.give-requires-clause-adds
@@ -15,7 +14,7 @@ give-requires-clause-adds g c =
     let before = c.take-launcher.result in
     let after = c.launch_if_down-launcher.result.0 in
     given by_entry c.args.seat.now c.take-launcher.new.seat before.journal.holder before.journal.past after.journal.past c.take-launcher.ensures.holder c.take-launcher.ensures.seat
-    (if_adds g.N.Numbered.site before.journal.holder c.args.service before c.launch_if_down-launcher.result.1 after c.launch_if_down-launcher.ensures.goes)
+    (enters_adds before.journal.holder c.launch_if_down-launcher.result.2 before.journal.past after.journal.past c.launch_if_down-launcher.ensures.enters)
 
 pub returns-clause-goes : goal.returns-clause-goes
 returns-clause-goes g c = record {
@@ -24,6 +23,9 @@ returns-clause-goes g c = record {
   turn = record {
     found = c.keeps.ensures;
     grows = c.take-launcher.ensures.grows;
+    enters = subst (λ (n : ℕ). Enters n c.launch_if_down-launcher.result.2 c.take-launcher.result.journal.past c.launch_if_down-launcher.result.0.journal.past) c.take-launcher.ensures.holder c.launch_if_down-launcher.ensures.enters;
+    few = c.launch_if_down-launcher.ensures.few;
+    most = most_of g.N.Numbered.site c.launch_if_down-launcher.result.2 c.launch_if_down-launcher.ensures.few;
     leaves = c.keeps-2.ensures;
     seen_is = ap (λ (a : SeatIs (Entry LauncherEvent)). a.seen) c.give.ensures.seat;
   };

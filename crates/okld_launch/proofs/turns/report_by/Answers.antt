@@ -4,10 +4,10 @@ use Rattle.okws_plan.specs.declared.event.LauncherEvent.{LauncherEvent}
 use Rattle.named_columns.specs.Launched.{by_entry}
 use Rattle.turn_lock.specs.Seats.{SeatIs}
 use Rattle.cell_locks.proofs.Stays.{given}
-use Rattle.okld_launch.specs.Going.{GoesAsked, GoesCrashed, GoesTended}
+use Rattle.okld_launch.specs.Going.{GoesCrashed}
+use Rattle.okld_launch.specs.Entering.{Enters}
 use Rattle.okld_launch.specs.Launchers.{LauncherIs}
-use Rattle.okld_launch.specs.Turns.{GoesIf}
-use Rattle.okld_launch.proofs.Adds.{crashed_adds}
+use Rattle.okld_launch.proofs.Adds.{enters_adds, most_of}
 use Rattle.okld_launch.proofs.turns.report_by.Goals as goal
 
 pub give-requires-clause-adds : goal.give-requires-clause-adds
@@ -15,7 +15,7 @@ give-requires-clause-adds g c =
     let before = c.take-launcher.result in
     let after = c.crashed-launcher.result.0 in
     given by_entry c.args.seat.now c.take-launcher.new.seat before.journal.holder before.journal.past after.journal.past c.take-launcher.ensures.holder c.take-launcher.ensures.seat
-    (crashed_adds g.N.Numbered.site before.journal.holder c.args.service c.args.incarnation before.journal.past before.crew.family c.crashed-launcher.result.1 after (subst (λ (x : LauncherIs). GoesCrashed g.N.Numbered.site x.journal.holder c.args.service c.args.incarnation x.journal.past x.crew.family c.crashed-launcher.result.1 c.crashed-launcher.result.0) c.meet.ensures.same c.crashed-launcher.ensures.goes))
+    (enters_adds before.journal.holder c.crashed-launcher.result.2 before.journal.past after.journal.past (subst (λ (x : LauncherIs). Enters x.journal.holder c.crashed-launcher.result.2 x.journal.past c.crashed-launcher.result.0.journal.past) c.meet.ensures.same c.crashed-launcher.ensures.enters))
 
 pub returns-clause-goes : goal.returns-clause-goes
 returns-clause-goes g c = record {
@@ -24,6 +24,9 @@ returns-clause-goes g c = record {
   turn = record {
     found = c.keeps.ensures;
     grows = c.take-launcher.ensures.grows;
+    enters = subst (λ (n : ℕ). Enters n c.crashed-launcher.result.2 c.take-launcher.result.journal.past c.crashed-launcher.result.0.journal.past) c.take-launcher.ensures.holder (subst (λ (x : LauncherIs). Enters x.journal.holder c.crashed-launcher.result.2 x.journal.past c.crashed-launcher.result.0.journal.past) c.meet.ensures.same c.crashed-launcher.ensures.enters);
+    few = c.crashed-launcher.ensures.few;
+    most = most_of g.N.Numbered.site c.crashed-launcher.result.2 c.crashed-launcher.ensures.few;
     leaves = c.keeps-2.ensures;
     seen_is = ap (λ (a : SeatIs (Entry LauncherEvent)). a.seen) c.give.ensures.seat;
   };

@@ -4,10 +4,9 @@ use Rattle.okws_plan.specs.declared.event.LauncherEvent.{LauncherEvent}
 use Rattle.named_columns.specs.Launched.{by_entry}
 use Rattle.turn_lock.specs.Seats.{SeatIs}
 use Rattle.cell_locks.proofs.Stays.{given}
-use Rattle.okld_launch.specs.Going.{GoesAsked, GoesCrashed, GoesTended}
-use Rattle.okld_launch.specs.Launchers.{LauncherIs}
-use Rattle.okld_launch.specs.Turns.{GoesIf}
-use Rattle.okld_launch.proofs.Adds.{tended_adds}
+use Rattle.okld_launch.specs.Going.{GoesTended}
+use Rattle.okld_launch.specs.Entering.{Enters}
+use Rattle.okld_launch.proofs.Adds.{enters_adds, most_of}
 use Rattle.okld_launch.proofs.turns.tend_by.Goals as goal
 
 pub give-requires-clause-adds : goal.give-requires-clause-adds
@@ -15,7 +14,7 @@ give-requires-clause-adds g c =
     let before = c.take-launcher.result in
     let after = c.tend-launcher.result.0 in
     given by_entry c.args.seat.now c.take-launcher.new.seat before.journal.holder before.journal.past after.journal.past c.take-launcher.ensures.holder c.take-launcher.ensures.seat
-    (tended_adds g.N.Numbered.site before.journal.holder c.args.service before c.tend-launcher.result.1 after c.tend-launcher.ensures.goes)
+    (enters_adds before.journal.holder c.tend-launcher.result.2 before.journal.past after.journal.past c.tend-launcher.ensures.enters)
 
 pub returns-clause-goes : goal.returns-clause-goes
 returns-clause-goes g c = record {
@@ -24,6 +23,9 @@ returns-clause-goes g c = record {
   turn = record {
     found = c.keeps.ensures;
     grows = c.take-launcher.ensures.grows;
+    enters = subst (λ (n : ℕ). Enters n c.tend-launcher.result.2 c.take-launcher.result.journal.past c.tend-launcher.result.0.journal.past) c.take-launcher.ensures.holder c.tend-launcher.ensures.enters;
+    few = c.tend-launcher.ensures.few;
+    most = most_of g.N.Numbered.site c.tend-launcher.result.2 c.tend-launcher.ensures.few;
     leaves = c.keeps-2.ensures;
     seen_is = ap (λ (a : SeatIs (Entry LauncherEvent)). a.seen) c.give.ensures.seat;
   };

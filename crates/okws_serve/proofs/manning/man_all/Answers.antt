@@ -17,9 +17,9 @@ returns-clause-posted g c =
     let x = c.man_doors.new.chairs in
     let empty = c.man_doors.ensures.empty in
     posted c.args.ground.now.turn.now c.args.ground.now.numbers.now.id c.args.ground.now.most c.args.chairs.now c.args.places.now.entrances (g.O.Conn.wire c.args.console.console) c.man_doors.new.posts.items c.push_reserved.new.self.items
-    c.new-overseer.result c.last.result c.args.console.reader (length c.last.new.self.seats)
+    c.new-overseer.result c.last.result.life c.args.console.reader (length c.last.new.self.seats)
     c.push_reserved.ensures.items c.man_doors.ensures.manned c.man_doors.ensures.doors many c.new-overseer.ensures c.requires.first (omega arith) c.last.ensures.worker
-    (all_seats (lives ++ c.last.result ∷ []) x c.args.chairs.now empty.0 empty.1 empty.2 (more_then lives (c.last.result ∷ []) x c.last.new.self c.args.chairs.now c.man_doors.ensures.lives c.last.ensures.whose))
+    (all_seats (lives ++ c.last.result.life ∷ []) x c.args.chairs.now empty.0 empty.1 empty.2 (more_then lives (c.last.result.life ∷ []) x c.last.new.self c.args.chairs.now c.man_doors.ensures.lives c.last.ensures.whose))
 
 pub returns-clause-room : goal.returns-clause-room
 returns-clause-room g c =

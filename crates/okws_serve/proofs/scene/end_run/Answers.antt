@@ -1,4 +1,4 @@
-use Rattle.std.proofs.Common.{arith, ◌≡◌, ◌≤◌, ℕ, [], ◌∷◌, ◌++◌, map, length, refl, sym, ap, ◌∙◌, subst}
+use Rattle.std.proofs.Common.{arith, ◌≡◌, ◌≤◌, ◌<◌, ◌+◌, ℕ, [], ◌∷◌, ◌++◌, map, length, refl, sym, ap, ◌∙◌, subst}
 use Rattle.std.specs.Prelude.{IsSome}
 use Rattle.site_run.specs.Places.{AllIdle}
 use Rattle.site_run.specs.Keepers.{keeper_of}
@@ -7,9 +7,11 @@ use Rattle.site_run.specs.Whole.{AllDrawn}
 use Rattle.okws_serve.specs.Doors.{ServesConsole, ServesDoors, is_fault}
 use Rattle.okws_serve.specs.declared.outfit.Ran.{Ran}
 use Rattle.site_run.proofs.Alone.{launches_alone}
+use Rattle.site_run.proofs.Merging.{lists_make}
 use Rattle.site_run.proofs.Shown.{cells_are_true}
 use Rattle.site_run.proofs.Tying.{end_pop}
 use Rattle.okws_serve.proofs.Listing.{Told, all_told}
+use Rattle.okws_serve.proofs.Pieces.{console_is, doors_are}
 use Rattle.okws_serve.proofs.Serving.{console_ends, doors_alike, lives_many, serves_doors}
 use Rattle.okws_serve.proofs.Surviving.{if_some}
 use Rattle.okws_serve.proofs.scene.end_run.Goals as goal
@@ -50,9 +52,10 @@ returns-clause-ran g c =
       served = subst (λ k. ServesDoors wire C n most R old.entrances (map g.D.Door.entrance r.doors.items) k starved) (sym c.end-ended.ensures.connections)
           (subst (λ es. ServesDoors wire C n most R old.entrances es connections starved) (sym doors) served);
       steered = subst (λ x. ServesConsole C n R (length old.entrances) w (g.O.Conn.wire x) (is_fault c.args.overseen)) (sym c.left.ensures.objects.1) steered;
-      launched = c.end-ended.ensures.launched;
-      lists = λ k l. (told k l).0;
-      alone = launches_alone C g.N.Numbered.run_seed n R c.end-ended.ensures.numbers.workers c.end-ended.ensures.laws c.end-ended.ensures.launched (λ k l. (told k (let u : k ≤ n = omega arith in u)).0);
+      made = lists_make n R c.end-ended.ensures.numbers (λ k l. (told k l).0)
+          (launches_alone C g.N.Numbered.run_seed n R c.end-ended.ensures.numbers.workers c.end-ended.ensures.laws c.end-ended.ensures.launched (λ k l. (told k (let u : k ≤ n = omega arith in u)).0));
+      door_lists = λ k l. doors_are wire C n most R 0 k old.entrances places.entrances served.attended c.end-ended.ensures.laws.proxies_are served.attend (omega arith) (let u : k < length old.entrances + 0 = omega arith in u);
+      console_list = console_is C n R (length old.entrances) w (g.O.Conn.wire c.args.console) (is_fault c.args.overseen) c.end-ended.ensures.laws.proxies_are steered;
       missed = cells.0;
       stands = cells.1;
       laws = c.end-ended.ensures.laws;

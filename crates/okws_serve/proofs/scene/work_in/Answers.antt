@@ -23,6 +23,12 @@ run-requires-clause-seated g c = λ κs within.
 pub run-requires-clause-unused : goal.run-requires-clause-unused
 run-requires-clause-unused g c = λ κs within. c.requires.ready.unused
 
+pub run-requires-clause-retry : goal.run-requires-clause-retry
+run-requires-clause-retry g c = λ κs within. c.requires.servable.retry
+
+pub run-requires-clause-spare : goal.run-requires-clause-spare
+run-requires-clause-spare g c = λ κs within. c.requires.ready.spare
+
 pub run-requires-clause-placed : goal.run-requires-clause-placed
 run-requires-clause-placed g c = λ κs within. subst (λ (b : BoardIs). Placed b.id c.args.places.now) (sym c.ground-common.ensures.locks.1) c.requires.ready.placed
 

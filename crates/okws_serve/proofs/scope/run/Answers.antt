@@ -13,7 +13,7 @@ launch_all-requires-clause-some g c =
     let m = chairs_many c.args.ground.now.turn.now (length g.N.Numbered.site.services) 0 x.seats x.cells x.turns c.requires.seated in
     let turns = m.1 in
     let alike = c.requires.alike in
-    omega arith
+    (omega arith, omega arith)
 
 pub unreachable-requires : goal.unreachable-requires
 unreachable-requires g c =

@@ -1,26 +1,40 @@
-use Rattle.std.proofs.Common.{rules, ◌≡◌, ◌∙◌, ℕ, suc, refl, subst}
+use Rattle.std.proofs.Common.{rules, ◌≡◌, ◌∙◌, ℕ, ◌+◌, ◌<◌, List, Option, Some, refl, sym, subst, arith}
+use Rattle.std.specs.Prelude.{option_to_list}
+use Rattle.okws_base.specs.declared.limit.TheConstants.{MOST_INCARNATIONS}
+use Rattle.okws_plan.specs.declared.event.LauncherEvent.{LauncherEvent}
+use Rattle.okws_plan.specs.declared.event.LauncherEvent.TheVariants as event
+use Rattle.monitor_model.specs.Launcher.{begun}
 use Rattle.launch_journal.specs.Launches.{Allows}
 use Rattle.launch_journal.specs.declared.next.Next.TheVariants as next
 use Rattle.okld_launch.specs.Going.{Attempts}
+use Rattle.okld_launch.specs.Entering.{Enters}
 use Rattle.okld_launch.specs.declared.answer.Attempt.{Attempt}
-use Rattle.okld_launch.proofs.Told.{fell_more, nearer}
+use Rattle.okld_launch.proofs.Told.{fell_next, nearer}
+use Rattle.okld_launch.proofs.Counting.{fell_begun, up_told, refused_told, told_as, few_as}
 use Rattle.okld_launch.proofs.launcher.Launcher.go_on.Goals as goal
 
 pub loop-what-init : goal.loop-what-init
-loop-what-init g c = ((0, (refl, refl)), refl, c.next-what.ensures)
+loop-what-init g c = ((refl, refl), refl, c.next-what.ensures, omega (arith, c.greatest-first.ensures.is, c.greatest-first.ensures.most))
 
 pub loop-what-preserved : goal.loop-what-preserved
 loop-what-preserved g c =
     let C = g.N.Numbered.site in
     let s = c.args.service in
     let w = c.args.self.journal.holder in
+    let J = c.args.self.journal.past in
+    let f = c.args.self.crew.family in
     let m = c.loop-what.launcher in
     let after = c.attempt-after.result.0 in
     let inv = c.loop-what.invariant in
     let may : Allows C m.journal.past s next.Begin = search rules in
     let all = subst (λ (n : ℕ). Attempts C n s m.journal.past m.crew.family c.attempt-after.result.1 after) inv.1 c.attempt-after.ensures.attempts in
     let failed = subst (λ (x : Attempt). Attempts C w s m.journal.past m.crew.family x after) c.in-Failed.is all in
-    ((suc inv.0.0, fell_more C w s inv.0.0 c.args.self.journal.past c.args.self.crew.family m.journal.past m.crew.family after inv.0.1 may failed), c.attempt-after.ensures.holder ∙ inv.1, c.next-what-in-loop-what.ensures)
+    let below : begun m.journal.past s < MOST_INCARNATIONS = may.0 in (
+      fell_next C w s c.loop-what.failed J f m.journal.past m.crew.family after inv.0 may failed,
+      c.attempt-after.ensures.holder ∙ inv.1,
+      c.next-what-in-loop-what.ensures,
+      omega (arith, below, fell_begun C w s c.loop-what.failed J f m.journal.past m.crew.family inv.0),
+    )
 
 pub loop-what-smaller : goal.loop-what-smaller
 loop-what-smaller g c =
@@ -31,3 +45,60 @@ loop-what-smaller g c =
     let may : Allows C m.journal.past s next.Begin = search rules in
     let failed = subst (λ (x : Attempt). Attempts C m.journal.holder s m.journal.past m.crew.family x after) c.in-Failed.is c.attempt-after.ensures.attempts in
     nearer C m.journal.holder s m.journal.past m.crew.family after may failed
+
+pub returns-in-Up-clause-enters : goal.returns-in-Up-clause-enters
+returns-in-Up-clause-enters g c =
+    let C = g.N.Numbered.site in
+    let s = c.args.service in
+    let w = c.args.self.journal.holder in
+    let m = c.loop-what.launcher in
+    let after = c.attempt-after.result.0 in
+    let inv = c.loop-what.invariant in
+    let all = subst (λ (n : ℕ). Attempts C n s m.journal.past m.crew.family c.attempt-after.result.1 after) inv.1 c.attempt-after.ensures.attempts in
+    let up = subst (λ (x : Attempt). Attempts C w s m.journal.past m.crew.family x after) c.in-Up.is all in
+    told_as C w s c.loop-what.failed c.greatest-first.result c.args.self.journal.past c.args.self.crew.family m.journal.past m.crew.family c.args.opening (Some (event.Begun s c.in-Up.incarnation)) after.journal.past c.new-entered.result
+    c.new-entered.ensures c.greatest-first.ensures.is inv.0 (up_told C w s c.in-Up.incarnation m.journal.past m.crew.family after up)
+
+pub returns-in-Up-clause-few : goal.returns-in-Up-clause-few
+returns-in-Up-clause-few g c =
+    let m = c.loop-what.launcher in
+    few_as g.N.Numbered.site c.args.self.journal.holder c.args.service c.loop-what.failed c.greatest-first.result c.args.self.journal.past c.args.self.crew.family m.journal.past m.crew.family c.args.opening (Some (event.Begun c.args.service c.in-Up.incarnation)) c.new-entered.result
+    c.new-entered.ensures c.greatest-first.ensures.is c.keeps.ensures.tried_are c.loop-what.invariant.0
+
+pub returns-in-NoMemory-clause-enters : goal.returns-in-NoMemory-clause-enters
+returns-in-NoMemory-clause-enters g c =
+    let C = g.N.Numbered.site in
+    let s = c.args.service in
+    let w = c.args.self.journal.holder in
+    let m = c.loop-what.launcher in
+    let after = c.attempt-after.result.0 in
+    let inv = c.loop-what.invariant in
+    let k = c.greatest-first.result + 1 + c.loop-what.failed in
+    let all = subst (λ (n : ℕ). Attempts C n s m.journal.past m.crew.family c.attempt-after.result.1 after) inv.1 c.attempt-after.ensures.attempts in
+    let refused = subst (λ (x : Attempt). Attempts C w s m.journal.past m.crew.family x after) c.in-NoMemory.is all in
+    let follows : k ≡ begun m.journal.past s + 1 = omega (arith, c.greatest-first.ensures.is, fell_begun C w s c.loop-what.failed c.args.self.journal.past c.args.self.crew.family m.journal.past m.crew.family inv.0) in
+    let closes : Enters w (option_to_list c.last_begun-begun.result) m.journal.past after.journal.past =
+    subst (λ (x : Option LauncherEvent). Enters w (option_to_list x) m.journal.past after.journal.past) (sym c.last_begun-begun.ensures) (refused_told C w s k m.journal.past m.crew.family after follows refused) in
+    told_as C w s c.loop-what.failed c.greatest-first.result c.args.self.journal.past c.args.self.crew.family m.journal.past m.crew.family c.args.opening c.last_begun-begun.result after.journal.past c.new-entered-in-NoMemory.result
+    c.new-entered-in-NoMemory.ensures c.greatest-first.ensures.is inv.0 closes
+
+pub returns-in-NoMemory-clause-few : goal.returns-in-NoMemory-clause-few
+returns-in-NoMemory-clause-few g c =
+    let m = c.loop-what.launcher in
+    few_as g.N.Numbered.site c.args.self.journal.holder c.args.service c.loop-what.failed c.greatest-first.result c.args.self.journal.past c.args.self.crew.family m.journal.past m.crew.family c.args.opening c.last_begun-begun.result c.new-entered-in-NoMemory.result
+    c.new-entered-in-NoMemory.ensures c.greatest-first.ensures.is c.keeps.ensures.tried_are c.loop-what.invariant.0
+
+pub returns-clause-enters : goal.returns-clause-enters
+returns-clause-enters g c =
+    let w = c.args.self.journal.holder in
+    let m = c.loop-what.launcher in
+    let inv = c.loop-what.invariant in
+    let closes = subst (λ (n : ℕ). Enters n (option_to_list c.end-launcher.result.2) m.journal.past c.end-launcher.result.0.journal.past) inv.1 c.end-launcher.ensures.enters in
+    told_as g.N.Numbered.site w c.args.service c.loop-what.failed c.greatest-first.result c.args.self.journal.past c.args.self.crew.family m.journal.past m.crew.family c.args.opening c.end-launcher.result.2 c.end-launcher.result.0.journal.past c.new-entered-2.result
+    c.new-entered-2.ensures c.greatest-first.ensures.is inv.0 closes
+
+pub returns-clause-few : goal.returns-clause-few
+returns-clause-few g c =
+    let m = c.loop-what.launcher in
+    few_as g.N.Numbered.site c.args.self.journal.holder c.args.service c.loop-what.failed c.greatest-first.result c.args.self.journal.past c.args.self.crew.family m.journal.past m.crew.family c.args.opening c.end-launcher.result.2 c.new-entered-2.result
+    c.new-entered-2.ensures c.greatest-first.ensures.is c.keeps.ensures.tried_are c.loop-what.invariant.0

@@ -34,7 +34,7 @@ frames-preserved g c =
       talks = λ n head content s J t. goes_talks who n head content s J c.frames.self seen (i.talks n head content s J t) shows c.advance.new.self now a;
       speaking = still_speaking who shows c.frames.self c.advance.new.self c.frames.self.open_dialog seen now a i.speaking;
       service = same_service who shows c.frames.self c.advance.new.self c.frames.self.open_dialog seen now a ∙ i.service;
-      board = board_then g.C.Columns.asker g.C.Columns.shows g.C.Columns.token_seed c.args.columns.now c.frames.columns c.advance.new.columns i.board c.advance.ensures.board;
+      board = board_then g.C.Columns.asker g.C.Columns.shows g.C.Columns.token_seed g.C.Columns.spare c.args.columns.now c.frames.columns c.advance.new.columns i.board c.advance.ensures.board;
     }
 
 pub frames-smaller : goal.frames-smaller

@@ -2,7 +2,7 @@ use Rattle.site_locks.proofs.Sitting.{pubd_unturned, pubd_turned}
 use Rattle.site_locks.proofs.locks.Seats.drain.Goals as goal
 
 pub returns-in_err-make_room-clause-err : goal.returns-in_err-make_room-clause-err
-returns-in_err-make_room-clause-err g c = rw (← c.self.view_is) (pubd_unturned g.J.Site.ids c.self.inside.number c.self.inside.okd c.self.inside.proxies.items c.self.inside.pubd c.self.inside.oklogd c.self.inside.board c.self.inside.own.past c.self.invariant _ c.make_room.new.self.past c.make_room.ensures.past)
+returns-in_err-make_room-clause-err g c = rw (← c.self.view_is) (pubd_unturned g.J.Site.ids c.self.inside.number c.self.inside.okd c.self.inside.proxies.items c.self.inside.pubd c.self.inside.oklogd c.self.inside.board c.self.inside.own.past c.self.inside.spare c.self.invariant.0 _ c.make_room.new.self.past c.make_room.ensures.past)
 
 pub returns-in_err-pushes-clause-err : goal.returns-in_err-pushes-clause-err
-returns-in_err-pushes-clause-err g c = rw (← c.self.view_is) (pubd_turned g.J.Site.ids c.self.inside.number c.self.inside.okd c.self.inside.proxies.items c.self.inside.pubd c.self.inside.oklogd c.self.inside.board c.self.inside.own.past c.self.invariant _ c.in_err-pushes.ensures.err.0 c.drain.new.seat c.make_room.new.self.past c.in_err-pushes.ensures.err.1 c.make_room.ensures.past)
+returns-in_err-pushes-clause-err g c = rw (← c.self.view_is) (pubd_turned g.J.Site.ids c.self.inside.number c.self.inside.okd c.self.inside.proxies.items c.self.inside.pubd c.self.inside.oklogd c.self.inside.board c.self.inside.own.past c.self.inside.spare c.self.invariant.0 _ c.in_err-pushes.ensures.err.0 c.drain.new.seat c.make_room.new.self.past c.in_err-pushes.ensures.err.1 c.make_room.ensures.past)

@@ -2,10 +2,10 @@ use Rattle.site_locks.proofs.Sitting.{pubd_unturned, pubd_turned}
 use Rattle.site_locks.proofs.locks.Seats.publish.Goals as goal
 
 pub returns-in_err-make_room-clause-err : goal.returns-in_err-make_room-clause-err
-returns-in_err-make_room-clause-err g c = rw (← c.self.view_is) (pubd_unturned g.J.Site.ids c.self.inside.number c.self.inside.okd c.self.inside.proxies.items c.self.inside.pubd c.self.inside.oklogd c.self.inside.board c.self.inside.own.past c.self.invariant _ c.make_room.new.self.past c.make_room.ensures.past)
+returns-in_err-make_room-clause-err g c = rw (← c.self.view_is) (pubd_unturned g.J.Site.ids c.self.inside.number c.self.inside.okd c.self.inside.proxies.items c.self.inside.pubd c.self.inside.oklogd c.self.inside.board c.self.inside.own.past c.self.inside.spare c.self.invariant.0 _ c.make_room.new.self.past c.make_room.ensures.past)
 
 pub returns-in_err-copy-clause-err : goal.returns-in_err-copy-clause-err
-returns-in_err-copy-clause-err g c = rw (← c.self.view_is) (pubd_unturned g.J.Site.ids c.self.inside.number c.self.inside.okd c.self.inside.proxies.items c.self.inside.pubd c.self.inside.oklogd c.self.inside.board c.self.inside.own.past c.self.invariant _ c.make_room.new.self.past c.make_room.ensures.past)
+returns-in_err-copy-clause-err g c = rw (← c.self.view_is) (pubd_unturned g.J.Site.ids c.self.inside.number c.self.inside.okd c.self.inside.proxies.items c.self.inside.pubd c.self.inside.oklogd c.self.inside.board c.self.inside.own.past c.self.inside.spare c.self.invariant.0 _ c.make_room.new.self.past c.make_room.ensures.past)
 
 pub returns-in_err-answer-clause-err : goal.returns-in_err-answer-clause-err
-returns-in_err-answer-clause-err g c = rw (← c.self.view_is) (pubd_turned g.J.Site.ids c.self.inside.number c.self.inside.okd c.self.inside.proxies.items c.self.inside.pubd c.self.inside.oklogd c.self.inside.board c.self.inside.own.past c.self.invariant _ c.in_err-answer.ensures.err.0 c.publish.new.seat c.make_room.new.self.past c.in_err-answer.ensures.err.1 c.make_room.ensures.past)
+returns-in_err-answer-clause-err g c = rw (← c.self.view_is) (pubd_turned g.J.Site.ids c.self.inside.number c.self.inside.okd c.self.inside.proxies.items c.self.inside.pubd c.self.inside.oklogd c.self.inside.board c.self.inside.own.past c.self.inside.spare c.self.invariant.0 _ c.in_err-answer.ensures.err.0 c.publish.new.seat c.make_room.new.self.past c.in_err-answer.ensures.err.1 c.make_room.ensures.past)

@@ -1,4 +1,4 @@
-use Rattle.std.proofs.Common.{◌≡◌, ◌∙◌, map, length, sym, ap, subst}
+use Rattle.std.proofs.Common.{arith, ◌≡◌, ◌∙◌, map, length, sym, ap, subst}
 use Rattle.turn_lock.proofs.Rows.{pushed_map}
 use Rattle.turn_lock.specs.Seats.{TurnIs}
 use Rattle.site_locks.specs.Made.{DeckIs}
@@ -17,7 +17,7 @@ invariant_of-result g c =
     (ap (λ (x : DeckIs). x.pubd) (sym c.self.view_is) ∙ c.last-3.ensures)
     (ap (λ (x : DeckIs). x.oklogd) (sym c.self.view_is) ∙ c.last-4.ensures)
     (ap (λ (x : DeckIs). x.board) (sym c.self.view_is) ∙ c.last-5.ensures) in
-    subst (λ z. AreSeats z c.args.number c.last.result c.last-2.result.items c.last-3.result c.last-4.result c.last-5.result) (subst (λ (l : LocksAre). ids_of l ≡ g.J.Site.ids) c.locks.view_is c.locks.invariant.ids_are) dealt.seats
+    (subst (λ z. AreSeats z c.args.number c.last.result c.last-2.result.items c.last-3.result c.last-4.result c.last-5.result) (subst (λ (l : LocksAre). ids_of l ≡ g.J.Site.ids) c.locks.view_is c.locks.invariant.ids_are) dealt.seats, omega arith)
 
 pub returns-clause-seats : goal.returns-clause-seats
 returns-clause-seats g c =
@@ -30,7 +30,7 @@ returns-clause-seats g c =
     (ap (λ (x : DeckIs). x.pubd) (sym c.self.view_is) ∙ c.last-3.ensures)
     (ap (λ (x : DeckIs). x.oklogd) (sym c.self.view_is) ∙ c.last-4.ensures)
     (ap (λ (x : DeckIs). x.board) (sym c.self.view_is) ∙ c.last-5.ensures) in
-    ap (λ o. sat_of c.args.number c.last.result c.last-2.result.items c.last-3.result c.last-4.result c.last-5.result o) c.new.ensures.past ∙ dealt.sat_is
+    ap (λ o. sat_of c.args.number c.last.result c.last-2.result.items c.last-3.result c.last-4.result c.last-5.result o 0) c.new.ensures.past ∙ dealt.sat_is
 
 pub returns-clause-deals : goal.returns-clause-deals
 returns-clause-deals g c =

@@ -67,11 +67,11 @@ returns-clause-worker g c =
     (ap (λ (y : ChairsAre). y.seats) (sym c.self.view_is) ∙ c.in-Some.ensures.items)
     (ap (λ (y : ChairsAre). y.cells) (sym c.self.view_is) ∙ c.in-Some-pop.ensures.items)
     (ap (λ (y : ChairsAre). y.turns) (sym c.self.view_is) ∙ c.in-Some-pop-2.ensures.items) c.requires.seated in
-    subst (WorksAs t (length c.pop.new.self.items)) (sym c.new.ensures) (works_here t m (length c.pop.new.self.items) c.in-Some.seats c.in-Some-pop.at_cells c.in-Some-pop-2.at_launcher _ refl refl p.1)
+    subst (WorksAs t (length c.pop.new.self.items)) (sym c.new.ensures.life) (works_here t m (length c.pop.new.self.items) c.in-Some.seats c.in-Some-pop.at_cells c.in-Some-pop-2.at_launcher _ refl refl p.1)
 
 pub returns-clause-whose : goal.returns-clause-whose
 returns-clause-whose g c =
-    more_one c.new.result _ c.args.self.now c.in-Some.seats c.in-Some-pop.at_cells c.in-Some-pop-2.at_launcher
+    more_one c.new.result.life _ c.args.self.now c.in-Some.seats c.in-Some-pop.at_cells c.in-Some-pop-2.at_launcher
     (ap (λ (y : ChairsAre). y.seats) (sym c.self.view_is) ∙ c.in-Some.ensures.items)
     (ap (λ (y : ChairsAre). y.cells) (sym c.self.view_is) ∙ c.in-Some-pop.ensures.items)
-    (ap (λ (y : ChairsAre). y.turns) (sym c.self.view_is) ∙ c.in-Some-pop-2.ensures.items) (chair_of c.new.result c.in-Some.seats c.in-Some-pop.at_cells c.in-Some-pop-2.at_launcher c.new.ensures)
+    (ap (λ (y : ChairsAre). y.turns) (sym c.self.view_is) ∙ c.in-Some-pop-2.ensures.items) (chair_of c.new.result.life c.in-Some.seats c.in-Some-pop.at_cells c.in-Some-pop-2.at_launcher c.new.ensures.life)

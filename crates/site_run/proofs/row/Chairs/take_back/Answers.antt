@@ -10,7 +10,7 @@ returns-clause-seated g c = λ t w h.
     let s = c.into_seats-seats.result.0 in
     let a = c.into_seats-seats.result.1 in
     let b = c.into_seats-seats.result.2 in
-    chairs_back t (length g.N.Numbered.site.services) c.args.self.now c.push_reserved.new.self.items c.push_reserved-2.new.self.items c.push_reserved-3.new.self.items s a b c.args.worker
+    chairs_back t (length g.N.Numbered.site.services) c.args.self.now c.push_reserved.new.self.items c.push_reserved-2.new.self.items c.push_reserved-3.new.self.items s a b c.args.worker.life
     (c.push_reserved.ensures.items ∙ ap (λ (x : ChairsAre). x.seats ++ s ∷ []) c.self.view_is)
     (c.push_reserved-2.ensures.items ∙ ap (λ (x : ChairsAre). x.cells ++ a ∷ []) c.self.view_is)
     (c.push_reserved-3.ensures.items ∙ ap (λ (x : ChairsAre). x.turns ++ b ∷ []) c.self.view_is)
@@ -22,7 +22,7 @@ returns-clause-whose g c =
     let s = c.into_seats-seats.result.0 in
     let a = c.into_seats-seats.result.1 in
     let b = c.into_seats-seats.result.2 in
-    more_one c.args.worker c.args.self.now _ s a b
+    more_one c.args.worker.life c.args.self.now _ s a b
     (c.push_reserved.ensures.items ∙ ap (λ (x : ChairsAre). x.seats ++ s ∷ []) c.self.view_is)
     (c.push_reserved-2.ensures.items ∙ ap (λ (x : ChairsAre). x.cells ++ a ∷ []) c.self.view_is)
     (c.push_reserved-3.ensures.items ∙ ap (λ (x : ChairsAre). x.turns ++ b ∷ []) c.self.view_is)

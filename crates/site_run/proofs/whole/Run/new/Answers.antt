@@ -1,13 +1,16 @@
-use Rattle.std.proofs.Common.{rules, ◌≡◌, ◌≤◌, ◌+◌, length, map, sym, ap, ◌∙◌, subst, arith}
+use Rattle.std.proofs.Common.{rules, ◌≡◌, ◌≤◌, ◌+◌, ◌*◌, length, map, sym, ap, ◌∙◌, subst, arith}
 use Rattle.std.specs.Prelude.{vec_len, vec_capacity}
 use Rattle.std.proofs.lemmas.List.{length-map}
 use Rattle.live_board.specs.Seats.{SeatIs as Place}
+use Rattle.okws_plan.specs.declared.configuration.Config.{Config}
 use Rattle.site_locks.specs.Made.{AreFreshFrom}
+use Rattle.site_locks.specs.Sat.{Sat}
+use Rattle.site_worker.specs.declared.worker.TheConstants.{TURN_ITEMS}
 use Rattle.site_run.specs.Rows.{ChairsAre}
 use Rattle.site_run.specs.Whole.{AreNewFrom, IsReady}
 use Rattle.site_run.specs.declared.room.Desk.{Desk}
 use Rattle.site_run.proofs.Holding.{seats_pop, new_pop, ready}
-use Rattle.site_run.proofs.Seating.{push_length}
+use Rattle.site_run.proofs.Seating.{ok_of, push_length}
 use Rattle.site_run.proofs.whole.Run.new.Goals as goal
 
 pub hire-requires-clause-seats : goal.hire-requires-clause-seats
@@ -49,8 +52,14 @@ returns-in-Ok-clause-ready g c =
     let cells_roomy : n + 1 ≤ vec_capacity c.pop-2.new.self = (let q = c.requires.named.cells_roomy in search rules) in
     let doors_roomy : vec_len doors ≤ vec_capacity doors = search rules in
     let desks_roomy : vec_len doors ≤ vec_capacity desks = search rules in
+    let spared = ok_of c.make_spare.result _ (sym c.is_err.ensures.value ∙ c.if-is_err.false) c.make_spare.ensures.ok in
+    let places = ap (λ (x : Sat). x.spare) spared in
+    let given : c.make_spare.new.self ≡ record c.index_mut.result.now { spare = c.make_spare.new.self.spare } = spared ∙ ap (λ k. record c.index_mut.result.now { spare = k }) (sym places) in
+    let site = ap (λ (x : Config). length x.services) c.requires.papers.site_is in
+    let declared = c.services-services.ensures in
+    let enough : length C.services * TURN_ITEMS ≤ c.make_spare.new.self.spare = omega arith in
     subst (λ (x : ChairsAre). IsReady C n h.turn c.args.office.numbers c.args.named.cells x (record { entrances = map entrance doors.items; places = map place desks.items; doors_room = vec_capacity doors; desks_room = vec_capacity desks }))
     (sym c.of.ensures)
-    (ready C n (vec_len doors) h.turn c.args.office.numbers c.args.named.cells c.args.named.seats.items c.pop.new.self.items c.in-Some.own c.args.named.at_cells.items c.pop-2.new.self.items c.in-Some-pop.own_cells h.turns.items
+    (ready C n (vec_len doors) h.turn c.args.office.numbers c.args.named.cells c.args.named.seats.items c.pop.new.self.items c.index_mut.result.now c.make_spare.new.self c.in-Some.own c.args.named.at_cells.items c.pop-2.new.self.items c.in-Some-pop.own_cells h.turns.items
     (map entrance doors.items) (map place desks.items) (vec_capacity c.args.named.seats) (vec_capacity c.pop.new.self) (vec_capacity c.args.named.at_cells) (vec_capacity c.pop-2.new.self) (vec_capacity h.turns) (vec_capacity doors) (vec_capacity desks)
-    c.requires.named c.in-Some.ensures.items c.in-Some-pop.ensures.items l seats_roomy cells_roomy count many roomy made.3 c.requires.doors.0 c.requires.doors.1 (length-map doors.items entrance ∙ as_many) c.requires.idle c.requires.office doors_roomy desks_roomy)
+    c.index_mut.ensures.value given enough c.requires.named c.in-Some.ensures.items c.in-Some-pop.ensures.items l seats_roomy cells_roomy count many roomy made.3 c.requires.doors.0 c.requires.doors.1 (length-map doors.items entrance ∙ as_many) c.requires.idle c.requires.office doors_roomy desks_roomy)

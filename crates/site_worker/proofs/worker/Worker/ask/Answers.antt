@@ -3,5 +3,6 @@ use Rattle.site_worker.proofs.worker.Worker.ask.Goals as goal
 
 pub returns : goal.returns
 returns g c =
-    asks_made g.N.Numbered.site c.args.service c.args.self.now c.relaunch_turn-answer.new.self c.note_where.new.self c.launch_starved.result c.relaunch_turn-answer.result
-    c.relaunch_turn-answer.ensures.only c.relaunch_turn-answer.ensures.relaunches c.launch_starved.ensures c.note_where.ensures
+    let t = c.relaunch_turn-answer in
+    asks_made g.N.Numbered.site c.args.service t.result.1 c.args.self.now.life t.new.self.life c.note_entered.new.self.life c.note_where.new.self.life c.launch_starved.result
+    t.ensures.only c.note_entered.ensures.notes t.result.0 t.ensures.relaunches c.launch_starved.ensures c.note_where.ensures.notes

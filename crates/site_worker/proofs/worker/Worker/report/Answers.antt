@@ -1,7 +1,16 @@
+use Rattle.std.proofs.Common.{◌≡◌, ap, subst}
+use Rattle.okld_launch.specs.Turns.{ReportsBy}
+use Rattle.site_worker.specs.Lives.{Life, Working}
 use Rattle.site_worker.proofs.Turns.{reports_made}
 use Rattle.site_worker.proofs.worker.Worker.report.Goals as goal
 
-pub returns : goal.returns
-returns g c =
-    reports_made g.N.Numbered.site c.args.service c.args.self.now c.report_turn-answer.new.self c.note_where.new.self c.crash_starved.result c.args.incarnation c.report_turn-answer.result c.note_of-note.new.self
-    c.note_of-note.ensures.same c.report_turn-answer.ensures.only c.report_turn-answer.ensures.reports c.crash_starved.ensures c.note_where.ensures
+pub returns-clause-reports : goal.returns-clause-reports
+returns-clause-reports g c =
+    let C = g.N.Numbered.site in
+    let s = c.args.service in
+    let k = c.args.incarnation in
+    let t = c.report_turn-answer in
+    let same = ap (λ (x : Working). x.life) c.note_of-note.ensures.same in
+    reports_made C s t.result.1 c.args.self.now.life t.new.self.life c.note_entered.new.self.life c.note_where.new.self.life c.crash_starved.result
+    (subst (λ (x : Life). t.new.self.life ≡ record x { launcher = record x.launcher { seen = t.new.self.life.launcher.seen } }) same t.ensures.only) c.note_entered.ensures.notes
+    k t.result.0 (subst (λ (x : Life). ReportsBy C s k x.launcher t.result.0 t.result.1 t.new.self.life.launcher) same t.ensures.reports) c.crash_starved.ensures c.note_where.ensures.notes

@@ -3,5 +3,6 @@ use Rattle.site_worker.proofs.worker.Worker.tend.Goals as goal
 
 pub returns : goal.returns
 returns g c =
-    tends_made g.N.Numbered.site c.args.service c.args.self.now c.tend_turn-answer.new.self c.note_where.new.self c.tend_starved.result c.tend_turn-answer.result
-    c.tend_turn-answer.ensures.only c.tend_turn-answer.ensures.tends c.tend_starved.ensures c.note_where.ensures
+    let t = c.tend_turn-answer in
+    tends_made g.N.Numbered.site c.args.service t.result.1 c.args.self.now.life t.new.self.life c.note_entered.new.self.life c.note_where.new.self.life c.tend_starved.result
+    t.ensures.only c.note_entered.ensures.notes t.result.0 t.ensures.tends c.tend_starved.ensures c.note_where.ensures.notes

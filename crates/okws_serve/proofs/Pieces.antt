@@ -1,0 +1,156 @@
+-- The lists of a run's workers are made of whole pieces.
+use Rattle.std.proofs.Common.{◌≡◌, ◌≤◌, ◌<◌, ◌+◌, inl, inr, ℕ, suc, Bool, true, false, List, [], ◌∷◌, ◌++◌, length, map, get_or, refl, sym, ap, ◌∙◌, subst, arith}
+use Rattle.std.proofs.lemmas.Bool.{true≢false}
+use Rattle.std.proofs.lemmas.List.Folds.{list_any-append}
+use Rattle.std.specs.Prelude.{◌&&◌, ◌||◌, is_some, is_none, Some, None}
+use Rattle.std.specs.List.{list_all, list_any}
+use Rattle.std.specs.declared.option.Option.{Option}
+use mathlib.Core.Logic.{dite}
+use native.Mathlib.Decide.{ℕ_discrete}
+use Rattle.okws_outer.specs.Conns.{ConnWire}
+use Rattle.okws_outer.specs.Doors.{Entrance}
+use Rattle.okws_plan.specs.declared.configuration.Config.{Config}
+use Rattle.okws_plan.specs.declared.event.LauncherEvent.{LauncherEvent}
+use Rattle.monitor_model.specs.declared.record.Own.{Own}
+use Rattle.monitor_model.specs.declared.record.Own.TheVariants as own
+use Rattle.monitor_model.specs.declared.record.Record.{Record}
+use Rattle.monitor_model.specs.Cell.{dialogs_of}
+use Rattle.monitor_model.specs.Merged.{list_of}
+use Rattle.monitor_model.specs.Outside.{Order, launcher_order}
+use Rattle.monitor_model.specs.Pieces.{is_accept_item, is_ordered}
+use Rattle.monitor_model.specs.Seen.{Seen}
+use Rattle.monitor_model.specs.Worker.{IsWorker, Piece, nothing_seen}
+use Rattle.monitor_model.proofs.Lived.{lives_are_pieces}
+use Rattle.site_cell.specs.Held.{by_event}
+use Rattle.cell_locks.proofs.Onlys.{new_at}
+use Rattle.worker_lives.specs.Beginning.{IsOfTurn, turned_alone}
+use Rattle.worker_lives.specs.Going.{GoesOn, IsBlank, Sights}
+use Rattle.worker_lives.specs.Listing.{are_told, first_item}
+use Rattle.worker_lives.proofs.Begun.{turns_alone_are_lives}
+use Rattle.worker_lives.proofs.Listed.{items_are_of_pieces}
+use Rattle.worker_lives.proofs.Others.{others_leave_dialogs}
+use Rattle.worker_lives.proofs.Steps.{goings_are_lives, goings_join, lives_end_in_records}
+use Rattle.worker_lives.proofs.Told.{crashes_told, told_both}
+use Rattle.round_lives.specs.Living.{IsOf, LivesOn, sights_of}
+use Rattle.round_lives.proofs.Rounded.{consoles_are_lived, doors_are_lived}
+use Rattle.site_worker.specs.Lives.{Life}
+use Rattle.site_worker.specs.declared.door.Attended.{Attended}
+use Rattle.site_run.specs.Tied.{LifeBegins, LifeEnds, is_launching}
+use Rattle.site_run.proofs.Leaving.{cell_at}
+use Rattle.okws_serve.specs.Doors.{AllAttend, AttendsAt, ServesConsole}
+use Rattle.okws_serve.specs.Lived.{ListIsPieces}
+
+-- ---- what number 0 noted before the workers began
+
+of_turn : (item : Own) → is_launching item ≡ true → IsOfTurn item
+of_turn (own.Launcher e) h = inr (e, refl)
+of_turn own.NoMemory h = inl refl
+of_turn (own.Okd e) h = absurd (true≢false (sym h))
+of_turn (own.Proxy p e) h = absurd (true≢false (sym h))
+of_turn (own.Pubd e) h = absurd (true≢false (sym h))
+of_turn (own.Oklogd e) h = absurd (true≢false (sym h))
+of_turn (own.Dialog s) h = absurd (true≢false (sym h))
+of_turn (own.Missed s k is) h = absurd (true≢false (sym h))
+of_turn (own.Boot s k) h = absurd (true≢false (sym h))
+of_turn (own.Retired s) h = absurd (true≢false (sym h))
+
+none_some : {A : Type 0} (o : Option A) → is_none o ≡ true → is_some o ≡ false
+none_some None h = refl
+none_some (Some x) h = absurd (true≢false (sym h))
+
+both_of : (a b : Bool) → (a && b) ≡ true → (a ≡ true) × (b ≡ true)
+both_of true b h = (refl, h)
+both_of false b h = absurd (true≢false (sym h))
+
+-- what forbids nothing that is launched
+module _ (forbidden : Own → Bool) (few : (item : Own) → is_launching item ≡ true → forbidden item ≡ false) where
+  launches_allowed : (items : List Own) → list_all is_launching items ≡ true → list_any forbidden items ≡ false
+  launches_allowed [] h = refl
+  launches_allowed (item ∷ items) h = let b = both_of (is_launching item) (list_all is_launching items) h in rw (few item b.0) (launches_allowed items b.1)
+
+few_ordered : (item : Own) → is_launching item ≡ true → is_ordered item ≡ false
+few_ordered (own.Launcher e) h = none_some (launcher_order e) h
+few_ordered own.NoMemory h = refl
+few_ordered (own.Okd e) h = absurd (true≢false (sym h))
+few_ordered (own.Proxy p e) h = absurd (true≢false (sym h))
+few_ordered (own.Pubd e) h = absurd (true≢false (sym h))
+few_ordered (own.Oklogd e) h = absurd (true≢false (sym h))
+few_ordered (own.Dialog s) h = absurd (true≢false (sym h))
+few_ordered (own.Missed s k is) h = absurd (true≢false (sym h))
+few_ordered (own.Boot s k) h = absurd (true≢false (sym h))
+few_ordered (own.Retired s) h = absurd (true≢false (sym h))
+
+few_accepted : (item : Own) → is_launching item ≡ true → is_accept_item item ≡ false
+few_accepted (own.Launcher e) h = refl
+few_accepted own.NoMemory h = refl
+few_accepted (own.Okd e) h = absurd (true≢false (sym h))
+few_accepted (own.Proxy p e) h = absurd (true≢false (sym h))
+few_accepted (own.Pubd e) h = absurd (true≢false (sym h))
+few_accepted (own.Oklogd e) h = absurd (true≢false (sym h))
+few_accepted (own.Dialog s) h = absurd (true≢false (sym h))
+few_accepted (own.Missed s k is) h = absurd (true≢false (sym h))
+few_accepted (own.Boot s k) h = absurd (true≢false (sym h))
+few_accepted (own.Retired s) h = absurd (true≢false (sym h))
+
+any_first : (forbidden : Own → Bool) (pieces : List Piece) → list_any (λ (piece : Piece). forbidden (first_item piece)) pieces ≡ list_any forbidden (map first_item pieces)
+any_first forbidden [] = refl
+any_first forbidden (piece ∷ pieces) = ap (λ (b : Bool). forbidden (first_item piece) || b) (any_first forbidden pieces)
+
+-- ---- a worker's list
+
+module _ (C : Config) (n : ℕ) (R : Record) (w : ℕ) (J K : Life) (many : length R.proxies ≡ length C.proxies) (begins : LifeBegins C w J) (ends : LifeEnds n w K R) where
+  first_is : IsOf w J
+  first_is = record { number_is = begins.cells.number_is; seat_is = begins.seat }
+
+  pub list_is : (forbidden : Own → Bool) → ((item : Own) → is_launching item ≡ true → forbidden item ≡ false)
+      → ((pieces : List Piece) (items : List Own) → IsWorker C R w pieces items → list_any forbidden items ≡ list_any (λ (piece : Piece). forbidden (first_item piece)) pieces)
+      → LivesOn C w (λ (piece : Piece). forbidden (first_item piece)) J K → ListIsPieces C R forbidden w
+  list_is forbidden few link lives =
+      let items = J.seen.own in
+      let m = length C.proxies in
+      let blank : Sights = turned_alone m [] [] J.cells.cells in
+      let turned : Sights = turned_alone m items J.launcher.seen J.cells.cells in
+      let at = turns_alone_are_lives is_launching C w items J.launcher.seen J.cells.cells of_turn begins.launches.only begins.launches.entered in
+      let there : sights_of J ≡ turned = ap (λ (S : Seen). record { columns = S; launcher = J.launcher.seen; cells = J.cells.cells }) begins.seen_is in
+      let goes : GoesOn C w lives.pieces turned (sights_of K) = subst (λ (X : Sights). GoesOn C w lives.pieces X (sights_of K)) there lives.goes in
+      let all = lives.pieces ++ at.0 in
+      let joined : GoesOn C w all blank (sights_of K) = goings_join C w at.0 lives.pieces blank turned (sights_of K) at.1 goes in
+      let begun : IsBlank m blank = record { columns = refl; launcher = refl; cells = λ s. new_at (length C.services) w s J.cells begins.cells } in
+      let lived = goings_are_lives C w all blank (sights_of K) begun joined in
+      let dialogs = λ (s : ℕ). others_leave_dialogs (by_event n) w (get_or K.cells.cells s []) (get_or R.cells s []) (λ d. refl) (cell_at n w K.cells.cells R.cells ends.cells s) in
+      let worker : IsWorker C R w all (list_of R w) = subst (IsWorker C R w all) ends.own_is (lives_end_in_records C R w all (sights_of K) many lived ends.columns ends.launcher dialogs) in
+      let pieced = lives_are_pieces C R w all (list_of R w) many worker in
+      let told : are_told None all ≡ true = told_both None at.0 lives.pieces at.3 lives.told in
+      let before : list_any (λ (piece : Piece). forbidden (first_item piece)) at.0 ≡ false =
+      any_first forbidden at.0 ∙ (ap (list_any forbidden) at.2 ∙ launches_allowed forbidden few items begins.launches.only) in
+      record {
+        whole = pieced.0;
+        allowed = link all (list_of R w) worker
+            ∙ (list_any-append (λ (piece : Piece). forbidden (first_item piece)) lives.pieces at.0
+            ∙ (ap (λ (b : Bool). b || list_any (λ (piece : Piece). forbidden (first_item piece)) at.0) lives.allowed ∙ before));
+        fits = pieced.1;
+        told = crashes_told C R w all (list_of R w) many worker told;
+      }
+
+-- of a worker at a door: it carries out no order
+pub door_is : {X : Type 0} (wire : X → ConnWire) (C : Config) (n most : ℕ) (R : Record) (w : ℕ) (e f : Entrance) (a : Attended) → length R.proxies ≡ length C.proxies → AttendsAt wire C n most R w e f a
+    → ListIsPieces C R is_ordered w
+door_is wire C n most R w e f a many h =
+    list_is C n R w h.before h.after many h.begins h.left is_ordered few_ordered (λ pieces items worker. (items_are_of_pieces C R w pieces items many worker).0)
+    (doors_are_lived C n w wire most e f h.before h.after [] h.drawn a (first_is C n R w h.before h.after many h.begins h.left) h.attends)
+
+-- of all workers at doors
+pub doors_are : {X : Type 0} (wire : X → ConnWire) (C : Config) (n most : ℕ) (R : Record) (k w : ℕ) (es fs : List Entrance) (as' : List Attended) → length R.proxies ≡ length C.proxies
+    → AllAttend wire C n most R k es fs as' → k ≤ w → w < length es + k → ListIsPieces C R is_ordered w
+doors_are wire C n most R k w [] fs as' many h l u = absurd (omega arith)
+doors_are wire C n most R k w (e ∷ es) [] as' many h l u = absurd h
+doors_are wire C n most R k w (e ∷ es) (f ∷ fs) [] many h l u = absurd h
+doors_are wire C n most R k w (e ∷ es) (f ∷ fs) (a ∷ as') many h l u = dite (ℕ_discrete k w)
+    (λ is. subst (ListIsPieces C R is_ordered) is (door_is wire C n most R k e f a many h.0))
+    (λ not. doors_are wire C n most R (suc k) w es fs as' many h.1 (omega arith) (omega arith))
+
+-- of the console's worker: it accepts no connection
+pub console_is : (C : Config) (n : ℕ) (R : Record) (w : ℕ) (x y : ConnWire) (failed : Bool) → length R.proxies ≡ length C.proxies → ServesConsole C n R w x y failed → ListIsPieces C R is_accept_item w
+console_is C n R w x y failed many h =
+    list_is C n R w h.before h.after many h.begins h.left is_accept_item few_accepted (λ pieces items worker. (items_are_of_pieces C R w pieces items many worker).1)
+    (consoles_are_lived C w x y 0 h.lines h.before h.after h.how (first_is C n R w h.before h.after many h.begins h.left) h.oversees)

@@ -1,0 +1,25 @@
+-- What a worker's life says of the pieces of its list. Number n launches.
+use Rattle.std.specs.Prelude.{◌≡◌, ℕ, Bool, List, Option, None, IsTrue, IsFalse}
+use Rattle.std.specs.List.{list_any}
+use Rattle.okws_plan.specs.declared.configuration.Config.{Config}
+use Rattle.monitor_model.specs.Worker.{Piece}
+use Rattle.worker_lives.specs.Going.{Sights, GoesOn}
+use Rattle.worker_lives.specs.Listing.{are_told}
+use Rattle.site_worker.specs.Lives.{Life, number_of}
+
+-- What a worker has seen, as its life says it.
+abbrev pub sights_of : Life → Sights
+sights_of J = record { columns = J.seen; launcher = J.launcher.seen; cells = J.cells.cells }
+
+-- A life is that of worker w, whose seat at the launcher has the same number.
+pub record IsOf (w : ℕ) (J : Life) : Type 0 where
+  pub number_is : number_of J ≡ w
+  pub seat_is : J.launcher.number ≡ w
+
+-- The life of worker w went on by pieces, none of which is forbidden. Each crash is told of by the piece behind it.
+pub record LivesOn (C : Config) (w : ℕ) (forbidden : Piece → Bool) (J K : Life) : Type 0 where
+  pub pieces : List Piece
+  pub goes : GoesOn C w pieces (sights_of J) (sights_of K)
+  pub same : IsOf w K
+  pub told : IsTrue (are_told None pieces)
+  pub allowed : IsFalse (list_any forbidden pieces)

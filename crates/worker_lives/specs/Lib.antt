@@ -1,0 +1,6 @@
+pub mod Leading
+pub mod Going
+pub mod Laws
+pub mod Talking
+pub mod Listing
+pub mod Beginning

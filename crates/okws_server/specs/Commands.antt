@@ -10,7 +10,7 @@ use Rattle.okws_server.specs.Drill.{Drilled}
 use Rattle.okws_server.specs.Ending.{Told, no_memory_line}
 use Rattle.okws_server.specs.Headline.{IsEmptyRecord}
 use Rattle.okws_server.specs.Ran.{Checked, Played}
-use Rattle.okws_server.specs.Served.{IsServing, Served}
+use Rattle.okws_server.specs.Served.{IsServing, ServesWords}
 use Rattle.okws_server.specs.Views.{View}
 use Rattle.okws_server.specs.declared.status.Status.{Status}
 use Rattle.okws_server.specs.declared.status.Status.TheVariants as status
@@ -35,7 +35,7 @@ Does wire None a b R how = IsAnswered a b R how
 Does wire (Some (Checks config)) a b R how = IsEmptyRecord R × (b.gear ≡ a.gear) × Checked a.shelf b.shelf config a.given b.given (Rose a.faults b.faults) how
 Does wire (Some (Plays config script)) a b R how = (b.gear ≡ a.gear) × Played a.shelf b.shelf config script a.given b.given (Rose a.faults b.faults) R how
 Does wire (Some (Drills number events)) a b R how = (b.shelf ≡ a.shelf) × (b.gear ≡ a.gear) × Drilled number events a.given b.given (Rose a.faults b.faults) R how
-Does wire (Some (Serves server)) a b R how = Served wire server a b R how
+Does wire (Some (Serves server)) a b R how = ServesWords wire server a b R how
 
 -- What a run does that these words ask for: memory may be refused before anything is read.
 abbrev pub Obeys : {X : Type 0} → (X → ConnWire) → Option Asked → View → View → Record → Status → Type 0

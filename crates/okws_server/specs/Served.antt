@@ -179,10 +179,14 @@ pub record ServesFile {X : Type 0} (wire : X → ConnWire) (server : Serving) (a
   pub reads : Reads a.shelf b.shelf 1 ⊥
   pub serves : ServesConfig wire server config a.seed a.gear b.gear a.given b.given (Rose a.faults b.faults) R how
 
+-- A file of rows or of the record is asked for.
+abbrev pub WantsFiles : Serving → Type 0
+WantsFiles server = (is_some server.store || is_some server.audit) ≡ true
+
 -- What `serve` answers, and what it leaves. A file of rows or of the record is asked for in vain, which is said. Memory may be refused before the configuration is known.
 abbrev pub Served : {X : Type 0} → (X → ConnWire) → Serving → View → View → Record → Status → Type 0
 Served wire server a b R status.Usage =
-    ((is_some server.store || is_some server.audit) ≡ true) × (b.shelf ≡ a.shelf) × (b.gear ≡ a.gear) × Tells a.given b.given NOT_YET.now (Rose a.faults b.faults) R
+    WantsFiles server × (b.shelf ≡ a.shelf) × (b.gear ≡ a.gear) × Tells a.given b.given NOT_YET.now (Rose a.faults b.faults) R
 Served wire server a b R status.ReadFault = Reads a.shelf b.shelf 1 (⊤) × (b.gear ≡ a.gear) × Tells a.given b.given read_fault_line (Rose a.faults b.faults) R
 Served wire server a b R status.ConfigRefused =
     IsEmptyRecord R × Reads a.shelf b.shelf 1 ⊥ × (b.gear ≡ a.gear) × RefusesConfig ((a.shelf).held server.config) a.given b.given (Rose a.faults b.faults)
@@ -194,3 +198,8 @@ Served wire server a b R status.LogFault = ServesFile wire server a b R status.L
 Served wire server a b R status.ConsoleFault = ServesFile wire server a b R status.ConsoleFault
 Served wire server a b R status.OutFault = ServesFile wire server a b R status.OutFault
 Served wire server a b R _ = ⊥
+
+-- The same of its words: where they ask for a file, nothing is served.
+pub record ServesWords {X : Type 0} (wire : X → ConnWire) (server : Serving) (a b : View) (R : Record) (how : Status) : Type 0 where
+  pub served : Served wire server a b R how
+  pub files : WantsFiles server → how ≡ status.Usage

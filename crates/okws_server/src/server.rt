@@ -6,7 +6,7 @@ ghost use Rattle.okws_plan.specs.Sound.{IsSound};
 ghost use Rattle.config_reader.specs.Ruled.{AreRuled};
 ghost use Rattle.okws_outer.specs.Streams.{Rose};
 ghost use Rattle.site_run.specs.Keepers.{keeper_of};
-ghost use Rattle.okws_server.specs.Served.{EndsAs, IsGround, IsServing, Served, ServesConfig, ServesOpen, Tells, serving_of};
+ghost use Rattle.okws_server.specs.Served.{EndsAs, IsGround, IsServing, ServesConfig, ServesOpen, ServesWords, Tells, serving_of};
 ghost use Rattle.okws_server.specs.Views.{gear_of, view_of};
 
 use crate::counting::print_counts;
@@ -169,7 +169,7 @@ where
     O: Sink,
     E: Equipment,
     requires { IsServing (serving_of server.now) }
-    ensures { Served E.Network.Door.Conn.wire (serving_of server.now)
+    ensures { ServesWords E.Network.Door.Conn.wire (serving_of server.now)
         (view_of F.shelf O.given O.faults files.old out.old (gear_of E.Network.net E.Children.family E.Console.wire E.Stores.depot E.Sinks.rack things) seed)
         (view_of F.shelf O.given O.faults files.new out.new (gear_of E.Network.net E.Children.family E.Console.wire E.Stores.depot E.Sinks.rack result.2) seed)
         result.1 result.0 }

@@ -5,3 +5,4 @@ pub mod Joins
 pub mod Replies
 pub mod Onlys
 pub mod Notes
+pub mod Fitting

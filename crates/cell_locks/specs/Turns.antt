@@ -5,6 +5,7 @@ use Rattle.okws_outer.specs.Wire.{Wire}
 use Rattle.frame_codec.specs.declared.frame.ServerFrame.{ServerFrame}
 use Rattle.frame_codec.specs.declared.frame.ServiceFrame.{ServiceFrame}
 use Rattle.frame_codec.specs.declared.frame.ServiceFrame.TheVariants as said
+use Rattle.http_front.specs.Replies.{Replied}
 use Rattle.monitor_model.specs.declared.record.CellEvent.{CellEvent}
 use Rattle.monitor_model.specs.declared.record.CellEvent.TheVariants as cell
 use Rattle.monitor_model.specs.declared.record.Dialog.{Dialog}
@@ -19,18 +20,15 @@ use Rattle.service_cell.specs.Steps.{Boots, retired}
 use Rattle.service_cell.specs.declared.answer.Spoken.{Spoken}
 use Rattle.service_cell.specs.declared.answer.Spoken.TheVariants as spoken
 use Rattle.site_cell.specs.Held.{by_event}
-use Rattle.cell_locks.specs.declared.answer.Reply.{Reply}
 use Rattle.cell_locks.specs.declared.answer.Launched.{Launched}
-use Rattle.cell_locks.specs.declared.answer.Talked.{Talked}
-use Rattle.cell_locks.specs.declared.answer.Talked.TheVariants as talked
 
 -- The cell of service s as number n finds it when its turn comes: others may have entered since it saw these events. Number k launches.
 pub record IsFound (k s n : ℕ) (seen : List CellEvent) (c : Standing) : Type 0 where
   pub service_is : c.service ≡ s
   pub grows : GrowsBy (by_event k) n seen c.past
 
--- The frame of a Reply that was copied.
-abbrev pub reply_frame : Reply → ServiceFrame
+-- The frame of a Reply with these parts.
+abbrev pub reply_frame : Replied → ServiceFrame
 reply_frame r = said.Reply r.status r.content_type r.location r.content
 
 -- The last event is a dialog that ended in a Reply.
@@ -45,35 +43,24 @@ RepliedIf (spoken.Missed wanted is) J = Unit {0}
 RepliedIf (spoken.Superseded k shown) J = Unit {0}
 RepliedIf spoken.NoMemory J = Unit {0}
 
--- The last event is a dialog that ended in this Reply.
-abbrev pub EndsInCopy : Reply → List CellEvent → Type 0
-EndsInCopy r J = (d : Dialog) × (before : List CellEvent) × (J ≡ cell.Dialog d ∷ before) × EndsIn (reply_frame r) d
+-- The last event is a dialog that ended in the Reply with these parts.
+abbrev pub EndsInReply : Replied → List CellEvent → Type 0
+EndsInReply r J = (d : Dialog) × (before : List CellEvent) × (J ≡ cell.Dialog d ∷ before) × EndsIn (reply_frame r) d
 
--- A Reply that is answered is the one in which the last event, a dialog, ended.
-abbrev pub GivesLast : Talked → List CellEvent → Type 0
-GivesLast (talked.Replied r) J = EndsInCopy r J
-GivesLast talked.Uncopied J = Unit {0}
-GivesLast (talked.Crashed why) J = Unit {0}
-GivesLast (talked.Missed wanted is) J = Unit {0}
-GivesLast (talked.Superseded k shown) J = Unit {0}
-GivesLast talked.NoMemory J = Unit {0}
-
--- What the cell answered.
-abbrev pub spoken_of : Talked → Spoken
-spoken_of (talked.Replied r) = spoken.Reply
-spoken_of talked.Uncopied = spoken.Reply
-spoken_of (talked.Crashed why) = spoken.Crashed why
-spoken_of (talked.Missed wanted is) = spoken.Missed wanted is
-spoken_of (talked.Superseded k shown) = spoken.Superseded k shown
-spoken_of talked.NoMemory = spoken.NoMemory
+-- Where a dialog is answered so, these are the parts of the Reply in which the last event, a dialog, ended.
+abbrev pub GivesLast : Spoken → Replied → List CellEvent → Type 0
+GivesLast spoken.Reply r J = EndsInReply r J
+GivesLast (spoken.Crashed why) r J = Unit {0}
+GivesLast (spoken.Missed wanted is) r J = Unit {0}
+GivesLast (spoken.Superseded k shown) r J = Unit {0}
+GivesLast spoken.NoMemory r J = Unit {0}
 
 -- A whole dialog in one turn at the cell of service s, where the worker had seen these of its events, and J of the columns: then it has seen these, the cell's own to the last one, and `now` of the columns.
-pub record HasTalked (k : ℕ) (who : Asker) (shows : ℕ → Type 0) (head content : List ℕ) (wanted s : ℕ) (old : List CellEvent) (J : Seen) (answer : Talked) (new : List CellEvent) (now : Seen) : Type 0 where
+pub record HasTalked (k : ℕ) (who : Asker) (shows : ℕ → Type 0) (head content : List ℕ) (wanted s : ℕ) (old : List CellEvent) (J : Seen) (answer : Spoken) (new : List CellEvent) (now : Seen) : Type 0 where
   pub before : Standing
   pub after : Standing
   pub found : IsFound k s who.worker old before
-  pub talks : Dialogs who shows head content wanted before J (spoken_of answer) after now
-  pub gives : GivesLast answer after.past
+  pub talks : Dialogs who shows head content wanted before J answer after now
   pub seen_is : new ≡ after.past
 
 -- An incarnation was booted at the cell of service s in one turn, or not, by who launches, number k. It had left the cell without one, and finds it so; a link that it had left there comes back.

@@ -43,7 +43,6 @@ impl<N: Numbered, C: CellNames, L: Link> CellEnds<N, C, L> {
         ensures has { RowHas seats.number result }
     {
         let CellSeats {
-            alloc: _,
             number: _,
             seats,
             of: _,
@@ -61,7 +60,6 @@ impl<N: Numbered, C: CellNames, L: Link> CellEnds<N, C, L> {
         ensures still { (k : ℕ) → RowHas k self.old → RowHas k self.new }
     {
         let CellSeats {
-            alloc: _,
             number: _,
             seats,
             of: _,

@@ -107,7 +107,6 @@ fn name_rows<N: Numbered, C: CellNames, L: Link + Drop>(
     let mut number = 0;
     while let Some(seats) = rows.pop() {
         all.push_reserved(CellSeats {
-            alloc,
             number,
             seats,
             of: PhantomData,

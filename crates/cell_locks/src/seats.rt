@@ -8,20 +8,22 @@ ghost use Rattle.service_cell.specs.Asking.{KeepsBoard};
 ghost use Rattle.service_cell.specs.Standing.{IsFresh};
 ghost use Rattle.site_cell.specs.Held.{by_event};
 ghost use Rattle.cell_locks.specs.Row.{seen_at, OnlyAt};
-ghost use Rattle.cell_locks.specs.Turns.{HasTalked, HasLaunched, HasRetired};
+ghost use Rattle.cell_locks.specs.Turns.{GivesLast, HasTalked, HasLaunched, HasRetired};
 
-use crate::answer::{Launched, Talked};
+use crate::answer::Launched;
 use crate::locks::CellLocks;
 use crate::named::CellNames;
 use crate::note::CellNote;
 use crate::turns;
 use frame_codec::frame::{Issued, ServerFrame};
+use http_front::reply::Reply;
 use okws_base::items::Items;
 use okws_outer::stream::Link;
+use service_cell::answer::Spoken;
 use service_cell::columns::Columns;
 use site_cell::cell::SiteCell;
 use site_cell::named::Numbered;
-use std::alloc::{AllocError, Global};
+use std::alloc::AllocError;
 use std::marker::{Model, PhantomData};
 use std::sync::Wait;
 use turn_lock::Seat;
@@ -30,7 +32,6 @@ use turn_lock::Seat;
 /// and what was seen at each cell: its events, the newest first.
 #[derive(Drop)]
 pub struct CellSeats<N: Numbered, C: CellNames, L: Link> {
-    pub(crate) alloc: Global,
     pub(crate) number: u16,
     pub(crate) seats: Vec<Seat<SiteCell<N, L>>>,
     pub(crate) of: PhantomData<C>,
@@ -64,7 +65,7 @@ impl<N: Numbered, C: CellNames, L: Link> CellSeats<N, C, L> {
     }
 
     /// A whole dialog of a worker at the cell of a service, in one turn. Where the service replies, the Reply
-    /// is copied before the turn is given up.
+    /// is filled before the turn is given up; else nothing is said of it.
     pub fn dialog<R: Wait, W: Columns>(
         &mut self,
         rt: &R,
@@ -74,22 +75,23 @@ impl<N: Numbered, C: CellNames, L: Link> CellSeats<N, C, L> {
         content: Items<u8>,
         wanted: u32,
         columns: &mut W,
-    ) -> Talked
+        reply: &mut Reply,
+    ) -> Spoken
         requires worker { (W.asker columns.old).worker ≡ self.old.number }
         requires service { service < length self.old.cells }
         requires wanted { 0 < wanted }
         requires declared { service < length (W.asker columns.old).config.services }
         requires short { length head + length content + 9 ≤ LONGEST_FRAME }
         ensures talked { HasTalked N.launcher (W.asker columns.old) (W.shows columns.new service) head content wanted service (seen_at self.old service) (W.seen columns.old) result (seen_at self.new service) (W.seen columns.new) }
+        ensures gives { GivesLast result reply.new (seen_at self.new service) }
         ensures only { OnlyAt service self.old self.new }
         ensures board { KeepsBoard W.asker W.shows W.token_seed W.spare columns.old columns.new }
     {
-        let alloc = self.alloc;
         let i = service as usize;
         let seat = &mut self.seats[i];
         let lock = &locks.turns[i];
         let gate = &locks.gates[i];
-        turns::talk(rt, alloc, gate, lock, seat, head, content, wanted, columns)
+        turns::talk(rt, gate, lock, seat, head, content, wanted, columns, reply)
     }
 
     /// The incarnation that is there in a turn, 0 for none.

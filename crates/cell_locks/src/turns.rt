@@ -5,27 +5,28 @@ ghost use Rattle.okws_base.specs.Turns.{GrowsBy};
 ghost use Rattle.okws_base.specs.declared.limit.TheConstants.{LONGEST_FRAME, MOST_INCARNATIONS, MOST_PROXIES};
 ghost use Rattle.monitor_model.specs.Cell.{incarnation, last_booted, boot_frame};
 ghost use Rattle.service_cell.specs.Asking.{KeepsBoard};
-ghost use Rattle.service_cell.specs.Ending.{IsReply};
+ghost use Rattle.service_cell.specs.Ending.{IsSpelledReply};
 ghost use Rattle.service_cell.specs.Standing.{IsFresh};
 ghost use Rattle.site_cell.specs.Held.{by_event};
-ghost use Rattle.cell_locks.specs.Turns.{reply_frame, spoken_of, HasReplied, RepliedIf, EndsInCopy, GivesLast, HasTalked, HasLaunched, HasRetired};
+ghost use Rattle.cell_locks.specs.Turns.{reply_frame, HasReplied, RepliedIf, EndsInReply, GivesLast, HasTalked, HasLaunched, HasRetired};
 
-use crate::answer::{Launched, Reply, Talked};
+use crate::answer::Launched;
 use frame_codec::frame::{Issued, ServerFrame, ServiceFrame};
-use okws_base::items::{Exact, Items};
+use http_front::reply::Reply;
+use okws_base::items::Items;
 use okws_outer::stream::Link;
 use service_cell::answer::Spoken;
 use service_cell::columns::Columns;
 use site_cell::cell::SiteCell;
 use site_cell::named::Numbered;
-use std::alloc::{AllocError, Global};
+use std::alloc::AllocError;
 use std::sync::{Mutex, Wait};
 use turn_lock::{Seat, Turn};
 
-// A copy of a Reply.
-fn copy_reply(alloc: Global, frame: &ServiceFrame) -> Result<Reply, AllocError>
-    requires { IsReply frame.now }
-    ensures { IfOk result (λ r. reply_frame r ≡ frame.now) }
+// Fills the buffer with the parts of a Reply.
+fn fill_by(reply: &mut Reply, frame: &ServiceFrame)
+    requires { IsSpelledReply frame.now }
+    ensures { reply_frame reply.new ≡ frame.now }
 {
     match frame {
         ServiceFrame::Reply {
@@ -33,12 +34,12 @@ fn copy_reply(alloc: Global, frame: &ServiceFrame) -> Result<Reply, AllocError>
             content_type,
             location,
             content,
-        } => Ok(Reply {
-            status: *status,
-            content_type: content_type.copy(alloc)?,
-            location: location.copy(alloc)?,
-            content: content.copy(alloc)?,
-        }),
+        } => reply.fill(
+            *status,
+            content_type.as_slice(),
+            location.as_slice(),
+            content.as_slice(),
+        ),
         ServiceFrame::Open { .. }
         | ServiceFrame::Call { .. }
         | ServiceFrame::Get(_)
@@ -46,13 +47,10 @@ fn copy_reply(alloc: Global, frame: &ServiceFrame) -> Result<Reply, AllocError>
     }
 }
 
-// A copy of the Reply in which the last dialog ended.
-fn last_reply<N: Numbered, L: Link>(
-    alloc: Global,
-    cell: &SiteCell<N, L>,
-) -> Result<Reply, AllocError>
+// Fills the buffer with the Reply in which the last dialog ended.
+fn fill_last<N: Numbered, L: Link>(reply: &mut Reply, cell: &SiteCell<N, L>)
     requires { HasReplied cell.now.standing.past }
-    ensures { IfOk result (λ r. EndsInCopy r cell.now.standing.past) }
+    ensures { EndsInReply reply.new cell.now.standing.past }
 {
     let Some(dialog) = cell.last_dialog() else {
         unreachable!()
@@ -60,31 +58,23 @@ fn last_reply<N: Numbered, L: Link>(
     let Some(frame) = dialog.reply() else {
         unreachable!()
     };
-    copy_reply(alloc, frame)
+    fill_by(reply, frame);
 }
 
-// What a dialog answered, with a copy of the Reply in which it ended.
-fn with_copy<N: Numbered, L: Link>(alloc: Global, spoken: Spoken, cell: &SiteCell<N, L>) -> Talked
+// Fills the buffer where the service replied.
+fn fill_where<N: Numbered, L: Link>(reply: &mut Reply, spoken: Spoken, cell: &SiteCell<N, L>)
     requires { RepliedIf spoken cell.now.standing.past }
-    ensures spoken { spoken_of result ≡ spoken }
-    ensures gives { GivesLast result cell.now.standing.past }
+    ensures { GivesLast spoken reply.new cell.now.standing.past }
 {
-    match spoken {
-        Spoken::Reply => match last_reply(alloc, cell) {
-            Ok(reply) => Talked::Replied(reply),
-            Err(_) => Talked::Uncopied,
-        },
-        Spoken::Crashed(cause) => Talked::Crashed(cause),
-        Spoken::Missed { wanted, is } => Talked::Missed { wanted, is },
-        Spoken::Superseded { incarnation, shown } => Talked::Superseded { incarnation, shown },
-        Spoken::NoMemory => Talked::NoMemory,
+    if let Spoken::Reply = spoken {
+        fill_last(reply, cell);
     }
 }
 
-/// A whole dialog in one turn, behind the gate.
+/// A whole dialog in one turn, behind the gate. Where the service replied, the Reply is filled before the
+/// turn is given back.
 pub(crate) fn talk<R: Wait, N: Numbered, L: Link, C: Columns>(
     rt: &R,
-    alloc: Global,
     gate: &Mutex<bool>,
     lock: &Turn<SiteCell<N, L>>,
     seat: &mut Seat<SiteCell<N, L>>,
@@ -92,7 +82,8 @@ pub(crate) fn talk<R: Wait, N: Numbered, L: Link, C: Columns>(
     content: Items<u8>,
     wanted: u32,
     columns: &mut C,
-) -> Talked
+    reply: &mut Reply,
+) -> Spoken
     requires lock { seat.old.lock ≡ lock.now.id }
     requires free { seat.old.held ≡ false }
     requires worker { (C.asker columns.old).worker ≡ seat.old.number }
@@ -100,16 +91,17 @@ pub(crate) fn talk<R: Wait, N: Numbered, L: Link, C: Columns>(
     requires declared { seat.old.label < length (C.asker columns.old).config.services }
     requires short { length head + length content + 9 ≤ LONGEST_FRAME }
     ensures talked { HasTalked N.launcher (C.asker columns.old) (C.shows columns.new seat.old.label) head content wanted seat.old.label seat.old.seen (C.seen columns.old) result seat.new.seen (C.seen columns.new) }
+    ensures gives { GivesLast result reply.new seat.new.seen }
     ensures seat { seat.new ≡ record seat.old { seen = seat.new.seen } }
     ensures board { KeepsBoard C.asker C.shows C.token_seed C.spare columns.old columns.new }
 {
     let gate = gate.lock(rt);
     let mut cell = lock.take(rt, seat);
     let spoken = cell.dialog(head, content, wanted, columns);
-    let answer = with_copy(alloc, spoken, &cell);
+    fill_where(reply, spoken, &cell);
     lock.give(seat, cell);
     drop(gate);
-    answer
+    spoken
 }
 
 /// The incarnation that is there in a turn, 0 for none.

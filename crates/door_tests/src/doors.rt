@@ -5,10 +5,10 @@ ghost use Rattle.std.specs.Prelude.{IfOk, IsNone};
 
 use door_worker::answer::Answer;
 use door_worker::handler::{Handler, Outcome};
-use door_worker::reply::Reply;
 use door_worker::serving::{Serving, serve_one};
 use http_front::kept::Kept;
 use http_front::reading::Request;
+use http_front::reply::Reply;
 use monitor_model::record::End;
 use okws_base::items::Items;
 use okws_outer::door::{Door, Served};

@@ -16,7 +16,7 @@ use Rattle.http_front.specs.declared.kept.Kept.{Kept}
 use Rattle.http_front.specs.declared.reading.Incoming.{Incoming}
 use Rattle.http_front.specs.declared.reading.Incoming.TheVariants as incoming
 use Rattle.http_front.specs.declared.writing.Responded.TheVariants as responded
-use Rattle.door_worker.specs.Replies.{Replied}
+use Rattle.http_front.specs.Replies.{Replied}
 use Rattle.door_worker.specs.Asking.{Asked}
 use Rattle.door_worker.specs.Responses.{answer_response}
 use Rattle.door_worker.specs.Serving.{Course, Broken, IsRead, IsHandled, IsAnswered, IsWritten, due_response, due_answer, Attends, Finishes, Serves}

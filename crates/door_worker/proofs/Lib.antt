@@ -1,3 +1,2 @@
-pub mod Phrases
 pub mod Refusals
 pub mod Attending

@@ -1,4 +1,3 @@
-pub mod Replies
 pub mod Asking
 pub mod Responses
 pub mod Serving

@@ -6,7 +6,7 @@ use Rattle.monitor_model.specs.declared.record.End.{End}
 use Rattle.monitor_model.specs.declared.record.End.TheVariants as end
 use Rattle.monitor_model.specs.declared.record.Item.TheVariants.{Said}
 use Rattle.monitor_model.specs.Answering.{end_response}
-use Rattle.door_worker.specs.Replies.{Replied}
+use Rattle.http_front.specs.Replies.{Replied}
 use Rattle.door_worker.specs.declared.handler.Outcome.{Outcome}
 use Rattle.door_worker.specs.declared.handler.Outcome.TheVariants as outcome
 use Rattle.door_worker.specs.declared.answer.Answer.{Answer}

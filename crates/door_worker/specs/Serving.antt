@@ -11,7 +11,7 @@ use Rattle.http_front.specs.Kept.{method_text}
 use Rattle.http_front.specs.Writing.{Responds}
 use Rattle.http_front.specs.declared.kept.Kept.{Kept}
 use Rattle.http_front.specs.declared.writing.Responded.TheVariants as responded
-use Rattle.door_worker.specs.Replies.{Replied}
+use Rattle.http_front.specs.Replies.{Replied}
 use Rattle.door_worker.specs.Asking.{Asked}
 use Rattle.door_worker.specs.Responses.{outcome_response, answer_response, answer_of}
 use Rattle.door_worker.specs.declared.handler.Outcome.{Outcome}

@@ -4,13 +4,13 @@ ghost use Rattle.std.specs.Prelude.{◌≡◌, ◌++◌, ◌∷◌, [], ℕ, Lis
 ghost use Rattle.http_text.specs.Status.{status_text};
 ghost use Rattle.http_front.specs.Writing.{Responds};
 ghost use Rattle.http_front.specs.Kept.{method_text};
-ghost use Rattle.door_worker.specs.Replies.{Replied};
+ghost use Rattle.http_front.specs.Replies.{Replied};
 ghost use Rattle.door_worker.specs.Responses.{is_own, IsLawful, outcome_response, answer_of, answer_response};
 
 use crate::handler::Outcome;
-use crate::reply::Reply;
 use http::StatusCode;
 use http_front::kept::Kept;
+use http_front::reply::Reply;
 use http_front::writing::{Responded, respond};
 use monitor_model::record::End;
 use okws_outer::conn::Conn;

@@ -3,11 +3,11 @@
 ghost use Rattle.std.specs.Prelude.{◌≡◌, OnOk};
 ghost use Rattle.http_front.specs.Requests.{HasTarget};
 ghost use Rattle.door_worker.specs.declared.handler.Outcome.{Outcome};
-ghost use Rattle.door_worker.specs.Replies.{Replied};
+ghost use Rattle.http_front.specs.Replies.{Replied};
 ghost use Rattle.door_worker.specs.Asking.{Asked, asked_by};
 
-use crate::reply::Reply;
 use http_front::reading::Request;
+use http_front::reply::Reply;
 use monitor_model::record::End;
 use std::alloc::AllocError;
 

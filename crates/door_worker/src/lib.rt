@@ -5,5 +5,4 @@
 
 pub mod answer;
 pub mod handler;
-pub mod reply;
 pub mod serving;

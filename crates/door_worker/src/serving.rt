@@ -6,10 +6,10 @@ ghost use Rattle.door_worker.specs.Serving.{Attends, Serves, IsAnswered};
 
 use crate::answer::{Answer, answer_to, write_answer};
 use crate::handler::Handler;
-use crate::reply::Reply;
 use http::StatusCode;
 use http_front::kept::Kept;
 use http_front::reading::{Incoming, Request, read_request};
+use http_front::reply::Reply;
 use http_front::writing::Responded;
 use okws_outer::conn::Conn;
 use okws_outer::door::Door;

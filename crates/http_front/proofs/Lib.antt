@@ -7,3 +7,4 @@ pub mod Steps
 pub mod Open
 pub mod Long
 pub mod Agreeing
+pub mod Phrases

@@ -6,3 +6,4 @@ pub mod Pulling
 pub mod Requests
 pub mod Agreement
 pub mod Writing
+pub mod Replies

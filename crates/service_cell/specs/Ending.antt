@@ -1,5 +1,6 @@
 -- How a dialog that ended stands in memory, and the last one beside its cell's journal.
 use Rattle.std.specs.Prelude.{◌≡◌, ◌≤◌, ◌<◌, ℕ, List, [], ◌∷◌, Option, Some, None}
+use Rattle.frame_codec.specs.Spelling.{ServiceHasSpelling}
 use Rattle.frame_codec.specs.declared.frame.ServiceFrame.{ServiceFrame}
 use Rattle.frame_codec.specs.declared.frame.ServiceFrame.TheVariants as said
 use Rattle.monitor_model.specs.declared.record.Item.{Item}
@@ -18,11 +19,15 @@ IsReply (said.Call p n q args) = ⊥
 IsReply (said.Get name) = ⊥
 IsReply (said.Log text) = ⊥
 
--- The last item is a Reply.
+-- The frame is a Reply, and has a spelling: its fields are those that a service may say.
+abbrev pub IsSpelledReply : ServiceFrame → Type 0
+IsSpelledReply frame = IsReply frame × ServiceHasSpelling frame
+
+-- The last item is a Reply, and has a spelling.
 abbrev pub EndsInReply : List Item → Type 0
 EndsInReply [] = ⊥
 EndsInReply (Heard frame ∷ items) = ⊥
-EndsInReply (Said frame ∷ items) = IsReply frame
+EndsInReply (Said frame ∷ items) = IsSpelledReply frame
 
 -- A dialog that ended so has no Reply.
 abbrev pub HasNoReply : End → Type 0
@@ -42,11 +47,11 @@ with_reply (Some reply) items = Said reply ∷ items
 -- A dialog that ended so has its Reply beside its items, and a place for it; or has none.
 abbrev pub FitsEnd : Option ServiceFrame → ℕ → End → Type 0
 FitsEnd None room how = HasNoReply how
-FitsEnd (Some reply) room how = IsReply reply × (0 < room) × (how ≡ end.Reply)
+FitsEnd (Some reply) room how = IsSpelledReply reply × (0 < room) × (how ≡ end.Reply)
 
--- The dialog ended in this Reply.
+-- The dialog ended in this Reply, as it was read.
 abbrev pub EndsIn : ServiceFrame → Dialog → Type 0
-EndsIn reply d = IsReply reply × (d.end ≡ end.Reply) × (before : List Item) × (d.items ≡ Said reply ∷ before)
+EndsIn reply d = IsSpelledReply reply × (d.end ≡ end.Reply) × (before : List Item) × (d.items ≡ Said reply ∷ before)
 
 -- The events, with the last dialog, if it isn't among them yet, as the last.
 abbrev pub with_last : Option Dialog → List CellEvent → List CellEvent

@@ -4,7 +4,7 @@
 ghost use Rattle.std.specs.Prelude.{◌≡◌, ◌≤◌, ◌<◌, ◌+◌, ◌++◌, [], ◌∷◌, List, length, reverse, OnOk};
 ghost use Rattle.monitor_model.specs.declared.record.Item.{Item};
 ghost use Rattle.monitor_model.specs.declared.record.Item.TheVariants.{Said};
-ghost use Rattle.service_cell.specs.Ending.{IsReply, EndsInReply};
+ghost use Rattle.service_cell.specs.Ending.{IsSpelledReply, EndsInReply};
 
 use frame_codec::frame::ServiceFrame;
 use monitor_model::record::Item;
@@ -113,7 +113,7 @@ impl Course {
     pub(crate) fn into_reply(self) -> (ServiceFrame, Journal<Item>)
         requires { EndsInReply self.newest }
         ensures past { self.past ≡ Said result.0 ∷ result.1.past }
-        ensures reply { IsReply result.0 }
+        ensures reply { IsSpelledReply result.0 }
         ensures room { 0 < result.1.room }
     {
         let Course {

@@ -5,7 +5,7 @@ ghost use Rattle.std.specs.Prelude.{◌≡◌, ◌≤◌, ◌<◌, ◌+◌, [], 
 ghost use Rattle.monitor_model.specs.declared.record.CellEvent.TheVariants as cell;
 ghost use Rattle.monitor_model.specs.declared.record.End.TheVariants as end;
 ghost use Rattle.monitor_model.specs.declared.record.Item.TheVariants.{Said};
-ghost use Rattle.service_cell.specs.Ending.{with_last, places, IsOther, IsLast, EndsOtherwise, IsReply, HasNoReply, EndsIn};
+ghost use Rattle.service_cell.specs.Ending.{with_last, places, IsOther, IsLast, EndsOtherwise, IsSpelledReply, HasNoReply, EndsIn};
 
 use frame_codec::frame::ServiceFrame;
 use monitor_model::record::{CellEvent, Dialog, End, Item};
@@ -50,7 +50,7 @@ impl Finished {
 
     /// The dialog of a worker that ended in a Reply, for which its journal has room.
     pub(crate) fn replied(worker: u16, items: Journal<Item>, reply: ServiceFrame) -> Self
-        requires reply { IsReply reply }
+        requires reply { IsSpelledReply reply }
         requires room { 0 < items.room }
         ensures { result ≡ record { worker = worker; items = Said reply ∷ items.past; end = end.Reply } }
     {

@@ -2,7 +2,7 @@
 
 ghost use Rattle.std.specs.Prelude.{◌≡◌, ◌≤◌, ◌<◌, ℕ, ◌+◌, [], true, length, take, IsTrue, OnOk};
 ghost use Rattle.okws_base.specs.Runs.{Each};
-ghost use Rattle.frame_codec.specs.Spelling.{server_spelling, HasSpelling};
+ghost use Rattle.frame_codec.specs.Spelling.{server_spelling, HasSpelling, ServiceHasSpelling};
 ghost use Rattle.monitor_model.specs.Course.{Answers, opening, said_count};
 ghost use Rattle.service_cell.specs.Asking.{Asker, KeepsBoard, IsNextBy, IsShortPush};
 ghost use Rattle.service_cell.specs.Ending.{EndsInReply};
@@ -234,6 +234,7 @@ fn exchange_frame<L: Link, C: Columns>(
     who: Who,
     said: ServiceFrame,
 ) -> Exchanged
+    requires spelling { ServiceHasSpelling said }
     requires declared { who.service < length (C.asker columns.old).config.services }
     requires counted { frames ≡ said_count items.old.past }
     requires most { frames ≤ MOST_FRAMES }

@@ -4,6 +4,7 @@ use Rattle.monitor_model.specs.declared.record.CellEvent.{CellEvent}
 use Rattle.service_cell.specs.Dialogs.{Dialogs}
 use Rattle.site_cell.specs.Held.{by_event}
 use Rattle.turn_lock.specs.Seats.{SeatIs}
+use Rattle.cell_locks.specs.Turns.{GivesLast}
 use Rattle.cell_locks.proofs.Stays.{given}
 use Rattle.cell_locks.proofs.turns.talk.Goals as goal
 
@@ -27,7 +28,10 @@ returns-clause-talked g c =
         service_is = c.take-cell.ensures.label;
         grows = subst (λ (m : ℕ). GrowsBy (by_event g.N.Numbered.launcher) m c.args.seat.now.seen before.past) (sym c.requires.worker) c.take-cell.ensures.grows;
       };
-      talks = subst (λ a. Dialogs who (shows c.args.seat.now.label) c.args.head c.args.content c.args.wanted before seen a after now) (sym c.with_copy-answer.ensures.spoken) here;
-      gives = c.with_copy-answer.ensures.gives;
+      talks = here;
       seen_is = ap (λ (a : SeatIs CellEvent). a.seen) c.give.ensures.seat;
     }
+
+pub returns-clause-gives : goal.returns-clause-gives
+returns-clause-gives g c =
+    subst (GivesLast c.dialog-spoken.result c.fill_where.new.reply) (sym (ap (λ (a : SeatIs CellEvent). a.seen) c.give.ensures.seat)) c.fill_where.ensures

@@ -4,6 +4,9 @@ use Rattle.service_cell.proofs.Exchanging.{exchanged}
 use Rattle.service_cell.proofs.exchange.exchange.Goals.{then-is_err-via-then-is_err, then-is_err-via-else-is_err+then-is_err-2}
 use Rattle.service_cell.proofs.exchange.exchange.Goals as goal
 
+pub exchange_frame-requires-clause-spelling : goal.exchange_frame-requires-clause-spelling
+exchange_frame-requires-clause-spelling g c = let spells = c.in-Frame.ensures.next.1 in (spells.fits, spells.lawful)
+
 pub returns-in-Frame-clause-exchanged : goal.returns-in-Frame-clause-exchanged
 returns-in-Frame-clause-exchanged g c =
     let n = c.in-Frame.ensures in

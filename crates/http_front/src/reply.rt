@@ -3,7 +3,7 @@
 ghost use Rattle.std.specs.Prelude.{◌≡◌, ◌≤◌, IsSome, IfOk, length, vec_capacity};
 ghost use Rattle.okws_base.specs.declared.limit.TheConstants.{LONGEST_FRAME};
 ghost use Rattle.http_text.specs.Status.{phrase};
-ghost use Rattle.door_worker.specs.Replies.{no_reply};
+ghost use Rattle.http_front.specs.Replies.{no_reply};
 
 use http::StatusCode;
 use okws_base::limit::LONGEST_FRAME;
@@ -27,7 +27,7 @@ impl Model for Reply {
     ghost use Rattle.std.specs.Prelude.{◌≤◌, IsSome, vec_capacity};
     ghost use Rattle.okws_base.specs.declared.limit.TheConstants.{LONGEST_FRAME};
     ghost use Rattle.http_text.specs.Status.{phrase};
-    ghost use Rattle.door_worker.specs.Replies.{Replied, IsRoomy};
+    ghost use Rattle.http_front.specs.Replies.{Replied, IsRoomy};
 
     ghost Value = { Replied };
 

@@ -109,11 +109,12 @@ impl<K: Keeper> Proxy<K> {
     }
 
     /// What was entered, where each entry fits the entries before it, and the keeper, which is as the
-    /// column showed it.
+    /// column showed it: where it tells its rows, they are those of what was entered.
     pub fn close(self) -> (Past<Entry<ProxyEvent>>, K)
         ensures past { result.0 ≡ self.past }
         ensures law { ProxyLaw self.config self.seed self.number result.0 }
         ensures told { K.told result.1 ≡ self.told }
+        ensures rows { IfSome (K.told result.1) (λ T. T ≡ rows self.config self.number result.0) }
         ensures faults { K.faults result.1 ≡ self.faults }
         ensures steady { K.steady result.1 ≡ self.steady }
         ensures tables { K.tables result.1 ≡ tables self.config self.number }

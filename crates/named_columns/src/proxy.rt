@@ -171,14 +171,17 @@ impl<N: Backed, K: Keeper> SiteProxy<N, K> {
     }
 
     /// What was entered, where each entry fits the entries before it and what was launched names the
-    /// launcher's number, and the keeper, which is as the column showed it. At most as many Calls are
-    /// marked Fault as the keeper's count rose in the run, and none where none of its calls fails.
+    /// launcher's number, and the keeper, which is as the column showed it: its rows, where it tells them,
+    /// are those of what was entered. At most as many Calls are marked Fault as the keeper's count rose in
+    /// the run, and none where none of its calls fails.
     pub fn close(self) -> (Past<Entry<ProxyEvent>>, K)
         ensures past { result.0 ≡ self.past }
         ensures law { ProxyLaw N.site N.run_seed self.number result.0 }
         ensures launched { LaunchedBy proxy_grant N.launcher result.0 }
         ensures declared { self.number < length N.site.proxies }
         ensures told { K.told result.1 ≡ self.told }
+        ensures tells { N.tells ≡ true → is_some (K.told result.1) ≡ true }
+        ensures rows { IfSome (K.told result.1) (λ T. T ≡ rows N.site self.number result.0) }
         ensures faults { K.faults result.1 ≡ self.faults }
         ensures steady { K.steady result.1 ≡ self.steady }
         ensures tables { K.tables result.1 ≡ tables N.site self.number }

@@ -3,3 +3,5 @@ pub mod Slots
 pub mod Recording
 pub mod Places
 pub mod Emptying
+pub mod Children
+pub mod Starting

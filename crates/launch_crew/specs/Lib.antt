@@ -1,4 +1,5 @@
 pub mod Recorded
 pub mod Pasts
 pub mod Crews
+pub mod Told
 pub mod Steps

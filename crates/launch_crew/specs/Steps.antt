@@ -1,24 +1,23 @@
 -- What each step of a launch of service s makes of the crew.
-use Rattle.std.specs.Prelude.{◌≡◌, ◌≢◌, ◌⊎◌, ◌<◌, ◌≤◌, ℕ, false, true, List, [], ◌∷◌, Option, Some, None, length, slice_index, slice_set, ◌+◌, ◌++◌, ◌==◌, if◌then◌else◌}
+use Rattle.std.specs.Prelude.{◌≡◌, ◌≢◌, ◌<◌, ◌≤◌, ℕ, false, true, List, Option, Some, None, length, slice_set, ◌+◌}
 use Rattle.okws_base.specs.Past.{standing_by}
 use Rattle.okws_base.specs.declared.journal.Entry.{Entry}
 use Rattle.okws_plan.specs.Configuration.{grants_at}
 use Rattle.okws_plan.specs.declared.configuration.Config.{Config}
 use Rattle.okws_plan.specs.declared.event.ProxyEvent.{ProxyEvent}
 use Rattle.okws_plan.specs.declared.script.Place.{Place}
-use Rattle.okws_outer.specs.Families.{Family}
 use Rattle.okws_outer.specs.Lives.{Life, Asks, new_life}
 use Rattle.okws_outer.specs.declared.child.Ended.{Ended}
-use Rattle.okws_outer.specs.Streams.{Rose}
-use Rattle.okws_outer.specs.declared.children.ChildEnd.{ChildEnd}
+use Rattle.okws_outer.specs.Wire.{Wire}
 use Rattle.monitor_model.specs.Cell.{incarnation, last_booted}
 use Rattle.monitor_model.specs.Seen.{proxy_past}
 use Rattle.monitor_model.specs.Standing.{proxy_grant, pubd_grant, log_grant}
 use Rattle.cell_locks.specs.Row.{seen_at, OnlyAt}
 use Rattle.site_locks.specs.Sat.{Sat}
 use Rattle.site_locks.specs.Turns.{Stays}
-use Rattle.launch_crew.specs.Crews.{CrewIs, StaffIs, running_at, up_of, stands_at, lasts_at, NoneStands}
+use Rattle.launch_crew.specs.Crews.{CrewIs, StaffIs, child_of, running_at, up_of, stands_at, lasts_at, NoneStands}
 use Rattle.launch_crew.specs.Pasts.{Revoked, Installed, Grown}
+use Rattle.launch_crew.specs.Told.{TellsMore, with_end_of}
 
 -- Of the columns, a number has seen more of okd alone.
 pub record OnlyOkd (s t : Sat) : Type 0 where
@@ -148,31 +147,23 @@ pub record Installs (s k : ℕ) (a b : Sat) : Type 0 where
   pub most : (at : Place) (j : ℕ) → k ≤ j → lasts_at a at s ≤ j → lasts_at b at s ≤ j
   pub others : (t : ℕ) (at : Place) → t ≢ s → stands_at b at t ≡ stands_at a at t
 
--- The child of s was finished, and its cell was retired where it had an incarnation.
+-- The child of s was finished, where it runs and there was a link for it, and its cell was retired where it had an incarnation.
 pub record Empties (s : ℕ) (c d : CrewIs) : Type 0 where
   pub sat_is : d.sat ≡ c.sat
   pub only : OnlyAt s c.watch d.watch
   pub running_is : d.running ≡ slice_set c.running s None
-  pub faults : d.family.faults ≡ c.family.faults
+  pub link : Option Wire
+  pub family_is : d.family ≡ with_end_of (child_of c s) link c.family
   pub none : incarnation (seen_at d.watch s) ≡ 0
   pub last : last_booted (seen_at d.watch s) ≡ last_booted (seen_at c.watch s)
   pub room : c.room ≤ d.room + 1
-
--- The last child that was finished was incarnation k of s, and a call of its link had failed.
-abbrev pub IsFaulty : ℕ → ℕ → List ChildEnd → Type 0
-IsFaulty s k [] = ⊥
-IsFaulty s k (e ∷ es) = (e.service ≡ s) × (e.incarnation ≡ k) × (0 < e.faults)
-
--- A start failed and was counted, or the child of incarnation k of s was finished last, of whose link a call had failed.
-abbrev pub FailsBy : ℕ → ℕ → Family → Family → Type 0
-FailsBy s k f g = Rose f.faults g.faults ⊎ IsFaulty s k g.finished
 
 -- A child of s may have been started, and its cell may have been booted as incarnation k.
 pub record Tries (s k : ℕ) (c d : CrewIs) : Type 0 where
   pub sat_is : d.sat ≡ c.sat
   pub only : OnlyAt s c.watch d.watch
   pub most : (j : ℕ) → k ≤ j → last_booted (seen_at c.watch s) ≤ j → last_booted (seen_at d.watch s) ≤ j
-  pub faults : c.family.faults ≤ d.family.faults
+  pub told : TellsMore c.family d.family
   pub room : c.room ≤ d.room + 1
 
 -- The child of s was started and its cell was booted as incarnation k.

@@ -1,15 +1,17 @@
 //! The launcher's crew: its seats and its children.
 
-ghost use Rattle.std.specs.Prelude.{◌≡◌, ◌<◌, ◌≤◌, ℕ, OnErr, OnOk, IfOk, IfErr, IsErrOf, length};
+ghost use Rattle.std.specs.Prelude.{◌≡◌, ◌<◌, ◌≤◌, ℕ, List, OnErr, OnOk, IfOk, IfErr, IsErrOf, length};
 ghost use Rattle.okws_base.specs.declared.limit.TheConstants.{MOST_PROXIES, MOST_SERVICES};
 ghost use Rattle.okws_outer.specs.Families.{IsNewLink};
 ghost use Rattle.okws_outer.specs.Lives.{new_life};
+ghost use Rattle.okws_outer.specs.declared.children.ChildEnd.{ChildEnd};
 ghost use Rattle.monitor_model.specs.Cell.{incarnation as incarnation_of, last_booted, boot_frame};
 ghost use Rattle.cell_locks.specs.Row.{IsNew, seen_at};
 ghost use Rattle.site_locks.specs.Made.{fresh};
 ghost use Rattle.launch_crew.specs.Crews.{Below, crew_of};
 ghost use Rattle.launch_crew.specs.Recorded.{AreOwn, IsUnused};
-ghost use Rattle.launch_crew.specs.Steps.{Empties, Starts, Misses, FailsBy, IsFaulty};
+ghost use Rattle.launch_crew.specs.Steps.{Empties, Starts, Misses};
+ghost use Rattle.launch_crew.specs.Told.{FailsBy, Finishes, FinishesFaulty};
 
 use crate::answer::Missed;
 use crate::recorder::Recorder;
@@ -125,7 +127,7 @@ impl<N: Backed, J: Site, C: CellNames, K: Keeper, S: Sink, F: Children> Crew<N, 
         requires room { 0 < self.old.recorder.room }
         ensures ok { OnOk result (Starts service incarnation (crew_of self.old.recorder self.old.staff) (crew_of self.new.recorder self.new.staff)) }
         ensures err { OnErr result (Misses service incarnation (crew_of self.old.recorder self.old.staff) (crew_of self.new.recorder self.new.staff)) }
-        ensures cause { IsErrOf result Missed.Failed → IsFaulty service incarnation self.new.staff.family.finished }
+        ensures cause { IsErrOf result Missed.Failed → FinishesFaulty service incarnation self.old.staff.family self.new.staff.family }
     {
         let Started { child, link } = started;
         match self
@@ -180,7 +182,7 @@ impl<N: Backed, J: Site, C: CellNames, K: Keeper, S: Sink, F: Children> Crew<N, 
         ensures cells { (s : ℕ) → s < length N.site.services → incarnation_of (seen_at result.cells s) ≡ 0 }
         ensures below { (s k : ℕ) → Below s k self.recorder.sat self.recorder.watch → Below s k result.seats result.cells }
         ensures own { AreOwn N.launcher result.seats result.cells result.own }
-        ensures faults { (F.family result.children).faults ≡ self.staff.family.faults }
+        ensures children { (ends : List ChildEnd) × Finishes ends self.staff.family (F.family result.children) }
     {
         let mut crew = self;
         for service in 0..crew.recorder.services() {

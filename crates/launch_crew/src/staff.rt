@@ -1,11 +1,12 @@
 //! The children that the launcher has started.
 
-ghost use Rattle.std.specs.Prelude.{◌≡◌, ◌<◌, ◌≤◌, None, Some, IfOk, IfErr, IsErrOf, length, replicate, slice_set};
-ghost use Rattle.okws_outer.specs.Families.{IsNewLink, with_end};
+ghost use Rattle.std.specs.Prelude.{◌≡◌, ◌<◌, ◌≤◌, None, Some, IfOk, IfErr, OnErr, IsErrOf, length, option_map, replicate, slice_set};
+ghost use Rattle.okws_outer.specs.Families.{IsNewLink, with_start, with_end};
 ghost use Rattle.okws_outer.specs.Lives.{new_life};
 ghost use Rattle.okws_outer.specs.Streams.{Rose};
 ghost use Rattle.launch_crew.specs.Crews.{running_at};
 ghost use Rattle.launch_crew.specs.Steps.{AsksChild};
+ghost use Rattle.launch_crew.specs.Told.{with_end_of};
 
 use crate::answer::Missed;
 use okws_base::items::Items;
@@ -119,7 +120,7 @@ impl<N: Numbered, F: Children> Staff<N, F> {
     pub fn release(&mut self, service: u16, link: Option<F::Link>)
         requires { service < length N.site.services }
         ensures running { self.new.running ≡ slice_set self.old.running service None }
-        ensures faults { self.new.family.faults ≡ self.old.family.faults }
+        ensures family { self.new.family ≡ with_end_of (running_at self.old.running service) (option_map F.Link.wire link) self.old.family }
     {
         let running = self.running[service as usize].take();
         match (running, link) {
@@ -138,6 +139,8 @@ impl<N: Numbered, F: Children> Staff<N, F> {
         words: &[Items<u8>],
     ) -> Result<Started<F::Child, F::Link>, Missed>
         ensures running { self.new.running ≡ self.old.running }
+        ensures started { IfOk result (λ s. self.new.family ≡ with_start service incarnation words.now (F.Link.wire s.link) self.old.family) }
+        ensures refused { OnErr result (self.new.family ≡ record self.old.family { faults = self.new.family.faults }) }
         ensures faults { self.old.family.faults ≤ self.new.family.faults }
         ensures child { IfOk result (λ s. F.Child.life s.child ≡ new_life service incarnation) }
         ensures link { IfOk result (λ s. IsNewLink (F.Link.wire s.link)) }

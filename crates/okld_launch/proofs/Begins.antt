@@ -24,7 +24,7 @@ use Rattle.launch_journal.specs.Launches.{Launches, entered}
 use Rattle.site_locks.specs.Made.{fresh}
 use Rattle.site_locks.specs.Sat.{Sat}
 use Rattle.launch_crew.specs.Crews.{CrewIs, StaffIs, Below, Under, IsUp, RunsAs, child_of, crew_of, lasts_at, running_at, stands_at, up_of}
-use Rattle.okld_launch.specs.Launchers.{LauncherIs, up_in, TriedAreBegun, IsKept, IsLauncher, IsPlaced}
+use Rattle.okld_launch.specs.Launchers.{LauncherIs, up_in, TriedAreBegun, IsKept, IsLauncher}
 use Rattle.launch_crew.specs.Recorded.{Recorded, IsUnused}
 use Rattle.launch_crew.specs.Steps.{AsksLife}
 use Rattle.launch_crew.proofs.Slots.{set_there}
@@ -112,10 +112,6 @@ enters C l journal e h = record {
 -- a launcher of these parts, as contracts see it
 abbrev pub launcher_of : Launches → Recorded → StaffIs → List ℕ → LauncherIs
 launcher_of j r t us = record { journal = j; crew = crew_of r t; ups = us }
-
--- the launcher stays that of its run
-pub placed : (C : Config) (run_seed : List ℕ) (l m : LauncherIs) (site : Config) (seed : List ℕ) → IsPlaced C run_seed l site seed → IsLauncher C m → IsPlaced C run_seed m site seed
-placed C run_seed l m site seed h k = record { site_is = h.site_is; seed_is = h.seed_is; few = h.few; keeps = k }
 
 pub begun_kept : (C : Config) (s k : ℕ) (l m : LauncherIs) → m ≡ after_begun s k l → k ≡ begun l.journal.past s + 1 → slice_index m.crew.sat.board s ≡ k → IsLauncher C l → IsLauncher C m
 begun_kept C s k l m is next shown h = subst (IsLauncher C) (sym is) (begins C s k l next (sym (ap (λ (x : LauncherIs). slice_index x.crew.sat.board s) is) ∙ shown) h)

@@ -8,3 +8,4 @@ pub mod Counting
 pub mod Opening
 pub mod Told
 pub mod Adds
+pub mod Failing

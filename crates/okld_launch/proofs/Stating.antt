@@ -9,8 +9,9 @@ use Rattle.monitor_model.specs.Launcher.{begun}
 use Rattle.launch_journal.specs.Launches.{Launches, Allows, entered}
 use Rattle.launch_journal.specs.declared.next.Next.TheVariants as next
 use Rattle.launch_crew.specs.Crews.{Under}
+use Rattle.launch_crew.specs.Told.{TellsMore}
 use Rattle.okld_launch.specs.Launchers.{LauncherIs}
-use Rattle.okld_launch.specs.States.{LaunchIs, IsBegun, IsStill}
+use Rattle.okld_launch.specs.States.{LaunchIs, IsBegun, IsStill, GoesOn}
 use Rattle.okld_launch.proofs.Begins.{begun_here}
 
 -- the launch of s as incarnation k
@@ -47,3 +48,7 @@ still C s k m l within allows is journal entries items room under = record {
   };
   under = under;
 }
+
+-- nothing more was entered, and no less is told of the children
+pub goes_on : (l l' : LauncherIs) (s k : ℕ) → l'.journal ≡ l.journal → TellsMore l.crew.family l'.crew.family → GoesOn (launch_of l s k) (launch_of l' s k)
+goes_on l l' s k journal told = record { service_is = refl; incarnation_is = refl; journal_is = journal; told = told }

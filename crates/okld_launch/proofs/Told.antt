@@ -6,13 +6,15 @@ use Rattle.okws_plan.specs.declared.configuration.Config.{Config}
 use Rattle.okws_plan.specs.declared.event.LauncherEvent.{LauncherEvent}
 use Rattle.okws_plan.specs.declared.event.LauncherEvent.TheVariants as event
 use Rattle.okws_outer.specs.Families.{Family}
+use Rattle.okws_outer.specs.declared.child.Ended.TheVariants.{Yes}
 use Rattle.monitor_model.specs.Launcher.{begun, tries}
-use Rattle.launch_journal.specs.Launches.{Allows}
+use Rattle.launch_journal.specs.Launches.{Launches, Allows, entered}
 use Rattle.launch_journal.specs.declared.next.Next.TheVariants as next
-use Rattle.okld_launch.specs.Going.{with_entry, with_begun, with_failed, Closes, Attempts, Fell, Ends, Goes, GoesCrashed, Tends, GoesTended, HasEnded, crashed_as, tended_as}
+use Rattle.okld_launch.specs.Going.{with_entry, with_begun, with_failed, Closes, Attempts, Fell, Ends, Goes, GoesCrashed, Tends, GoesTended, AsksUp, HasEnded, crashed_as, tended_as}
 use Rattle.okld_launch.specs.Launchers.{LauncherIs, IsOut, up_in}
-use Rattle.okld_launch.specs.States.{LaunchIs}
-use Rattle.launch_crew.specs.Steps.{FailsBy}
+use Rattle.okld_launch.specs.States.{LaunchIs, GoesOn}
+use Rattle.launch_crew.specs.Told.{FailsBy}
+use Rattle.launch_crew.proofs.Children.{fails_on}
 use Rattle.okld_launch.specs.declared.answer.Attempt.{Attempt}
 use Rattle.okld_launch.specs.declared.answer.Attempt.TheVariants as attempt
 use Rattle.okld_launch.specs.declared.answer.Launched.{Launched}
@@ -34,6 +36,21 @@ attempts_of C w s J f a attempt.Failed l here next past family h = (
   subst (λ t. up_in l t ≡ 0) here h.2,
 )
 attempts_of C w s J f a attempt.NoMemory l here next past family h = inr (h.0 ∙ past, subst (λ t. IsOut C t l) here h.1)
+
+-- ---- the rest of an attempt
+
+closes_held : (C : Config) (w : ℕ) (a b : LaunchIs) (answer : Attempt) (l : LauncherIs) → GoesOn a b → Closes C w b answer l → Closes C w a answer l
+closes_held C w a b (attempt.Up k) l on h = (h.0 ∙ on.incarnation_is, h.1 ∙ ap (λ (j : Launches). j.past) on.journal_is, subst (λ t. up_in l t ≡ k) on.service_is h.2)
+closes_held C w a b attempt.Failed l on h = (
+  h.0 ∙ (λ i. with_entry w (event.Failed (on.service_is i) (on.incarnation_is i)) ((on.journal_is i).past)),
+  subst (λ (x : ℕ × ℕ). FailsBy x.0 x.1 a.launcher.crew.family l.crew.family) (λ i. (on.service_is i, on.incarnation_is i))
+      (fails_on b.service b.incarnation a.launcher.crew.family b.launcher.crew.family l.crew.family on.told h.1),
+  subst (λ t. up_in l t ≡ 0) on.service_is h.2,
+)
+closes_held C w a b attempt.NoMemory l on h = (h.0 ∙ ap (λ (j : Launches). j.past) on.journal_is, subst (λ t. IsOut C t l) on.service_is h.1)
+
+pub closes_on : (C : Config) (a b : LaunchIs) (answer : Attempt) (l : LauncherIs) → GoesOn a b → Closes C b.launcher.journal.holder b answer l → Closes C a.launcher.journal.holder a answer l
+closes_on C a b answer l on h = closes_held C a.launcher.journal.holder a b answer l on (subst (λ (w : ℕ). Closes C w b answer l) (ap (λ (j : Launches). j.holder) on.journal_is) h)
 
 -- ---- attempts, one after the other
 
@@ -83,3 +100,22 @@ tended_of C w s old (launched.Up k) new h = h
 tended_of C w s old (launched.Dead n) new h = inr h
 tended_of C w s old launched.Spent new h = h
 tended_of C w s old launched.NoMemory new h = inr h
+
+-- the child of s, incarnation k, had ended: room was made, its crash entered, and it was launched
+pub tends_crashed : (C : Config) (s k : ℕ) (old asked roomy opened : LauncherIs) (answer : Launched) (new : LauncherIs)
+    → k ≡ up_in old s → 0 < k → AsksUp s old Yes asked
+    → asked ≡ record old { crew = record old.crew { running = asked.crew.running } }
+    → roomy ≡ record asked { journal = record asked.journal { room = roomy.journal.room } }
+    → opened ≡ record roomy { journal = entered roomy.journal (event.Crashed s k) }
+    → Goes C opened.journal.holder s opened.journal.past opened.crew.family answer new → Tends C old.journal.holder s old answer new
+tends_crashed C s k old asked roomy opened answer new is positive asks same rooms opens goes =
+    let number : roomy.journal.holder ≡ old.journal.holder = ap (λ (l : LauncherIs). l.journal.holder) rooms ∙ ap (λ (l : LauncherIs). l.journal.holder) same in
+    let before : roomy.journal.past ≡ old.journal.past = ap (λ (l : LauncherIs). l.journal.past) rooms ∙ ap (λ (l : LauncherIs). l.journal.past) same in
+    let family : opened.crew.family ≡ old.crew.family = ap (λ (l : LauncherIs). l.crew.family) opens ∙ (ap (λ (l : LauncherIs). l.crew.family) rooms ∙ ap (λ (l : LauncherIs). l.crew.family) same) in
+    let holder : opened.journal.holder ≡ old.journal.holder = ap (λ (l : LauncherIs). l.journal.holder) opens ∙ number in
+    let past : opened.journal.past ≡ with_entry old.journal.holder (event.Crashed s (up_in old s)) old.journal.past =
+    ap (λ (l : LauncherIs). l.journal.past) opens ∙ λ i. with_entry (number i) (event.Crashed s (is i)) (before i) in
+    inr (
+      record { up = subst (λ (n : ℕ). 0 < n) is positive; mid = asked; asked = asks },
+      subst (λ (x : ℕ × List (Entry LauncherEvent) × Family). Goes C x.0 s x.1 x.2 answer new) (λ i. (holder i, past i, family i)) goes,
+    )

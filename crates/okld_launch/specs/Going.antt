@@ -13,9 +13,9 @@ use Rattle.monitor_model.specs.Launcher.{begun, tries}
 use Rattle.launch_journal.specs.Launches.{Allows}
 use Rattle.launch_journal.specs.declared.next.Next.TheVariants as next
 use Rattle.launch_crew.specs.Crews.{child_of}
+use Rattle.launch_crew.specs.Told.{FailsBy}
 use Rattle.okld_launch.specs.Launchers.{LauncherIs, IsOut, up_in}
 use Rattle.okld_launch.specs.States.{LaunchIs}
-use Rattle.launch_crew.specs.Steps.{FailsBy}
 use Rattle.okld_launch.specs.declared.answer.Attempt.{Attempt}
 use Rattle.okld_launch.specs.declared.answer.Attempt.TheVariants as attempt
 use Rattle.okld_launch.specs.declared.answer.Launched.{Launched}

@@ -1,12 +1,15 @@
 -- The launcher as contracts see it.
-use Rattle.std.specs.Prelude.{◌≡◌, ◌<◌, ◌≤◌, ℕ, List, None, false, length, slice_index}
+use Rattle.std.specs.Prelude.{◌≡◌, ◌<◌, ◌≤◌, ℕ, List, [], ◌∷◌, None, false, length, slice_index}
 use Rattle.okws_base.specs.declared.journal.Entry.{Entry}
 use Rattle.okws_base.specs.declared.limit.TheConstants.{MOST_PROXIES}
 use Rattle.okws_plan.specs.declared.configuration.Config.{Config}
 use Rattle.okws_plan.specs.declared.event.LauncherEvent.{LauncherEvent}
+use Rattle.okws_plan.specs.declared.event.LauncherEvent.TheVariants as event
+use Rattle.okws_outer.specs.Families.{Family}
 use Rattle.monitor_model.specs.Launcher.{begun, tried}
 use Rattle.launch_journal.specs.Launches.{Launches}
 use Rattle.launch_crew.specs.Crews.{CrewIs, Below, IsUp, NoneStands, up_of}
+use Rattle.okld_launch.specs.Failures.{FailuresAreTold}
 
 -- Its journal, its crew, and the incarnation of each service that is up, 0 for none.
 pub record LauncherIs : Type 0 where
@@ -38,14 +41,26 @@ pub record IsLauncher (C : Config) (l : LauncherIs) : Type 0 where
   pub spare : length C.services ≤ l.crew.room
   pub each : (s : ℕ) → IsKept C l s
 
--- It is the launcher of a run with this site and this seed.
-pub record IsPlaced (C : Config) (run_seed : List ℕ) (l : LauncherIs) (site : Config) (seed : List ℕ) : Type 0 where
+-- It is the launcher of a run with this site and this seed, which began when `first` was told of its children: for each Failed of its journal a fault was told since.
+pub record IsPlaced (C : Config) (run_seed : List ℕ) (first : Family) (l : LauncherIs) (site : Config) (seed : List ℕ) : Type 0 where
   pub site_is : site ≡ C
   pub seed_is : seed ≡ run_seed
   pub few : length C.proxies ≤ MOST_PROXIES
   pub keeps : IsLauncher C l
+  pub failed : FailuresAreTold first l.journal.past l.crew.family
+
+-- It may be entered that incarnation k of s failed: a fault was told for it too.
+abbrev pub MayFail : Family → ℕ → ℕ → LauncherIs → Type 0
+MayFail first s k l = FailuresAreTold first (record { worker = l.journal.holder; event = event.Failed s k } ∷ l.journal.past) l.crew.family
 
 -- Nothing of s is up or stands at a column.
 pub record IsOut (C : Config) (s : ℕ) (l : LauncherIs) : Type 0 where
   pub down : up_in l s ≡ 0
   pub none : NoneStands C s l.crew.sat
+
+-- What a launcher of this site and this seed takes, which did nothing yet.
+pub record ArePapers (C : Config) (seed : List ℕ) (journal : Launches) (site : Config) (own_seed : List ℕ) : Type 0 where
+  pub config_is : journal.config ≡ C
+  pub none : journal.past ≡ []
+  pub site_is : site ≡ C
+  pub seed_is : own_seed ≡ seed

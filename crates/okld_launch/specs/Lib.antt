@@ -1,3 +1,4 @@
+pub mod Failures
 pub mod Launchers
 pub mod Entering
 pub mod States

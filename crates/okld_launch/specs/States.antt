@@ -6,6 +6,7 @@ use Rattle.monitor_model.specs.Cell.{incarnation, last_booted}
 use Rattle.monitor_model.specs.Launcher.{begun}
 use Rattle.cell_locks.specs.Row.{seen_at}
 use Rattle.launch_crew.specs.Crews.{CrewIs, Under, IsQuiet, StandsAt, RunsAs, child_of}
+use Rattle.launch_crew.specs.Told.{TellsMore}
 use Rattle.okld_launch.specs.Launchers.{LauncherIs, up_in}
 
 -- The launcher in a launch, the service, and its incarnation.
@@ -55,9 +56,9 @@ pub record IsBroken (C : Config) (a : LaunchIs) : Type 0 where
   pub begins : IsBegun C (MOST_PROXIES + 2) a
   pub down : up_in a.launcher a.service ≡ 0
 
--- The same launch, of which nothing more was entered in the launcher's journal; no fault was forgotten.
+-- The same launch, of which nothing more was entered in the launcher's journal; nothing that was told of the children was forgotten.
 pub record GoesOn (a b : LaunchIs) : Type 0 where
   pub service_is : b.service ≡ a.service
   pub incarnation_is : b.incarnation ≡ a.incarnation
   pub journal_is : b.launcher.journal ≡ a.launcher.journal
-  pub faults : a.launcher.crew.family.faults ≤ b.launcher.crew.family.faults
+  pub told : TellsMore a.launcher.crew.family b.launcher.crew.family

@@ -7,15 +7,15 @@ ghost use Rattle.monitor_model.specs.Cell.{last_booted};
 ghost use Rattle.monitor_model.specs.Launcher.{begun, tries};
 ghost use Rattle.launch_journal.specs.Launches.{Allows, entered, given_up};
 ghost use Rattle.launch_journal.specs.declared.next.Next.TheVariants as next;
-ghost use Rattle.okld_launch.specs.Launchers.{IsLauncher, up_in};
+ghost use Rattle.okld_launch.specs.Launchers.{IsLauncher, MayFail, up_in};
 ghost use Rattle.okld_launch.specs.Going.{AsksUp, with_entry};
 
 use crate::launcher::Launcher;
+use crate::named::Staffed;
 use cell_locks::locks::CellLocks;
 use cell_locks::named::CellNames;
 use cell_locks::note::CellNote;
 use launch_journal::Next;
-use named_columns::named::Backed;
 use okws_base::limit::MOST_PROXIES;
 use okws_outer::child::Ended;
 use okws_outer::children::Children;
@@ -29,7 +29,14 @@ use std::alloc::AllocError;
 // incarnation is installed, booted and up, or what was installed is revoked.
 const LONGEST_PIECE: usize = (MOST_PROXIES + 4) + (MOST_PROXIES + 2) + (MOST_PROXIES + 4);
 
-impl<N: Backed, J: Site, C: CellNames, K: Keeper, S: Sink, F: Children> Launcher<N, J, C, K, S, F> {
+impl<N: Staffed, J: Site, C: CellNames, K: Keeper, S: Sink, F: Children> Launcher<
+    N,
+    J,
+    C,
+    K,
+    S,
+    F,
+> {
     /// Makes room for n more entries. Where memory is refused, the entries are as before.
     pub(crate) fn make_room(&mut self, n: usize) -> Result<(), AllocError>
         ensures same { self.new ≡ record self.old { journal = record self.old.journal { room = self.new.journal.room } } }
@@ -92,11 +99,12 @@ impl<N: Backed, J: Site, C: CellNames, K: Keeper, S: Sink, F: Children> Launcher
         }
     }
 
-    /// Enters that the greatest incarnation of the service failed.
+    /// Enters that the greatest incarnation of the service failed, for which a fault was told.
     pub(crate) fn fail(&mut self, service: u16, incarnation: u32)
         requires service { service < length N.site.services }
         requires counted { 0 < incarnation }
         requires begun { incarnation ≡ begun self.old.journal.past service }
+        requires fault { MayFail N.children service incarnation self.old }
         requires room { 0 < self.old.journal.room }
         ensures { self.new ≡ record self.old { journal = entered self.old.journal (event.Failed service incarnation) } }
     {

@@ -6,11 +6,12 @@ ghost use Rattle.okws_base.specs.declared.limit.TheConstants.{MOST_PROXIES};
 ghost use Rattle.monitor_model.specs.Launcher.{LauncherLaw, begun};
 ghost use Rattle.launch_crew.specs.Crews.{Below, crew_of};
 ghost use Rattle.launch_crew.specs.Recorded.{IsUnused};
+ghost use Rattle.okld_launch.specs.Failures.{FailuresAreTold};
 
+use crate::named::Staffed;
 use cell_locks::named::CellNames;
 use launch_crew::crew::Crew;
 use launch_journal::LaunchJournal;
-use named_columns::named::Backed;
 use okws_base::journal::{Entry, Past};
 use okws_outer::children::Children;
 use okws_outer::keeper::Keeper;
@@ -25,9 +26,10 @@ use token_core::Seed;
 use turn_lock::Journaled;
 
 /// The launcher of a site: its journal, its crew, and which incarnation of each service is up. By its type
-/// the journal keeps the launcher's law, nothing was launched that was not begun, and what is up stands.
+/// the journal keeps the launcher's law, nothing was launched that was not begun, what is up stands, and for
+/// each Failed that was entered a fault of the children was counted.
 #[derive(Drop)]
-pub struct Launcher<N: Backed, J: Site, C: CellNames, K: Keeper, S: Sink, F: Children> {
+pub struct Launcher<N: Staffed, J: Site, C: CellNames, K: Keeper, S: Sink, F: Children> {
     pub(crate) alloc: Global,
     pub(crate) journal: LaunchJournal,
     pub(crate) crew: Crew<N, J, C, K, S, F>,
@@ -37,7 +39,7 @@ pub struct Launcher<N: Backed, J: Site, C: CellNames, K: Keeper, S: Sink, F: Chi
     pub(crate) seed: Seed,
 }
 
-impl<N: Backed, J: Site, C: CellNames, K: Keeper, S: Sink, F: Children> Model
+impl<N: Staffed, J: Site, C: CellNames, K: Keeper, S: Sink, F: Children> Model
     for Launcher<N, J, C, K, S, F> {
     ghost use Rattle.std.specs.Arc.{arc_value};
     ghost use Rattle.launch_crew.specs.Crews.{crew_of};
@@ -47,10 +49,10 @@ impl<N: Backed, J: Site, C: CellNames, K: Keeper, S: Sink, F: Children> Model
 
     ghost view = { λ l. record { journal = l.journal; crew = crew_of l.crew.recorder l.crew.staff; ups = l.ups.items } };
 
-    ghost invariant = { λ l. IsPlaced N.site N.run_seed (record { journal = l.journal; crew = crew_of l.crew.recorder l.crew.staff; ups = l.ups.items }) (arc_value l.site) l.seed };
+    ghost invariant = { λ l. IsPlaced N.site N.run_seed N.children (record { journal = l.journal; crew = crew_of l.crew.recorder l.crew.staff; ups = l.ups.items }) (arc_value l.site) l.seed };
 }
 
-impl<N: Backed, J: Site, C: CellNames, K: Keeper, S: Sink, F: Children + Drop> Launcher<
+impl<N: Staffed, J: Site, C: CellNames, K: Keeper, S: Sink, F: Children + Drop> Launcher<
     N,
     J,
     C,
@@ -71,6 +73,7 @@ impl<N: Backed, J: Site, C: CellNames, K: Keeper, S: Sink, F: Children + Drop> L
         requires unused { IsUnused N.site N.launcher crew.recorder }
         requires spare { length N.site.services ≤ crew.recorder.room }
         requires few { length N.site.proxies ≤ MOST_PROXIES }
+        requires children { crew.staff.family ≡ N.children }
         requires site { arc_value site ≡ N.site }
         requires seed { seed ≡ N.run_seed }
         ensures ok { IfOk result (λ l. (l.journal ≡ journal) × (l.crew ≡ crew_of crew.recorder crew.staff)) }
@@ -91,13 +94,21 @@ impl<N: Backed, J: Site, C: CellNames, K: Keeper, S: Sink, F: Children + Drop> L
     }
 }
 
-impl<N: Backed, J: Site, C: CellNames, K: Keeper, S: Sink, F: Children> Launcher<N, J, C, K, S, F> {
+impl<N: Staffed, J: Site, C: CellNames, K: Keeper, S: Sink, F: Children> Launcher<
+    N,
+    J,
+    C,
+    K,
+    S,
+    F,
+> {
     /// What was entered, which keeps the launcher's law, and the crew, by which nothing was launched that
-    /// was not begun.
+    /// was not begun, and of whose children a fault was told for each Failed.
     pub fn close(self) -> (Past<Entry<LauncherEvent>>, Crew<N, J, C, K, S, F>)
         ensures past { result.0 ≡ self.journal.past }
         ensures law { LauncherLaw N.site result.0 }
         ensures crew { crew_of result.1.recorder result.1.staff ≡ self.crew }
+        ensures failed { FailuresAreTold N.children result.0 result.1.staff.family }
         ensures below { (s : ℕ) → Below s (begun result.0 s) result.1.recorder.sat result.1.recorder.watch }
         ensures shown { (s : ℕ) → s < length N.site.services → slice_index result.1.recorder.sat.board s ≡ begun result.0 s }
         ensures spare { length N.site.services ≤ result.1.recorder.room }
@@ -114,7 +125,7 @@ impl<N: Backed, J: Site, C: CellNames, K: Keeper, S: Sink, F: Children> Launcher
     }
 }
 
-impl<N: Backed, J: Site, C: CellNames, K: Keeper, S: Sink, F: Children> Journaled
+impl<N: Staffed, J: Site, C: CellNames, K: Keeper, S: Sink, F: Children> Journaled
     for Launcher<N, J, C, K, S, F> {
     ghost use Rattle.named_columns.specs.Launched.{by_entry};
 

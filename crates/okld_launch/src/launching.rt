@@ -16,12 +16,12 @@ ghost use Rattle.okld_launch.specs.Going.{Attempts, Closes, Goes, GoesAsked, Goe
 use crate::answer::{Attempt, Crashed, Launched, Tended};
 use crate::entered::Entered;
 use crate::launcher::Launcher;
+use crate::named::Staffed;
 use crate::states::{Booted, Installed, Quiet, Revoked};
 use cell_locks::locks::CellLocks;
 use cell_locks::named::CellNames;
 use launch_crew::answer::Missed;
 use launch_journal::Next;
-use named_columns::named::Backed;
 use okws_base::limit::MOST_INCARNATIONS;
 use okws_outer::child::Ended;
 use okws_outer::children::Children;
@@ -33,7 +33,7 @@ use site_locks::locks::Locks;
 use site_locks::named::Site;
 use std::sync::Wait;
 
-impl<N: Backed, J: Site, C: CellNames, K: Keeper, S: Sink, F: Children> Booted<N, J, C, K, S, F> {
+impl<N: Staffed, J: Site, C: CellNames, K: Keeper, S: Sink, F: Children> Booted<N, J, C, K, S, F> {
     // The rest of an attempt.
     fn close<R: Wait>(
         self,
@@ -51,7 +51,7 @@ impl<N: Backed, J: Site, C: CellNames, K: Keeper, S: Sink, F: Children> Booted<N
     }
 }
 
-impl<N: Backed, J: Site, C: CellNames, K: Keeper, S: Sink, F: Children> Installed<
+impl<N: Staffed, J: Site, C: CellNames, K: Keeper, S: Sink, F: Children> Installed<
     N,
     J,
     C,
@@ -77,7 +77,7 @@ impl<N: Backed, J: Site, C: CellNames, K: Keeper, S: Sink, F: Children> Installe
     }
 }
 
-impl<N: Backed, J: Site, C: CellNames, K: Keeper, S: Sink, F: Children> Revoked<N, J, C, K, S, F> {
+impl<N: Staffed, J: Site, C: CellNames, K: Keeper, S: Sink, F: Children> Revoked<N, J, C, K, S, F> {
     // The rest of an attempt.
     fn close<R: Wait>(
         self,
@@ -95,7 +95,7 @@ impl<N: Backed, J: Site, C: CellNames, K: Keeper, S: Sink, F: Children> Revoked<
     }
 }
 
-impl<N: Backed, J: Site, C: CellNames, K: Keeper, S: Sink, F: Children> Quiet<N, J, C, K, S, F> {
+impl<N: Staffed, J: Site, C: CellNames, K: Keeper, S: Sink, F: Children> Quiet<N, J, C, K, S, F> {
     // The rest of an attempt.
     fn close<R: Wait>(
         self,
@@ -133,7 +133,14 @@ pub(crate) fn tended_as(launched: Launched) -> Tended
     }
 }
 
-impl<N: Backed, J: Site, C: CellNames, K: Keeper, S: Sink, F: Children> Launcher<N, J, C, K, S, F> {
+impl<N: Staffed, J: Site, C: CellNames, K: Keeper, S: Sink, F: Children> Launcher<
+    N,
+    J,
+    C,
+    K,
+    S,
+    F,
+> {
     // One attempt at a launch of the service, whose next incarnation may begin.
     fn attempt<R: Wait, G: Gate>(
         self,

@@ -7,6 +7,8 @@ pub mod entered;
 mod entries;
 pub mod launcher;
 mod launching;
+pub mod named;
+pub mod papers;
 mod states;
 mod steps;
 mod tending;

@@ -5,15 +5,15 @@ ghost use Rattle.std.specs.Prelude.{◌≡◌, ◌<◌, ◌≤◌, IfOk, IfErr, 
 ghost use Rattle.okws_base.specs.declared.limit.TheConstants.{MOST_INCARNATIONS};
 ghost use Rattle.okws_plan.specs.declared.event.LauncherEvent.TheVariants as event;
 ghost use Rattle.launch_journal.specs.Launches.{entered};
-ghost use Rattle.okld_launch.specs.Launchers.{IsOut, up_in};
+ghost use Rattle.launch_crew.specs.Told.{FailsBy};
+ghost use Rattle.okld_launch.specs.Launchers.{IsOut, MayFail, up_in};
 ghost use Rattle.okld_launch.specs.States.{GoesOn};
-ghost use Rattle.launch_crew.specs.Steps.{FailsBy};
 
 use crate::launcher::Launcher;
+use crate::named::Staffed;
 use cell_locks::locks::CellLocks;
 use cell_locks::named::CellNames;
 use launch_crew::answer::Missed;
-use named_columns::named::Backed;
 use okws_outer::children::Children;
 use okws_outer::keeper::Keeper;
 use okws_outer::stream::Sink;
@@ -23,13 +23,13 @@ use std::marker::Model;
 use std::sync::Wait;
 
 /// An incarnation was begun, and nothing of it was installed or booted.
-pub(crate) struct Quiet<N: Backed, J: Site, C: CellNames, K: Keeper, S: Sink, F: Children> {
+pub(crate) struct Quiet<N: Staffed, J: Site, C: CellNames, K: Keeper, S: Sink, F: Children> {
     pub(crate) launcher: Launcher<N, J, C, K, S, F>,
     pub(crate) service: u16,
     pub(crate) incarnation: u32,
 }
 
-impl<N: Backed, J: Site, C: CellNames, K: Keeper, S: Sink, F: Children> Model
+impl<N: Staffed, J: Site, C: CellNames, K: Keeper, S: Sink, F: Children> Model
     for Quiet<N, J, C, K, S, F> {
     ghost use Rattle.okld_launch.specs.States.{LaunchIs, IsStill};
 
@@ -41,13 +41,13 @@ impl<N: Backed, J: Site, C: CellNames, K: Keeper, S: Sink, F: Children> Model
 }
 
 /// What was there before the incarnation is ended everywhere.
-pub(crate) struct Revoked<N: Backed, J: Site, C: CellNames, K: Keeper, S: Sink, F: Children> {
+pub(crate) struct Revoked<N: Staffed, J: Site, C: CellNames, K: Keeper, S: Sink, F: Children> {
     pub(crate) launcher: Launcher<N, J, C, K, S, F>,
     pub(crate) service: u16,
     pub(crate) incarnation: u32,
 }
 
-impl<N: Backed, J: Site, C: CellNames, K: Keeper, S: Sink, F: Children> Model
+impl<N: Staffed, J: Site, C: CellNames, K: Keeper, S: Sink, F: Children> Model
     for Revoked<N, J, C, K, S, F> {
     ghost use Rattle.okld_launch.specs.States.{LaunchIs, IsRevoked};
 
@@ -59,13 +59,13 @@ impl<N: Backed, J: Site, C: CellNames, K: Keeper, S: Sink, F: Children> Model
 }
 
 /// The incarnation stands at each column of the service.
-pub(crate) struct Installed<N: Backed, J: Site, C: CellNames, K: Keeper, S: Sink, F: Children> {
+pub(crate) struct Installed<N: Staffed, J: Site, C: CellNames, K: Keeper, S: Sink, F: Children> {
     pub(crate) launcher: Launcher<N, J, C, K, S, F>,
     pub(crate) service: u16,
     pub(crate) incarnation: u32,
 }
 
-impl<N: Backed, J: Site, C: CellNames, K: Keeper, S: Sink, F: Children> Model
+impl<N: Staffed, J: Site, C: CellNames, K: Keeper, S: Sink, F: Children> Model
     for Installed<N, J, C, K, S, F> {
     ghost use Rattle.okld_launch.specs.States.{LaunchIs, IsInstalled};
 
@@ -77,13 +77,13 @@ impl<N: Backed, J: Site, C: CellNames, K: Keeper, S: Sink, F: Children> Model
 }
 
 /// The child of the incarnation was started, and its cell was booted.
-pub(crate) struct Booted<N: Backed, J: Site, C: CellNames, K: Keeper, S: Sink, F: Children> {
+pub(crate) struct Booted<N: Staffed, J: Site, C: CellNames, K: Keeper, S: Sink, F: Children> {
     pub(crate) launcher: Launcher<N, J, C, K, S, F>,
     pub(crate) service: u16,
     pub(crate) incarnation: u32,
 }
 
-impl<N: Backed, J: Site, C: CellNames, K: Keeper, S: Sink, F: Children> Model
+impl<N: Staffed, J: Site, C: CellNames, K: Keeper, S: Sink, F: Children> Model
     for Booted<N, J, C, K, S, F> {
     ghost use Rattle.okld_launch.specs.States.{LaunchIs, IsBooted};
 
@@ -95,13 +95,13 @@ impl<N: Backed, J: Site, C: CellNames, K: Keeper, S: Sink, F: Children> Model
 }
 
 /// A step was refused. What was installed of the incarnation may stand.
-pub(crate) struct Broken<N: Backed, J: Site, C: CellNames, K: Keeper, S: Sink, F: Children> {
+pub(crate) struct Broken<N: Staffed, J: Site, C: CellNames, K: Keeper, S: Sink, F: Children> {
     pub(crate) launcher: Launcher<N, J, C, K, S, F>,
     pub(crate) service: u16,
     pub(crate) incarnation: u32,
 }
 
-impl<N: Backed, J: Site, C: CellNames, K: Keeper, S: Sink, F: Children> Model
+impl<N: Staffed, J: Site, C: CellNames, K: Keeper, S: Sink, F: Children> Model
     for Broken<N, J, C, K, S, F> {
     ghost use Rattle.okld_launch.specs.States.{LaunchIs, IsBroken};
 
@@ -112,7 +112,7 @@ impl<N: Backed, J: Site, C: CellNames, K: Keeper, S: Sink, F: Children> Model
     ghost invariant = { λ a. IsBroken N.site (record { launcher = a.launcher; service = a.service; incarnation = a.incarnation }) };
 }
 
-impl<N: Backed, J: Site, C: CellNames, K: Keeper, S: Sink, F: Children> Quiet<N, J, C, K, S, F> {
+impl<N: Staffed, J: Site, C: CellNames, K: Keeper, S: Sink, F: Children> Quiet<N, J, C, K, S, F> {
     /// Ends what was there before the incarnation.
     pub(crate) fn revoke<R: Wait>(
         self,
@@ -136,7 +136,7 @@ impl<N: Backed, J: Site, C: CellNames, K: Keeper, S: Sink, F: Children> Quiet<N,
     }
 }
 
-impl<N: Backed, J: Site, C: CellNames, K: Keeper, S: Sink, F: Children> Revoked<N, J, C, K, S, F> {
+impl<N: Staffed, J: Site, C: CellNames, K: Keeper, S: Sink, F: Children> Revoked<N, J, C, K, S, F> {
     /// Installs the incarnation at each column of the service.
     pub(crate) fn install<R: Wait>(
         self,
@@ -166,7 +166,7 @@ impl<N: Backed, J: Site, C: CellNames, K: Keeper, S: Sink, F: Children> Revoked<
     }
 }
 
-impl<N: Backed, J: Site, C: CellNames, K: Keeper, S: Sink, F: Children> Installed<
+impl<N: Staffed, J: Site, C: CellNames, K: Keeper, S: Sink, F: Children> Installed<
     N,
     J,
     C,
@@ -183,6 +183,7 @@ impl<N: Backed, J: Site, C: CellNames, K: Keeper, S: Sink, F: Children> Installe
         ensures ok { IfOk result (λ a. GoesOn self a) }
         ensures err { IfErr result (λ e. GoesOn self e.1) }
         ensures cause { IfErr result (λ e. e.0 ≡ Missed.Failed → FailsBy self.service self.incarnation self.launcher.crew.family e.1.launcher.crew.family) }
+        ensures fault { IfErr result (λ e. e.0 ≡ Missed.Failed → MayFail N.children e.1.service e.1.incarnation e.1.launcher) }
     {
         let Installed {
             mut launcher,
@@ -207,7 +208,7 @@ impl<N: Backed, J: Site, C: CellNames, K: Keeper, S: Sink, F: Children> Installe
     }
 }
 
-impl<N: Backed, J: Site, C: CellNames, K: Keeper, S: Sink, F: Children> Booted<N, J, C, K, S, F> {
+impl<N: Staffed, J: Site, C: CellNames, K: Keeper, S: Sink, F: Children> Booted<N, J, C, K, S, F> {
     /// Has the incarnation be up.
     pub(crate) fn up<R: Wait>(
         self,
@@ -233,9 +234,11 @@ impl<N: Backed, J: Site, C: CellNames, K: Keeper, S: Sink, F: Children> Booted<N
     }
 }
 
-impl<N: Backed, J: Site, C: CellNames, K: Keeper, S: Sink, F: Children> Broken<N, J, C, K, S, F> {
-    /// Enters that the incarnation failed. What was installed of it is revoked at the next launch.
+impl<N: Staffed, J: Site, C: CellNames, K: Keeper, S: Sink, F: Children> Broken<N, J, C, K, S, F> {
+    /// Enters that the incarnation failed, for which a fault was told. What was installed of it is revoked at
+    /// the next launch.
     pub(crate) fn fail(self) -> Launcher<N, J, C, K, S, F>
+        requires { MayFail N.children self.service self.incarnation self.launcher }
         ensures journal { result.journal ≡ entered self.launcher.journal (event.Failed self.service self.incarnation) }
         ensures family { result.crew.family ≡ self.launcher.crew.family }
         ensures down { up_in result self.service ≡ 0 }

@@ -9,15 +9,16 @@ ghost use Rattle.cell_locks.specs.Row.{seen_at};
 ghost use Rattle.launch_journal.specs.Launches.{Allows, entered};
 ghost use Rattle.launch_journal.specs.declared.next.Next.TheVariants as next;
 ghost use Rattle.launch_crew.specs.Crews.{Under, IsQuiet, StandsAt, RunsAs, NoneStands, child_of};
-ghost use Rattle.okld_launch.specs.Launchers.{up_in};
-ghost use Rattle.launch_crew.specs.Steps.{SameHands, FailsBy};
+ghost use Rattle.launch_crew.specs.Steps.{SameHands};
+ghost use Rattle.launch_crew.specs.Told.{FailsBy, TellsMore};
+ghost use Rattle.okld_launch.specs.Launchers.{MayFail, up_in};
 
 use crate::launcher::Launcher;
+use crate::named::Staffed;
 use cell_locks::locks::CellLocks;
 use cell_locks::named::CellNames;
 use frame_codec::frame::{Issued, ServerFrame};
 use launch_crew::answer::Missed;
-use named_columns::named::Backed;
 use okws_base::items::Items;
 use okws_outer::children::Children;
 use okws_outer::gate::{Gate, Point};
@@ -29,7 +30,14 @@ use site_locks::named::Site;
 use std::alloc::AllocError;
 use std::sync::Wait;
 
-impl<N: Backed, J: Site, C: CellNames, K: Keeper, S: Sink, F: Children> Launcher<N, J, C, K, S, F> {
+impl<N: Staffed, J: Site, C: CellNames, K: Keeper, S: Sink, F: Children> Launcher<
+    N,
+    J,
+    C,
+    K,
+    S,
+    F,
+> {
     /// Begins the next incarnation of the service, and shows it on the board.
     pub(crate) fn begin<G: Gate>(
         &mut self,
@@ -66,7 +74,7 @@ impl<N: Backed, J: Site, C: CellNames, K: Keeper, S: Sink, F: Children> Launcher
         ensures quiet { IsQuiet N.site service self.new.crew }
         ensures down { up_in self.new service ≡ 0 }
         ensures under { (k : ℕ) → Under service k self.old.crew → Under service k self.new.crew }
-        ensures faults { self.new.crew.family.faults ≡ self.old.crew.family.faults }
+        ensures told { TellsMore self.old.crew.family self.new.crew.family }
         ensures room { self.old.crew.room ≤ self.new.crew.room + (MOST_PROXIES + 4) }
     {
         self.crew.recorder.down(rt, locks, service);
@@ -146,7 +154,8 @@ impl<N: Backed, J: Site, C: CellNames, K: Keeper, S: Sink, F: Children> Launcher
         ensures columns { self.new.crew.sat ≡ self.old.crew.sat }
         ensures child { OnOk result (RunsAs incarnation (child_of self.new.crew service)) }
         ensures cause { IsErrOf result Missed.Failed → FailsBy service incarnation self.old.crew.family self.new.crew.family }
-        ensures faults { self.old.crew.family.faults ≤ self.new.crew.family.faults }
+        ensures fault { IsErrOf result Missed.Failed → MayFail N.children service incarnation self.new }
+        ensures told { TellsMore self.old.crew.family self.new.crew.family }
         ensures room { self.old.crew.room ≤ self.new.crew.room + 1 }
     {
         let Ok(tokens) = self.tokens(service, incarnation) else {

@@ -8,9 +8,9 @@ use crate::answer::Tended;
 use crate::entered::Entered;
 use crate::launcher::Launcher;
 use crate::launching::tended_as;
+use crate::named::Staffed;
 use cell_locks::locks::CellLocks;
 use cell_locks::named::CellNames;
-use named_columns::named::Backed;
 use okws_outer::child::Ended;
 use okws_outer::children::Children;
 use okws_outer::gate::Gate;
@@ -21,7 +21,14 @@ use site_locks::locks::Locks;
 use site_locks::named::Site;
 use std::sync::Wait;
 
-impl<N: Backed, J: Site, C: CellNames, K: Keeper, S: Sink, F: Children> Launcher<N, J, C, K, S, F> {
+impl<N: Staffed, J: Site, C: CellNames, K: Keeper, S: Sink, F: Children> Launcher<
+    N,
+    J,
+    C,
+    K,
+    S,
+    F,
+> {
     /// Looks after a service: launches one that isn't up, unless it was given up, and asks the child of one
     /// that is whether it has ended, which is a crash.
     pub fn tend<R: Wait, G: Gate>(

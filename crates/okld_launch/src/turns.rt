@@ -10,10 +10,10 @@ ghost use Rattle.okld_launch.specs.Turns.{GoesIf, LaunchesBy, RelaunchesBy, Repo
 use crate::answer::{Crashed, Launched, Tended};
 use crate::entered::Entered;
 use crate::launcher::Launcher;
+use crate::named::Staffed;
 use cell_locks::locks::CellLocks;
 use cell_locks::named::CellNames;
 use cell_locks::note::CellNote;
-use named_columns::named::Backed;
 use okws_outer::children::Children;
 use okws_outer::gate::Gate;
 use okws_outer::keeper::Keeper;
@@ -23,7 +23,14 @@ use site_locks::named::Site;
 use std::sync::Wait;
 use turn_lock::{Seat, Turn};
 
-impl<N: Backed, J: Site, C: CellNames, K: Keeper, S: Sink, F: Children> Launcher<N, J, C, K, S, F> {
+impl<N: Staffed, J: Site, C: CellNames, K: Keeper, S: Sink, F: Children> Launcher<
+    N,
+    J,
+    C,
+    K,
+    S,
+    F,
+> {
     // Launches a service, unless it is up already.
     fn launch_if_down<R: Wait, G: Gate>(
         self,
@@ -54,7 +61,7 @@ impl<N: Backed, J: Site, C: CellNames, K: Keeper, S: Sink, F: Children> Launcher
 pub fn launch_by<
     R: Wait,
     G: Gate,
-    N: Backed,
+    N: Staffed,
     J: Site,
     C: CellNames,
     K: Keeper,
@@ -86,7 +93,7 @@ pub fn launch_by<
 pub fn relaunch_by<
     R: Wait,
     G: Gate,
-    N: Backed,
+    N: Staffed,
     J: Site,
     C: CellNames,
     K: Keeper,
@@ -119,7 +126,7 @@ pub fn relaunch_by<
 pub fn report_by<
     R: Wait,
     G: Gate,
-    N: Backed,
+    N: Staffed,
     J: Site,
     C: CellNames,
     K: Keeper,
@@ -161,7 +168,16 @@ pub fn report_by<
 }
 
 /// Looks after a service in a turn.
-pub fn tend_by<R: Wait, G: Gate, N: Backed, J: Site, C: CellNames, K: Keeper, S: Sink, F: Children>(
+pub fn tend_by<
+    R: Wait,
+    G: Gate,
+    N: Staffed,
+    J: Site,
+    C: CellNames,
+    K: Keeper,
+    S: Sink,
+    F: Children,
+>(
     rt: &R,
     gate: &G,
     turn: &Turn<Launcher<N, J, C, K, S, F>>,

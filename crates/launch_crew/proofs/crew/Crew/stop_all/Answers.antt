@@ -1,8 +1,9 @@
-use Rattle.std.proofs.Common.{◌≡◌, ◌∙◌, ◌<◌, ◌≤◌, ◌+◌, sym, ap, subst, arith}
+use Rattle.std.proofs.Common.{◌≡◌, ◌∙◌, sym, subst, arith}
 use Rattle.monitor_model.specs.Cell.{incarnation as incarnation_of}
 use Rattle.cell_locks.specs.Row.{CellsSeen, seen_at}
 use Rattle.site_locks.specs.Sat.{Sat}
 use Rattle.launch_crew.specs.Crews.{Below, crew_of}
+use Rattle.launch_crew.proofs.Children.{emptied_finishes, finishes_on}
 use Rattle.launch_crew.proofs.Emptying.{below_emptied, emptied_so_far}
 use Rattle.launch_crew.proofs.crew.Crew.stop_all.Goals as goal
 
@@ -16,7 +17,7 @@ loop-service-preserved g c =
       cells = emptied_so_far i a b c.empty.ensures c.loop-service.invariant.cells;
       below = λ s k h. below_emptied i s k a b c.empty.ensures (c.loop-service.invariant.below s k h);
       room = omega (arith, c.empty.ensures.room, c.loop-service.invariant.room);
-      faults = c.empty.ensures.faults ∙ c.loop-service.invariant.faults;
+      children = finishes_on c.args.self.staff.family a.family b.family c.loop-service.invariant.children (emptied_finishes i a b c.empty.ensures);
     }
 
 pub returns-clause-cells : goal.returns-clause-cells

@@ -1,8 +1,10 @@
-use Rattle.std.proofs.Common.{◌≡◌, ◌<◌, sym, subst, arith}
+use Rattle.std.proofs.Common.{◌≡◌, ◌<◌, refl, sym, subst, arith}
 use Rattle.monitor_model.specs.Launcher.{begun}
 use Rattle.launch_crew.specs.Crews.{Under, crew_of}
 use Rattle.launch_crew.specs.Recorded.{Recorded}
 use Rattle.okld_launch.proofs.Begins.{launcher_of, begun_kept, under_next}
+use Rattle.okld_launch.proofs.Failing.{told_entered}
+use Rattle.okws_plan.specs.declared.event.LauncherEvent.TheVariants as event
 use Rattle.okld_launch.proofs.launcher.Launcher.begin.Goals as goal
 
 pub invariant_of-self : goal.invariant_of-self
@@ -10,6 +12,7 @@ invariant_of-self g c = record {
   site_is = c.self.invariant.site_is;
   seed_is = c.self.invariant.seed_is;
   few = c.self.invariant.few;
+  failed = told_entered g.N.Staffed.children c.self.inside.crew.staff.family (event.Begun c.args.service c.begin-incarnation.result) c.self.inside.journal c.begin-incarnation.new.self refl c.begin-incarnation.ensures.entered c.self.invariant.failed;
   keeps = begun_kept g.N.Numbered.site c.args.service c.begin-incarnation.result (launcher_of c.self.inside.journal c.self.inside.crew.recorder c.self.inside.crew.staff c.self.inside.ups.items) (launcher_of c.begin-incarnation.new.self c.raise.new.self c.self.inside.crew.staff c.self.inside.ups.items)
       (λ i. record { journal = c.begin-incarnation.ensures.entered i; crew = crew_of (c.raise.ensures.is i) c.self.inside.crew.staff; ups = c.self.inside.ups.items }) c.begin-incarnation.ensures.next c.raise.ensures.shown c.self.invariant.keeps;
 }

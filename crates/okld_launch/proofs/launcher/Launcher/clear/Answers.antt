@@ -4,6 +4,9 @@ use Rattle.launch_crew.specs.Crews.{Under, crew_of}
 use Rattle.okld_launch.specs.Launchers.{LauncherIs}
 use Rattle.okld_launch.proofs.Begins.{launcher_of}
 use Rattle.okld_launch.proofs.Placing.{Clears, cleared, quiet_clears, under_clears}
+use Rattle.launch_crew.specs.Told.{TellsMore}
+use Rattle.launch_crew.proofs.Children.{more_emptied}
+use Rattle.okld_launch.proofs.Failing.{told_more}
 use Rattle.okld_launch.proofs.launcher.Launcher.clear.Goals as goal
 
 pub invariant_of-self : goal.invariant_of-self
@@ -11,6 +14,7 @@ invariant_of-self g c = record {
   site_is = c.self.invariant.site_is;
   seed_is = c.self.invariant.seed_is;
   few = c.self.invariant.few;
+  failed = told_more g.N.Staffed.children c.self.inside.crew.staff.family c.empty.new.self.staff.family c.self.inside.journal.past (more_emptied c.args.service (crew_of c.revoke.new.self c.self.inside.crew.staff) (crew_of c.empty.new.self.recorder c.empty.new.self.staff) c.empty.ensures) c.self.invariant.failed;
   keeps = cleared g.N.Numbered.site c.args.service (launcher_of c.self.inside.journal c.self.inside.crew.recorder c.self.inside.crew.staff c.self.inside.ups.items) (launcher_of c.self.inside.journal c.empty.new.self.recorder c.empty.new.self.staff (slice_set c.self.inside.ups.items c.args.service 0)) (crew_of c.down.new.self c.self.inside.crew.staff) (crew_of c.revoke.new.self c.self.inside.crew.staff) c.self.invariant.keeps refl refl
       (record {
         down_hands = record { watch_is = c.down.ensures.cells; running_is = refl; family_is = refl };
@@ -42,3 +46,7 @@ returns-clause-under g c = λ k h. under_clears g.N.Numbered.site c.args.service
       empties = c.empty.ensures;
     })
     (subst (λ (x : LauncherIs). Under c.args.service k x.crew) (sym c.self.view_is) h)
+
+pub returns-clause-told : goal.returns-clause-told
+returns-clause-told g c = subst (λ (x : LauncherIs). TellsMore x.crew.family c.empty.new.self.staff.family) c.self.view_is
+    (more_emptied c.args.service (crew_of c.revoke.new.self c.self.inside.crew.staff) (crew_of c.empty.new.self.recorder c.empty.new.self.staff) c.empty.ensures)

@@ -4,6 +4,7 @@ use Rattle.okws_base.specs.declared.journal.Entry.{Entry}
 use Rattle.okws_plan.specs.declared.event.LauncherEvent.{LauncherEvent}
 use Rattle.monitor_model.specs.Launcher.{begun}
 use Rattle.launch_crew.specs.Crews.{Below}
+use Rattle.okld_launch.specs.Failures.{FailuresAreTold}
 use Rattle.okld_launch.proofs.launcher.Launcher.close.Goals as goal
 
 pub returns-clause-below : goal.returns-clause-below
@@ -11,3 +12,6 @@ returns-clause-below g c = λ s. subst (λ (J : List (Entry LauncherEvent)). Bel
 
 pub returns-clause-shown : goal.returns-clause-shown
 returns-clause-shown g c = λ s within. subst (λ (J : List (Entry LauncherEvent)). slice_index c.self.inside.crew.recorder.sat.board s ≡ begun J s) (sym c.close.ensures.past) ((c.self.invariant.keeps.each s).shown within)
+
+pub returns-clause-failed : goal.returns-clause-failed
+returns-clause-failed g c = subst (λ (J : List (Entry LauncherEvent)). FailuresAreTold g.N.Staffed.children J c.self.inside.crew.staff.family) (sym c.close.ensures.past) c.self.invariant.failed

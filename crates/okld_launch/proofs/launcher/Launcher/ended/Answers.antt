@@ -1,6 +1,7 @@
-use Rattle.std.proofs.Common.{◌≡◌, refl}
-use Rattle.launch_crew.specs.Crews.{crew_of}
+use Rattle.std.proofs.Common.{◌≡◌, refl, sym, subst}
+use Rattle.launch_crew.specs.Crews.{StaffIs, crew_of}
 use Rattle.okld_launch.proofs.Begins.{launcher_of, same_crew, asked}
+use Rattle.okld_launch.specs.Failures.{FailuresAreTold}
 use Rattle.okld_launch.proofs.launcher.Launcher.ended.Goals as goal
 
 pub invariant_of-self : goal.invariant_of-self
@@ -8,5 +9,6 @@ invariant_of-self g c = record {
   site_is = c.self.invariant.site_is;
   seed_is = c.self.invariant.seed_is;
   few = c.self.invariant.few;
+  failed = subst (λ (t : StaffIs). FailuresAreTold g.N.Staffed.children c.self.inside.journal.past t.family) (sym c.in-Some.ensures.is) c.self.invariant.failed;
   keeps = same_crew g.N.Numbered.site (launcher_of c.self.inside.journal c.self.inside.crew.recorder c.self.inside.crew.staff c.self.inside.ups.items) (crew_of c.self.inside.crew.recorder c.ended.new.self) (asked c.args.service c.in-Some.answer c.self.inside.crew.recorder c.self.inside.crew.staff c.ended.new.self c.in-Some.ensures) c.self.invariant.keeps;
 }

@@ -1,9 +1,11 @@
 use Rattle.std.proofs.Common.{◌≡◌, refl, sym, subst}
 use Rattle.okws_plan.specs.declared.event.LauncherEvent.TheVariants as event
 use Rattle.monitor_model.specs.Launcher.{begun}
-use Rattle.okld_launch.specs.Launchers.{LauncherIs}
+use Rattle.okld_launch.specs.Launchers.{LauncherIs, MayFail}
 use Rattle.okld_launch.proofs.Begins.{launcher_of, entered_other}
 use Rattle.okld_launch.proofs.Trying.{failed_begun}
+use Rattle.okld_launch.specs.Failures.{FailuresAreTold}
+use Rattle.launch_journal.specs.Launches.{Launches}
 use Rattle.okld_launch.proofs.launcher.Launcher.fail.Goals as goal
 
 pub invariant_of-self : goal.invariant_of-self
@@ -11,5 +13,6 @@ invariant_of-self g c = record {
   site_is = c.self.invariant.site_is;
   seed_is = c.self.invariant.seed_is;
   few = c.self.invariant.few;
+  failed = subst (λ (j : Launches). FailuresAreTold g.N.Staffed.children j.past c.self.inside.crew.staff.family) (sym c.failed.ensures) (subst (MayFail g.N.Staffed.children c.args.service c.args.incarnation) (sym c.self.view_is) c.requires.fault);
   keeps = entered_other g.N.Numbered.site (launcher_of c.self.inside.journal c.self.inside.crew.recorder c.self.inside.crew.staff c.self.inside.ups.items) c.failed.new.self (event.Failed c.args.service c.args.incarnation) (λ t. refl) (failed_begun c.self.inside.journal.past c.args.service c.args.incarnation (subst (λ (x : LauncherIs). c.args.incarnation ≡ begun x.journal.past c.args.service) (sym c.self.view_is) c.requires.begun)) c.failed.ensures c.self.invariant.keeps;
 }

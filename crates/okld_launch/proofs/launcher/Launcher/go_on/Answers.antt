@@ -5,11 +5,12 @@ use Rattle.okws_plan.specs.declared.event.LauncherEvent.{LauncherEvent}
 use Rattle.okws_plan.specs.declared.event.LauncherEvent.TheVariants as event
 use Rattle.monitor_model.specs.Launcher.{begun}
 use Rattle.launch_journal.specs.Launches.{Allows}
+use Rattle.launch_journal.specs.declared.next.Next.{Next}
 use Rattle.launch_journal.specs.declared.next.Next.TheVariants as next
 use Rattle.okld_launch.specs.Going.{Attempts}
 use Rattle.okld_launch.specs.Entering.{Enters}
 use Rattle.okld_launch.specs.declared.answer.Attempt.{Attempt}
-use Rattle.okld_launch.proofs.Told.{fell_next, nearer}
+use Rattle.okld_launch.proofs.Told.{fell_next, goes_refused, nearer}
 use Rattle.okld_launch.proofs.Counting.{fell_begun, up_told, refused_told, told_as, few_as}
 use Rattle.okld_launch.proofs.launcher.Launcher.go_on.Goals as goal
 
@@ -64,6 +65,20 @@ returns-in-Up-clause-few g c =
     let m = c.loop-what.launcher in
     few_as g.N.Numbered.site c.args.self.journal.holder c.args.service c.loop-what.failed c.greatest-first.result c.args.self.journal.past c.args.self.crew.family m.journal.past m.crew.family c.args.opening (Some (event.Begun c.args.service c.in-Up.incarnation)) c.new-entered.result
     c.new-entered.ensures c.greatest-first.ensures.is c.keeps.ensures.tried_are c.loop-what.invariant.0
+
+pub returns-in-NoMemory-clause-goes : goal.returns-in-NoMemory-clause-goes
+returns-in-NoMemory-clause-goes g c =
+    let C = g.N.Numbered.site in
+    let s = c.args.service in
+    let w = c.args.self.journal.holder in
+    let m = c.loop-what.launcher in
+    let after = c.attempt-after.result.0 in
+    let inv = c.loop-what.invariant in
+    let begins : c.loop-what.what ≡ next.Begin = search rules in
+    let may = subst (λ (x : Next). Allows C m.journal.past s x) begins inv.2 in
+    let all = subst (λ (n : ℕ). Attempts C n s m.journal.past m.crew.family c.attempt-after.result.1 after) inv.1 c.attempt-after.ensures.attempts in
+    let refused = subst (λ (x : Attempt). Attempts C w s m.journal.past m.crew.family x after) c.in-NoMemory.is all in
+    goes_refused C w s c.loop-what.failed c.args.self.journal.past c.args.self.crew.family m.journal.past m.crew.family after inv.0 may refused
 
 pub returns-in-NoMemory-clause-enters : goal.returns-in-NoMemory-clause-enters
 returns-in-NoMemory-clause-enters g c =

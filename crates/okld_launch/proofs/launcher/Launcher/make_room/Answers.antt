@@ -1,6 +1,7 @@
-use Rattle.std.proofs.Common.{◌≡◌, ap}
+use Rattle.std.proofs.Common.{◌≡◌, sym, ap, subst}
 use Rattle.launch_journal.specs.Launches.{Launches}
 use Rattle.okld_launch.proofs.Begins.{launcher_of, same_entries}
+use Rattle.okld_launch.specs.Failures.{FailuresAreTold}
 use Rattle.okld_launch.proofs.launcher.Launcher.make_room.Goals as goal
 
 pub invariant_of-self : goal.invariant_of-self
@@ -8,5 +9,6 @@ invariant_of-self g c = record {
   site_is = c.self.invariant.site_is;
   seed_is = c.self.invariant.seed_is;
   few = c.self.invariant.few;
+  failed = subst (λ (j : Launches). FailuresAreTold g.N.Staffed.children j.past c.self.inside.crew.staff.family) (sym c.make_room.ensures.same) c.self.invariant.failed;
   keeps = same_entries g.N.Numbered.site (launcher_of c.self.inside.journal c.self.inside.crew.recorder c.self.inside.crew.staff c.self.inside.ups.items) c.make_room.new.self (ap (λ (x : Launches). x.config) c.make_room.ensures.same) (ap (λ (x : Launches). x.past) c.make_room.ensures.same) c.self.invariant.keeps;
 }

@@ -8,5 +8,6 @@ invariant_of-self g c = record {
   site_is = c.self.invariant.site_is;
   seed_is = c.self.invariant.seed_is;
   few = c.self.invariant.few;
+  failed = c.self.invariant.failed;
   keeps = same_crew g.N.Numbered.site (launcher_of c.self.inside.journal c.self.inside.crew.recorder c.self.inside.crew.staff c.self.inside.ups.items) (crew_of c.meet.new.self c.self.inside.crew.staff) (met c.args.note.service (crew_of c.self.inside.crew.recorder c.self.inside.crew.staff) (crew_of c.meet.new.self c.self.inside.crew.staff) c.meet.ensures.columns c.meet.ensures.only c.meet.ensures.last refl c.meet.ensures.room) c.self.invariant.keeps;
 }

@@ -12,6 +12,7 @@ invariant_of-self g c = record {
   site_is = c.self.invariant.site_is;
   seed_is = c.self.invariant.seed_is;
   few = c.self.invariant.few;
+  failed = c.self.invariant.failed;
   keeps = revoked_kept g.N.Numbered.site c.args.service (launcher_of c.self.inside.journal c.self.inside.crew.recorder c.self.inside.crew.staff c.self.inside.ups.items) (launcher_of c.self.inside.journal c.revoke.new.self c.self.inside.crew.staff c.self.inside.ups.items) c.self.invariant.keeps refl refl
       (record { watch_is = c.revoke.ensures.cells; running_is = refl; family_is = refl }) c.revoke.ensures.revokes (ap (λ (x : LauncherIs). up_in x c.args.service) c.self.view_is ∙ c.requires.down)
       (omega (arith, ap (λ (x : LauncherIs). x.crew.room) c.self.view_is, c.requires.room, c.revoke.ensures.room));

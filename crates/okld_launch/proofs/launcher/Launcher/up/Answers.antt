@@ -12,6 +12,7 @@ invariant_of-self g c = record {
   site_is = c.self.invariant.site_is;
   seed_is = c.self.invariant.seed_is;
   few = c.self.invariant.few;
+  failed = c.self.invariant.failed;
   keeps = looked_kept g.N.Numbered.site c.args.service (launcher_of c.self.inside.journal c.self.inside.crew.recorder c.self.inside.crew.staff c.self.inside.ups.items) (launcher_of c.self.inside.journal c.up.new.self c.self.inside.crew.staff c.self.inside.ups.items) c.self.invariant.keeps refl refl
       (record { watch_is = c.up.ensures.cells; running_is = refl; family_is = refl }) c.in_err-up.ensures.err (ap (λ (x : LauncherIs). up_in x c.args.service) c.self.view_is ∙ c.requires.down)
       (omega (arith, ap (λ (x : LauncherIs). x.crew.room) c.self.view_is, c.requires.room, c.up.ensures.room));
@@ -22,6 +23,7 @@ invariant_of-self-2 g c = record {
   site_is = c.self.invariant.site_is;
   seed_is = c.self.invariant.seed_is;
   few = c.self.invariant.few;
+  failed = c.self.invariant.failed;
   keeps = upped_kept g.N.Numbered.site c.args.service c.args.incarnation (launcher_of c.self.inside.journal c.self.inside.crew.recorder c.self.inside.crew.staff c.self.inside.ups.items) (launcher_of c.self.inside.journal c.up.new.self c.self.inside.crew.staff (slice_set c.self.inside.ups.items c.args.service c.args.incarnation)) c.self.invariant.keeps refl refl c.requires.service
       (record { watch_is = c.up.ensures.cells; running_is = refl; family_is = refl }) c.in_ok-up.ensures.ok c.requires.counted (subst (λ (x : LauncherIs). c.args.incarnation ≤ begun x.journal.past c.args.service) (sym c.self.view_is) c.requires.begun)
       (subst (λ (x : LauncherIs). StandsAt g.N.Numbered.site c.args.service c.args.incarnation x.crew.sat) (sym c.self.view_is) c.requires.stands)

@@ -1,9 +1,10 @@
-use Rattle.std.proofs.Common.{◌≡◌, ◌∙◌, ◌+◌, ◌≤◌, sym, ap, subst, arith}
+use Rattle.std.proofs.Common.{◌≡◌, ◌∙◌, ◌+◌, ◌≤◌, Err, sym, ap, subst, arith}
 use Rattle.std.specs.Prelude.{slice_index}
 use Rattle.okws_base.specs.declared.limit.TheConstants.{MOST_PROXIES}
 use Rattle.site_locks.specs.Sat.{Sat}
 use Rattle.launch_crew.specs.Crews.{StandsAt}
-use Rattle.okld_launch.proofs.Stating.{begins_on}
+use Rattle.okld_launch.proofs.Stating.{begins_on, launch_of, goes_on}
+use Rattle.okld_launch.specs.States.{LaunchIs, GoesOn}
 use Rattle.okld_launch.proofs.states.Installed.boot.Goals as goal
 
 pub invariant_of-result : goal.invariant_of-result
@@ -13,3 +14,14 @@ invariant_of-result g c = record {
   child = c.in-Ok.ensures.child;
   down = ap (λ us. slice_index us c.self.inside.service) c.start.ensures.ups ∙ c.self.invariant.down;
 }
+
+pub returns-in-Ok-clause-ok : goal.returns-in-Ok-clause-ok
+returns-in-Ok-clause-ok g c = subst (λ (x : LaunchIs). GoesOn x (launch_of c.start.new.self c.self.inside.service c.self.inside.incarnation)) c.self.view_is
+    (goes_on c.self.inside.launcher c.start.new.self c.self.inside.service c.self.inside.incarnation c.start.ensures.journal c.start.ensures.told)
+
+pub returns-in-Err-clause-err : goal.returns-in-Err-clause-err
+returns-in-Err-clause-err g c = subst (λ (x : LaunchIs). GoesOn x (launch_of c.start.new.self c.self.inside.service c.self.inside.incarnation)) c.self.view_is
+    (goes_on c.self.inside.launcher c.start.new.self c.self.inside.service c.self.inside.incarnation c.start.ensures.journal c.start.ensures.told)
+
+pub returns-in-Err-clause-fault : goal.returns-in-Err-clause-fault
+returns-in-Err-clause-fault g c = λ failed. c.in-Err.ensures.fault (ap Err failed)

@@ -1,6 +1,7 @@
-use Rattle.std.proofs.Common.{◌≡◌, ◌+◌, ◌≤◌, arith}
+use Rattle.std.proofs.Common.{◌≡◌, ◌+◌, ◌≤◌, subst, arith}
 use Rattle.okws_base.specs.declared.limit.TheConstants.{MOST_PROXIES}
-use Rattle.okld_launch.proofs.Stating.{begins_on}
+use Rattle.okld_launch.proofs.Stating.{begins_on, launch_of, goes_on}
+use Rattle.okld_launch.specs.States.{LaunchIs, GoesOn}
 use Rattle.okld_launch.proofs.states.Quiet.revoke.Goals as goal
 
 pub invariant_of-result : goal.invariant_of-result
@@ -11,3 +12,7 @@ invariant_of-result g c = record {
   quiet = c.clear.ensures.quiet;
   down = c.clear.ensures.down;
 }
+
+pub returns : goal.returns
+returns g c = subst (λ (x : LaunchIs). GoesOn x (launch_of c.clear.new.self c.self.inside.service c.self.inside.incarnation)) c.self.view_is
+    (goes_on c.self.inside.launcher c.clear.new.self c.self.inside.service c.self.inside.incarnation c.clear.ensures.journal c.clear.ensures.told)

@@ -1,7 +1,8 @@
 -- What a number's hands answer to a dialog.
-use Rattle.std.proofs.Common.{◌≡◌, ℕ, ◌≤◌, List, true, false, refl, sym, ap, subst, arith}
-use Rattle.std.specs.Prelude.{Result, Ok, Err, IfOk, OnErr, slice_index, slice_set}
+use Rattle.std.proofs.Common.{◌≡◌, ◌∙◌, ℕ, ◌≤◌, List, ◌∷◌, ◌++◌, true, false, refl, sym, ap, subst, arith, append_assoc}
+use Rattle.std.specs.Prelude.{Result, Ok, Err, Some, IfOk, OnErr, slice_index, slice_set}
 use Rattle.okws_base.specs.Runs.{Each}
+use Rattle.okws_base.specs.Turns.{Behind}
 use Rattle.okws_base.specs.declared.journal.Entry.{Entry}
 use Rattle.okws_plan.specs.declared.configuration.Config.{Config}
 use Rattle.okws_plan.specs.declared.event.OkdEvent.{OkdEvent}
@@ -13,9 +14,9 @@ use Rattle.monitor_model.specs.declared.record.Own.TheVariants as own
 use Rattle.monitor_model.specs.declared.verdict.Push.{Push}
 use Rattle.monitor_model.specs.declared.verdict.Published.{Published}
 use Rattle.monitor_model.specs.declared.verdict.Published.TheVariants.{Edition, NoSuchTemplate, TooLong, EditionsSpent}
-use Rattle.monitor_model.specs.Pubd.{drain_verdict}
+use Rattle.monitor_model.specs.Pubd.{drain_verdict, publish_at}
 use Rattle.service_cell.specs.Asking.{Asker, KeepsBoard, Drains, IsShortPush}
-use Rattle.site_locks.specs.Calls.{Publishes, PublishesAt, SameBoard}
+use Rattle.site_locks.specs.Calls.{KeepsPasts, Publishes, PublishesAt, SameBoard}
 use Rattle.site_locks.specs.Sat.{Sat, seen_of}
 use Rattle.site_locks.specs.Steps.{NotesOkd, SeesOkd, NotesProxy, SeesProxy, NotesPubd, SeesPubd, NotesLog, SeesLog, noted}
 use Rattle.site_locks.proofs.Boards.{no_fall}
@@ -49,11 +50,39 @@ pub drains_on : (C : Config) (s now : Sat) (service k : ℕ) (pushes : List Push
     → Drains (asker_of C s) service k (seen_of s) pushes (seen_of now)
 drains_on C s now service k pushes before verdict h short = (before, at_pubd (noted s (own.Dialog service)) now (pubd_event.Drain service k) before h, (λ alone. absurd (let no : false ≡ true = alone in cc)), verdict, short)
 
-pub publishes_at : (t : ℕ) (content : List ℕ) (v : Published) (before : List (Entry PubdEvent)) (s now : Sat) → Publishes t content v before s now → PublishesAt s.number t content v (seen_of s) before (seen_of now)
-publishes_at t content (Edition n) before s now h = at_pubd s now (pubd_event.Publish t content) before h
-publishes_at t content NoSuchTemplate before s now h = pubd_same s now before h
-publishes_at t content TooLong before s now h = pubd_same s now before h
-publishes_at t content EditionsSpent before s now h = pubd_same s now before h
+-- all that was seen of pubd then
+seen_then : (s now : Sat) (before : List (Entry PubdEvent)) → SeesPubd before s now → now.pubd ≡ before
+seen_then s now before h = ap (λ (x : Sat). x.pubd) h.is
+
+pub publishes_at : (t : ℕ) (content : List ℕ) (v : Published) (before : List (Entry PubdEvent)) (s now : Sat) → v ≡ publish_at before (Some t) content → Publishes t content v before s now → PublishesAt t content v s now
+publishes_at t content (Edition n) before s now verdict h = (before, verdict, at_pubd s now (pubd_event.Publish t content) before h)
+publishes_at t content NoSuchTemplate before s now verdict h = (verdict ∙ ap (λ J. publish_at J (Some t) content) (sym (seen_then s now before h)), pubd_same s now before h)
+publishes_at t content TooLong before s now verdict h = (verdict ∙ ap (λ J. publish_at J (Some t) content) (sym (seen_then s now before h)), pubd_same s now before h)
+publishes_at t content EditionsSpent before s now verdict h = (verdict ∙ ap (λ J. publish_at J (Some t) content) (sym (seen_then s now before h)), pubd_same s now before h)
+
+-- what was seen of pubd only grows
+past_kept : {E : Type 0} (J now : List E) → now ≡ J → KeepsPasts J now
+past_kept J now e = λ past b. subst (Behind past) (sym e) b
+
+past_on : {E : Type 0} (J now : List E) → Behind J now → KeepsPasts J now
+past_on J now g = λ past b. (g.0 ++ b.0, g.1 ∙ ap (λ l. g.0 ++ l) b.1 ∙ sym (append_assoc g.0 b.0 past))
+
+pub okd_keeps : (event : OkdEvent) (before : List (Entry OkdEvent)) (s now : Sat) → NotesOkd event before s now → KeepsPasts s.pubd now.pubd
+okd_keeps event before s now h = past_kept s.pubd now.pubd (ap (λ (x : Sat). x.pubd) h.is)
+
+pub okd_seen_keeps : (before : List (Entry OkdEvent)) (s now : Sat) → SeesOkd before s now → KeepsPasts s.pubd now.pubd
+okd_seen_keeps before s now h = past_kept s.pubd now.pubd (ap (λ (x : Sat). x.pubd) h.is)
+
+pub pubd_keeps : (before : List (Entry PubdEvent)) (s now : Sat) → SeesPubd before s now → KeepsPasts s.pubd now.pubd
+pubd_keeps before s now h = past_on s.pubd now.pubd (h.grows.0, seen_then s now before h ∙ h.grows.2)
+
+pub published_keeps : (t : ℕ) (content : List ℕ) (v : Published) (before : List (Entry PubdEvent)) (s now : Sat) → Publishes t content v before s now → KeepsPasts s.pubd now.pubd
+published_keeps t content (Edition n) before s now h =
+    let e : Entry PubdEvent = record { worker = s.number; event = pubd_event.Publish t content } in
+    past_on s.pubd now.pubd (e ∷ h.grows.0, ap (λ (x : Sat). x.pubd) h.is ∙ ap (λ J. e ∷ J) h.grows.2)
+published_keeps t content NoSuchTemplate before s now h = pubd_keeps before s now h
+published_keeps t content TooLong before s now h = pubd_keeps before s now h
+published_keeps t content EditionsSpent before s now h = pubd_keeps before s now h
 
 pub published_board : (t : ℕ) (content : List ℕ) (v : Published) (before : List (Entry PubdEvent)) (s now : Sat) → Publishes t content v before s now → SameBoard s now
 published_board t content (Edition n) before s now h = record { number_is = ap (λ (x : Sat). x.number) h.is; board_is = ap (λ (x : Sat). x.board) h.is; drawn_is = ap (λ (x : Sat). x.drawn) h.is; spare_is = ap (λ (x : Sat). x.spare) h.is }

@@ -1,18 +1,16 @@
 //! The columns behind their locks, as dialogs ask them.
 
-ghost use Rattle.std.specs.Prelude.{◌≡◌, ◌<◌, ◌≤◌, ◌∷◌, ℕ, List, true, false, IfOk, IfSome, OnOk, OnErr, Some, length, slice_index};
+ghost use Rattle.std.specs.Prelude.{◌≡◌, ◌<◌, ◌≤◌, ◌∷◌, ℕ, List, true, false, IfOk, IfSome, OnOk, OnErr, length, slice_index};
 ghost use Rattle.okws_base.specs.declared.journal.Entry.{Entry};
 ghost use Rattle.okws_base.specs.declared.limit.TheConstants.{LONGEST_TEMPLATE};
 ghost use Rattle.okws_plan.specs.declared.event.OkdEvent.{OkdEvent};
 ghost use Rattle.okws_plan.specs.declared.event.OkdEvent.TheVariants as okd_event;
-ghost use Rattle.okws_plan.specs.declared.event.PubdEvent.{PubdEvent};
 ghost use Rattle.live_board.specs.Board.{AllUnder};
 ghost use Rattle.live_board.specs.Seats.{MayDraw};
 ghost use Rattle.monitor_model.specs.Okd.{accept_verdict};
-ghost use Rattle.monitor_model.specs.Pubd.{publish_at};
 ghost use Rattle.monitor_model.specs.Script.{goes_of};
 ghost use Rattle.monitor_model.specs.Seen.{AtOkd};
-ghost use Rattle.site_locks.specs.Calls.{PublishesAt, SameBoard};
+ghost use Rattle.site_locks.specs.Calls.{KeepsPasts, PublishesAt, SameBoard};
 ghost use Rattle.site_locks.specs.Sat.{seen_of};
 ghost use Rattle.site_locks.specs.Steps.{NotesSpare};
 
@@ -82,6 +80,7 @@ impl<'a, R: Wait, G: Gate, N: Backed, J: Site, K: Keeper, S: Sink> Hands<'a, R, 
         ensures ok { IfOk result (λ way. (before : List (Entry OkdEvent)) × (way ≡ accept_verdict N.site before path) × AtOkd self.old.number (okd_event.Accept path) (seen_of self.old) before (seen_of self.new)) }
         ensures goes { IfOk result (λ way. IfSome (goes_of way) (λ (at : ℕ × ℕ). (at.0 < length N.site.services) × (0 < at.1))) }
         ensures err { OnErr result (seen_of self.new ≡ seen_of self.old) }
+        ensures pubd { KeepsPasts self.old.pubd self.new.pubd }
         ensures same { SameBoard self.old self.new }
     {
         self.seats.accept(self.rt, self.locks, path)
@@ -92,8 +91,9 @@ impl<'a, R: Wait, G: Gate, N: Backed, J: Site, K: Keeper, S: Sink> Hands<'a, R, 
     pub fn publish(&mut self, template: u16, content: Items<u8>) -> Result<Published, AllocError>
         requires template { template < length N.site.templates }
         requires short { length content ≤ LONGEST_TEMPLATE }
-        ensures ok { IfOk result (λ v. (before : List (Entry PubdEvent)) × (v ≡ publish_at before (Some template) content) × PublishesAt self.old.number template content v (seen_of self.old) before (seen_of self.new)) }
+        ensures ok { IfOk result (λ v. PublishesAt template content v self.old self.new) }
         ensures err { OnErr result (seen_of self.new ≡ seen_of self.old) }
+        ensures pubd { KeepsPasts self.old.pubd self.new.pubd }
         ensures same { SameBoard self.old self.new }
     {
         self.seats.publish(self.rt, self.locks, template, content)
@@ -102,6 +102,7 @@ impl<'a, R: Wait, G: Gate, N: Backed, J: Site, K: Keeper, S: Sink> Hands<'a, R, 
     /// Gives the log's sink what it wasn't given yet of the log's text. Enters nothing, and takes no memory.
     pub fn write_out(&mut self) -> WriteOut
         ensures seen { seen_of self.new ≡ seen_of self.old }
+        ensures pubd { self.new.pubd ≡ self.old.pubd }
         ensures same { SameBoard self.old self.new }
     {
         self.seats.write_out(self.rt, self.locks)

@@ -9,8 +9,8 @@ use Rattle.monitor_model.specs.Cell.{incarnation, last_booted, after_end}
 use Rattle.monitor_model.specs.Seen.{Seen}
 use Rattle.service_cell.specs.Asking.{Asker}
 use Rattle.service_cell.specs.Standing.{Standing}
-use Rattle.cell_locks.specs.declared.answer.Talked.{Talked}
-use Rattle.cell_locks.specs.declared.answer.Talked.TheVariants as talked
+use Rattle.service_cell.specs.declared.answer.Spoken.{Spoken}
+use Rattle.service_cell.specs.declared.answer.Spoken.TheVariants as spoken
 use Rattle.cell_locks.specs.Turns.{HasTalked}
 use Rattle.site_worker.specs.Handling.{WasBooted}
 
@@ -31,16 +31,15 @@ booted_last (cell.Missed worker wanted is ∷ J) = booted_last J
 booted_last (cell.Dialog d ∷ J) = end_low d.end (incarnation J) (last_booted J) (booted_last J)
 booted_last (cell.Speaking worker items ∷ J) = booted_last J
 
-pub was_booted : (n : ℕ) (who : Asker) (shows : ℕ → Type 0) (head content : List ℕ) (k s : ℕ) (old : List CellEvent) (J : Seen) (answer : Talked) (new : List CellEvent) (now : Seen)
+pub was_booted : (n : ℕ) (who : Asker) (shows : ℕ → Type 0) (head content : List ℕ) (k s : ℕ) (old : List CellEvent) (J : Seen) (answer : Spoken) (new : List CellEvent) (now : Seen)
     → HasTalked n who shows head content k s old J answer new now → WasBooted answer k new
-was_booted n who shows head content k s old J (talked.Replied r) new now h = tt
-was_booted n who shows head content k s old J talked.Uncopied new now h = tt
-was_booted n who shows head content k s old J (talked.Crashed why) new now h =
+was_booted n who shows head content k s old J spoken.Reply new now h = tt
+was_booted n who shows head content k s old J (spoken.Crashed why) new now h =
     let d = h.talks.1.2 in
     let here : last_booted new ≡ last_booted h.before.past = ap last_booted (h.seen_is ∙ ap (λ (c : Standing). c.past) d.entered) in
     let low = booted_last h.before.past in
     let wants = h.talks.0 in
     omega arith
-was_booted n who shows head content k s old J (talked.Missed wanted is) new now h = tt
-was_booted n who shows head content k s old J (talked.Superseded i shown) new now h = tt
-was_booted n who shows head content k s old J talked.NoMemory new now h = tt
+was_booted n who shows head content k s old J (spoken.Missed wanted is) new now h = tt
+was_booted n who shows head content k s old J (spoken.Superseded i shown) new now h = tt
+was_booted n who shows head content k s old J spoken.NoMemory new now h = tt

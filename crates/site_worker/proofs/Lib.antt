@@ -1,3 +1,4 @@
+mod Accepting
 mod Booted
 mod Lives
 mod Turns

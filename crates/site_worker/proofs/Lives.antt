@@ -1,6 +1,7 @@
 -- What becomes of a worker step by step.
 use Rattle.std.proofs.Common.{◌≡◌, ℕ, ◌≤◌, List, refl, sym, ap, ◌∙◌, subst}
 use Rattle.std.specs.Prelude.{slice_index}
+use Rattle.okws_base.specs.Turns.{Behind}
 use Rattle.okws_base.specs.declared.journal.Entry.{Entry}
 use Rattle.okws_plan.specs.declared.event.LauncherEvent.{LauncherEvent}
 use Rattle.monitor_model.specs.Seen.{Seen, noted}
@@ -9,7 +10,7 @@ use Rattle.cell_locks.specs.Row.{CellsSeen}
 use Rattle.site_locks.specs.Sat.{Sat, seen_of}
 use Rattle.site_locks.specs.Steps.{NotesSpare}
 use Rattle.turn_lock.specs.Seats.{SeatIs}
-use Rattle.site_worker.specs.Lives.{Life, Working, Sees, Starves}
+use Rattle.site_worker.specs.Lives.{Life, Working, Sees, Starves, life_of}
 
 pub sees_on : (J M K : Life) (now : Seen) → Sees J.seen J M → Sees now M K → Sees now J K
 sees_on J M K now a b = record {
@@ -17,6 +18,7 @@ sees_on J M K now a b = record {
   cells_is = b.cells_is ∙ a.cells_is;
   launcher_is = b.launcher_is ∙ a.launcher_is;
   board = λ s k l. b.board s k (a.board s k l);
+  pubd = λ past h. b.pubd past (a.pubd past h);
 }
 
 -- nothing, and then a note
@@ -25,17 +27,18 @@ starves_on J M K a b = sees_on J M K (noted J.seen own.NoMemory) a (subst (λ (x
 
 -- a note in a spare place, by what the number has seen at the columns and at the cells
 pub noted_starves : (s now : Sat) (cells : CellsSeen) (launcher : SeatIs (Entry LauncherEvent)) → NotesSpare own.NoMemory s now
-    → Starves (record { seen = seen_of s; cells = cells; board = s.board; launcher = launcher }) (record { seen = seen_of now; cells = cells; board = now.board; launcher = launcher })
+    → Starves (life_of s cells launcher) (life_of now cells launcher)
 noted_starves s now cells launcher h = record {
   seen_is = ap seen_of h.0;
   cells_is = refl;
   launcher_is = refl;
   board = λ t k l. subst (λ (b : List ℕ). k ≤ slice_index b t) (sym (ap (λ (x : Sat). x.board) h.0)) l;
+  pubd = λ past b. subst (Behind past) (sym (ap (λ (x : Sat). x.pubd) h.0)) b;
 }
 
 -- the worker of these seats
 abbrev pub working_of : Sat → CellsSeen → SeatIs (Entry LauncherEvent) → Working
-working_of s cells launcher = record { life = record { seen = seen_of s; cells = cells; board = s.board; launcher = launcher }; spare = s.spare }
+working_of s cells launcher = record { life = life_of s cells launcher; spare = s.spare }
 
 pub spare_made : (s now : Sat) (cells : CellsSeen) (launcher : SeatIs (Entry LauncherEvent)) (places : ℕ) → now ≡ record s { spare = places }
     → working_of now cells launcher ≡ record (working_of s cells launcher) { spare = places }

@@ -8,7 +8,7 @@ use Rattle.live_board.specs.Board.{AllUnder, most_drawn}
 use Rattle.live_board.specs.Seats.{MayDraw}
 use Rattle.live_board.specs.Seats.{SeatIs as BoardSeat}
 use Rattle.http_front.specs.declared.kept.Kept.{Kept}
-use Rattle.door_worker.specs.Replies.{Replied}
+use Rattle.http_front.specs.Replies.{Replied}
 use Rattle.door_worker.specs.Serving.{Serves}
 use Rattle.door_worker.specs.declared.serving.Serving.{Serving}
 use Rattle.door_worker.specs.declared.serving.Serving.TheVariants as serving

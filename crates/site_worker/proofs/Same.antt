@@ -11,11 +11,11 @@ use Rattle.monitor_model.specs.Seen.{Seen}
 use Rattle.monitor_model.specs.declared.verdict.Way.{Way}
 use Rattle.monitor_model.specs.declared.verdict.Way.TheVariants as way
 use Rattle.cell_locks.specs.Row.{CellsSeen}
-use Rattle.cell_locks.specs.declared.answer.Talked.{Talked}
-use Rattle.cell_locks.specs.declared.answer.Talked.TheVariants as talked
+use Rattle.service_cell.specs.declared.answer.Spoken.{Spoken}
+use Rattle.service_cell.specs.declared.answer.Spoken.TheVariants as spoken
 use Rattle.http_front.specs.declared.kept.Kept.{Kept}
 use Rattle.door_worker.specs.Asking.{Asked}
-use Rattle.door_worker.specs.Replies.{Replied}
+use Rattle.http_front.specs.Replies.{Replied}
 use Rattle.door_worker.specs.Serving.{Course, IsHandled, Serves, Handled, Refused, Starved, Broken}
 use Rattle.door_worker.specs.declared.handler.Outcome.{Outcome}
 use Rattle.door_worker.specs.declared.serving.Serving.{Serving}
@@ -68,17 +68,15 @@ same_reports C s k J K h = same_on J h.mid K (same_launcher h.events J h.mid h.o
 same_tends : (C : Config) (s : ℕ) (J K : Life) → Tends C s J K → SameWorker J K
 same_tends C s J K h = same_on J h.mid K (same_launcher h.events J h.mid h.only) (same_where _ h.mid K h.notes)
 
-same_talks : (C : Config) (n : ℕ) (asked : Asked) (s k : ℕ) (answer : Talked) (J K : Life) → Talks C n asked s k answer J K → SameWorker J K
+same_talks : (C : Config) (n : ℕ) (asked : Asked) (s k : ℕ) (answer : Spoken) (J K : Life) → Talks C n asked s k answer J K → SameWorker J K
 same_talks C n asked s k answer J K h = record { number_is = ap (λ (x : CellsSeen). x.number) h.only; launcher_is = same_seat J K h.launcher_is }
 
-same_follows : (C : Config) (s k : ℕ) (answer : Talked) (became : Outcome) (reply : Replied) (J K : Life) → Follows C s k answer became reply J K → SameWorker J K
-same_follows C s k (talked.Replied r) became reply J K (inl h) = same_at_once J K h.2
-same_follows C s k (talked.Replied r) became reply J K (inr h) = same_starves J K h.2
-same_follows C s k talked.Uncopied became reply J K h = same_starves J K h.1
-same_follows C s k (talked.Crashed why) became reply J K h = same_reports C s k J K h.1
-same_follows C s k (talked.Missed wanted is) became reply J K h = same_at_once J K h.1
-same_follows C s k (talked.Superseded i shown) became reply J K h = same_at_once J K h.1
-same_follows C s k talked.NoMemory became reply J K h = same_starves J K h.1
+same_follows : (C : Config) (s k : ℕ) (answer : Spoken) (became : Outcome) (reply : Replied) (J K : Life) → Follows C s k answer became reply J K → SameWorker J K
+same_follows C s k spoken.Reply became reply J K h = same_at_once J K h.2
+same_follows C s k (spoken.Crashed why) became reply J K h = same_reports C s k J K h.1
+same_follows C s k (spoken.Missed wanted is) became reply J K h = same_at_once J K h.1
+same_follows C s k (spoken.Superseded i shown) became reply J K h = same_at_once J K h.1
+same_follows C s k spoken.NoMemory became reply J K h = same_starves J K h.1
 
 same_goes : (C : Config) (n : ℕ) (asked : Asked) (goes : Way) (became : Outcome) (reply : Replied) (J K : Life) → Goes C n asked goes became reply J K → SameWorker J K
 same_goes C n asked way.NotOwned became reply J K h = same_at_once J K h.1
@@ -117,7 +115,7 @@ same_round wire C n number e f J K what h = same_on J h.mid K (same_serves wire 
 
 same_publishes : (J : Life) (t : ℕ) (content : List ℕ) (p : Publishing) (K : Life) → Publishes J t content p K → SameWorker J K
 same_publishes J t content (publishing.Edition n) K h = same_sees _ J K h.3
-same_publishes J t content publishing.EditionsSpent K h = same_sees _ J K h.2
+same_publishes J t content publishing.EditionsSpent K h = same_sees _ J K h.1
 same_publishes J t content publishing.NoMemory K (inl h) = same_starves J K h
 same_publishes J t content publishing.NoMemory K (inr h) = same_at_once J K h
 

@@ -6,7 +6,7 @@ use Rattle.okws_plan.specs.declared.configuration.Config.{Config}
 use Rattle.okws_outer.specs.Conns.{ConnWire}
 use Rattle.okws_outer.specs.Doors.{Entrance}
 use Rattle.http_front.specs.declared.kept.Kept.{Kept}
-use Rattle.door_worker.specs.Replies.{Replied}
+use Rattle.http_front.specs.Replies.{Replied}
 use Rattle.door_worker.specs.Serving.{Course, Attends, IsHandled, Serves, ServesOne, Handled, Refused, Starved, Broken}
 use Rattle.door_worker.specs.declared.serving.Serving.{Serving}
 use Rattle.door_worker.specs.declared.serving.Serving.TheVariants as serving

@@ -1,11 +1,9 @@
 -- What a worker does for a request. Number n launches.
-use Rattle.std.specs.Prelude.{◌≡◌, ◌⊎◌, ◌≤◌, ℕ, false, List, length, slice_index, IsSome}
+use Rattle.std.specs.Prelude.{◌≡◌, ◌⊎◌, ◌≤◌, ℕ, false, List, slice_index}
 use Rattle.okws_base.specs.declared.journal.Entry.{Entry}
-use Rattle.okws_base.specs.declared.limit.TheConstants.{LONGEST_FRAME}
 use Rattle.okws_plan.specs.declared.configuration.Config.{Config}
 use Rattle.okws_plan.specs.declared.event.OkdEvent.{OkdEvent}
 use Rattle.okws_plan.specs.declared.event.OkdEvent.TheVariants as okd
-use Rattle.http_text.specs.Status.{phrase}
 use Rattle.monitor_model.specs.declared.record.CellEvent.{CellEvent}
 use Rattle.monitor_model.specs.declared.record.End.TheVariants as end
 use Rattle.monitor_model.specs.declared.verdict.Way.{Way}
@@ -15,15 +13,14 @@ use Rattle.monitor_model.specs.Okd.{accept_verdict}
 use Rattle.monitor_model.specs.Seen.{AtOkd}
 use Rattle.service_cell.specs.Asking.{Asker}
 use Rattle.service_cell.specs.Steps.{crash_end}
-use Rattle.cell_locks.specs.declared.answer.Reply.{Reply}
-use Rattle.cell_locks.specs.declared.answer.Talked.{Talked}
-use Rattle.cell_locks.specs.declared.answer.Talked.TheVariants as talked
+use Rattle.service_cell.specs.declared.answer.Spoken.{Spoken}
+use Rattle.service_cell.specs.declared.answer.Spoken.TheVariants as spoken
 use Rattle.cell_locks.specs.Row.{seen_at, OnlyAt}
-use Rattle.cell_locks.specs.Turns.{HasTalked}
+use Rattle.cell_locks.specs.Turns.{EndsInReply, HasTalked}
 use Rattle.door_worker.specs.declared.handler.Outcome.{Outcome}
 use Rattle.door_worker.specs.declared.handler.Outcome.TheVariants as outcome
 use Rattle.door_worker.specs.Asking.{Asked}
-use Rattle.door_worker.specs.Replies.{Replied}
+use Rattle.http_front.specs.Replies.{Replied}
 use Rattle.site_worker.specs.Lives.{Life, Working, Spends, number_of, Rises, Sees, Starves}
 use Rattle.site_worker.specs.declared.worker.TheConstants.{TURN_ITEMS}
 use Rattle.site_worker.specs.Launching.{Reports}
@@ -40,49 +37,34 @@ abbrev pub asker_of : Config → Life → Asker
 asker_of C J = record { config = C; worker = number_of J; alone = false }
 
 -- A whole dialog in one turn at the cell of s, where incarnation k was wanted. The board showed no more than the worker has seen there then.
-pub record Talks (C : Config) (n : ℕ) (asked : Asked) (s k : ℕ) (answer : Talked) (J K : Life) : Type 0 where
+pub record Talks (C : Config) (n : ℕ) (asked : Asked) (s k : ℕ) (answer : Spoken) (J K : Life) : Type 0 where
   pub talked : HasTalked n (asker_of C J) (λ shown. shown ≤ slice_index K.board s) asked.head asked.content k s (seen_at J.cells s) J.seen answer (seen_at K.cells s) K.seen
   pub only : OnlyAt s J.cells K.cells
   pub launcher_is : K.launcher ≡ J.launcher
   pub board : Rises J.board K.board
 
--- The parts of a Reply that was copied.
-abbrev pub replied_of : Reply → Replied
-replied_of r = record { status = r.status; content_type = r.content_type; location = r.location; content = r.content }
-
--- A response may have these parts.
-pub record FitsResponse (r : Replied) : Type 0 where
-  pub status : IsSome (phrase r.status)
-  pub content_type : length r.content_type ≤ 255
-  pub location : length r.location ≤ 255
-  pub content : length r.content ≤ LONGEST_FRAME
-
 -- Where a dialog crashed that wanted incarnation k, that was booted among these events.
-abbrev pub WasBooted : Talked → ℕ → List CellEvent → Type 0
-WasBooted (talked.Replied r) k J = Unit {0}
-WasBooted talked.Uncopied k J = Unit {0}
-WasBooted (talked.Crashed why) k J = k ≤ last_booted J
-WasBooted (talked.Missed wanted is) k J = Unit {0}
-WasBooted (talked.Superseded i shown) k J = Unit {0}
-WasBooted talked.NoMemory k J = Unit {0}
+abbrev pub WasBooted : Spoken → ℕ → List CellEvent → Type 0
+WasBooted spoken.Reply k J = Unit {0}
+WasBooted (spoken.Crashed why) k J = k ≤ last_booted J
+WasBooted (spoken.Missed wanted is) k J = Unit {0}
+WasBooted (spoken.Superseded i shown) k J = Unit {0}
+WasBooted spoken.NoMemory k J = Unit {0}
 
--- What becomes of a request to incarnation k of s whose dialog was answered so, and what is done then: a Reply is at hand; a crash is told to the launcher; want of memory is noted.
-abbrev pub Follows : Config → ℕ → ℕ → Talked → Outcome → Replied → Life → Life → Type 0
-Follows C s k (talked.Replied r) became reply J K =
-    ((became ≡ outcome.Ended end.Reply) × (reply ≡ replied_of r) × (K ≡ J))
-    ⊎ ((FitsResponse (replied_of r) → ⊥) × (became ≡ outcome.NoMemory) × Starves J K)
-Follows C s k talked.Uncopied became reply J K = (became ≡ outcome.NoMemory) × Starves J K
-Follows C s k (talked.Crashed why) became reply J K = (became ≡ outcome.Ended (crash_end why)) × Reports C s k J K
-Follows C s k (talked.Missed wanted is) became reply J K = (became ≡ outcome.Missed) × (K ≡ J)
-Follows C s k (talked.Superseded i shown) became reply J K = (became ≡ outcome.Ended (end.Superseded shown)) × (K ≡ J)
-Follows C s k talked.NoMemory became reply J K = (became ≡ outcome.NoMemory) × Starves J K
+-- What becomes of a request to incarnation k of s whose dialog was answered so, and what is done then: the Reply in which the dialog ended is at hand; a crash is told to the launcher; want of memory is noted.
+abbrev pub Follows : Config → ℕ → ℕ → Spoken → Outcome → Replied → Life → Life → Type 0
+Follows C s k spoken.Reply became reply J K = (became ≡ outcome.Ended end.Reply) × EndsInReply reply (seen_at J.cells s) × (K ≡ J)
+Follows C s k (spoken.Crashed why) became reply J K = (became ≡ outcome.Ended (crash_end why)) × Reports C s k J K
+Follows C s k (spoken.Missed wanted is) became reply J K = (became ≡ outcome.Missed) × (K ≡ J)
+Follows C s k (spoken.Superseded i shown) became reply J K = (became ≡ outcome.Ended (end.Superseded shown)) × (K ≡ J)
+Follows C s k spoken.NoMemory became reply J K = (became ≡ outcome.NoMemory) × Starves J K
 
 -- What becomes of a request that okd sent this way.
 abbrev pub Goes : Config → ℕ → Asked → Way → Outcome → Replied → Life → Life → Type 0
 Goes C n asked way.NotOwned became reply J K = (became ≡ outcome.NotOwned) × (K ≡ J)
 Goes C n asked (way.Down s) became reply J K = (became ≡ outcome.Down) × (K ≡ J)
 Goes C n asked (way.To s k) became reply J K =
-    (answer : Talked) × (M : Life) × Talks C n asked s k answer J M × Follows C s k answer became reply M K
+    (answer : Spoken) × (M : Life) × Talks C n asked s k answer J M × Follows C s k answer became reply M K
 
 -- What a worker does for a request, from what it has seen before to what it has seen then: it asks okd and goes that way; or memory was refused before.
 abbrev pub Handles : Config → ℕ → Life → Asked → Outcome → Replied → Life → Type 0

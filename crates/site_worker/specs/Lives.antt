@@ -4,18 +4,26 @@ use Rattle.okws_base.specs.declared.journal.Entry.{Entry}
 use Rattle.okws_base.specs.declared.limit.TheConstants.{GREATEST_RETRY}
 use Rattle.okws_plan.specs.declared.configuration.Config.{Config}
 use Rattle.okws_plan.specs.declared.event.LauncherEvent.{LauncherEvent}
+use Rattle.okws_plan.specs.declared.event.PubdEvent.{PubdEvent}
 use Rattle.monitor_model.specs.declared.record.Own.TheVariants as own
 use Rattle.monitor_model.specs.Seen.{Seen, noted}
 use Rattle.turn_lock.specs.Seats.{TurnIs, SeatIs}
 use Rattle.turn_lock.specs.Rows.{RestsAt}
 use Rattle.cell_locks.specs.Row.{CellsSeen}
+use Rattle.site_locks.specs.Calls.{KeepsPasts}
+use Rattle.site_locks.specs.Sat.{Sat, seen_of}
 
--- What it has seen of each column at its own last entry there, with its own items; what it has seen of each cell and of each service on the board; and its seat at the launcher's lock.
+-- What it has seen of each column at its own last entry there, with its own items; what it has seen of each cell, of each service on the board, and of pubd in all, also where it entered nothing; and its seat at the launcher's lock.
 pub record Life : Type 0 where
   pub seen : Seen
   pub cells : CellsSeen
   pub board : List ℕ
+  pub pubd : List (Entry PubdEvent)
   pub launcher : SeatIs (Entry LauncherEvent)
+
+-- The same, of its seats at the columns, at the cells and at the launcher's lock.
+abbrev pub life_of : Sat → CellsSeen → SeatIs (Entry LauncherEvent) → Life
+life_of s cells launcher = record { seen = seen_of s; cells = cells; board = s.board; pubd = s.pubd; launcher = launcher }
 
 -- A worker: what it has seen and done, and how many items it may note without memory.
 pub record Working : Type 0 where
@@ -34,12 +42,13 @@ number_of J = J.cells.number
 abbrev pub Rises : List ℕ → List ℕ → Type 0
 Rises old new = (s k : ℕ) → k ≤ slice_index old s → k ≤ slice_index new s
 
--- The worker has seen this of the columns, and may have seen more of the board; everything else is the same.
+-- The worker has seen this of the columns, and may have seen more of the board, and of pubd in all; everything else is the same.
 pub record Sees (now : Seen) (J K : Life) : Type 0 where
   pub seen_is : K.seen ≡ now
   pub cells_is : K.cells ≡ J.cells
   pub launcher_is : K.launcher ≡ J.launcher
   pub board : Rises J.board K.board
+  pub pubd : KeepsPasts J.pubd K.pubd
 
 -- Want of memory was noted.
 abbrev pub Starves : Life → Life → Type 0

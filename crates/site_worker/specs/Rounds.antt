@@ -5,7 +5,7 @@ use Rattle.okws_outer.specs.Conns.{ConnWire}
 use Rattle.okws_outer.specs.Doors.{Entrance}
 use Rattle.live_board.specs.Board.{AllUnder}
 use Rattle.http_front.specs.declared.kept.Kept.{Kept}
-use Rattle.door_worker.specs.Replies.{Replied}
+use Rattle.http_front.specs.Replies.{Replied}
 use Rattle.door_worker.specs.Serving.{Serves}
 use Rattle.door_worker.specs.declared.serving.Serving.{Serving}
 use Rattle.door_worker.specs.declared.serving.Serving.TheVariants as serving

@@ -16,13 +16,13 @@ use Rattle.okld_launch.specs.declared.answer.Launched.TheVariants as launched
 use Rattle.site_worker.specs.Lives.{Life, number_of, Sees, Starves}
 use Rattle.site_worker.specs.Launching.{Asks}
 
--- A publication of template t: an edition is entered at pubd, and is the next one there; where all are spent, nothing is. Want of memory is noted, or there was none even for that, and nothing was done.
+-- A publication of template t: an edition is entered at pubd, and is the next one there; where all are spent in what the worker then has seen of pubd, nothing is. Want of memory is noted, or there was none even for that, and nothing was done.
 abbrev pub Publishes : Life → ℕ → List ℕ → Publishing → Life → Type 0
 Publishes J t content (publishing.Edition n) K =
     (before : List (Entry PubdEvent)) × (published.Edition n ≡ publish_at before (Some t) content)
     × AtPubd (number_of J) (pubd.Publish t content) J.seen before K.seen × Sees K.seen J K
 Publishes J t content publishing.EditionsSpent K =
-    (before : List (Entry PubdEvent)) × (published.EditionsSpent ≡ publish_at before (Some t) content) × Sees J.seen J K
+    (published.EditionsSpent ≡ publish_at K.pubd (Some t) content) × Sees J.seen J K
 Publishes J t content publishing.NoMemory K = Starves J K ⊎ (K ≡ J)
 
 -- What an operator is told of a launch.

@@ -9,7 +9,7 @@ use crate::worker::Worker;
 use admin_console::reader::Reader;
 use admin_console::step::{Stepped, step};
 use cell_locks::named::CellNames;
-use named_columns::named::Backed;
+use okld_launch::named::Staffed;
 use okws_outer::children::Children;
 use okws_outer::conn::Conn;
 use okws_outer::gate::Gate;
@@ -32,7 +32,7 @@ impl<
     'a,
     R: Wait,
     G: Gate,
-    N: Backed,
+    N: Staffed,
     J: Site,
     C: CellNames,
     K: Keeper,

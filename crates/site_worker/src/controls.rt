@@ -7,8 +7,8 @@ use crate::worker::{TURN_ITEMS, Worker};
 use admin_console::controls::{Controls, Publishing, Relaunching};
 use cell_locks::named::CellNames;
 use monitor_model::verdict::Published;
-use named_columns::named::Backed;
 use okld_launch::answer::Launched;
+use okld_launch::named::Staffed;
 use okws_base::items::Items;
 use okws_outer::children::Children;
 use okws_outer::gate::Gate;
@@ -33,7 +33,7 @@ impl<
     'a,
     R: Wait,
     G: Gate,
-    N: Backed,
+    N: Staffed,
     J: Site,
     C: CellNames,
     K: Keeper,

@@ -9,11 +9,11 @@ ghost use Rattle.site_worker.specs.declared.worker.TheConstants.{TURN_ITEMS};
 
 use crate::worker::{ROUND_ITEMS, Worker};
 use cell_locks::named::CellNames;
-use door_worker::reply::Reply;
 use door_worker::serving::{Serving, serve_one};
 use http_front::kept::Kept;
+use http_front::reply::Reply;
 use live_board::Board;
-use named_columns::named::Backed;
+use okld_launch::named::Staffed;
 use okws_outer::children::Children;
 use okws_outer::door::Door;
 use okws_outer::gate::{Gate, Point};
@@ -55,7 +55,7 @@ impl<
     'a,
     R: Wait,
     G: Gate,
-    N: Backed,
+    N: Staffed,
     J: Site,
     C: CellNames,
     K: Keeper,

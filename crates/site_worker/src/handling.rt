@@ -2,31 +2,34 @@
 
 ghost use Rattle.std.specs.Prelude.{◌≡◌, ◌<◌, ◌≤◌, ◌+◌, ◌↔◌, ℕ, IfOk, IfSome, IsTrue, OnErr, length};
 ghost use Rattle.okws_base.specs.declared.limit.TheConstants.{LONGEST_FRAME};
+ghost use Rattle.http_front.specs.Replies.{Replied};
 ghost use Rattle.http_front.specs.Requests.{HasTarget, path_text};
 ghost use Rattle.monitor_model.specs.Script.{goes_of};
+ghost use Rattle.service_cell.specs.Steps.{crash_end};
 ghost use Rattle.cell_locks.specs.Row.{seen_at};
+ghost use Rattle.cell_locks.specs.Turns.{GivesLast};
 ghost use Rattle.door_worker.specs.Asking.{Asked, asked_by};
 ghost use Rattle.door_worker.specs.declared.handler.Outcome.TheVariants as outcome;
 ghost use Rattle.site_worker.specs.Lives.{Sees, Spends, Starves};
 ghost use Rattle.site_worker.specs.Handling.{Accepts, Talks, WasBooted, Follows, Goes};
 ghost use Rattle.site_worker.specs.declared.worker.TheConstants.{TURN_ITEMS};
 
-use crate::replying::{end_of, take_reply};
 use crate::worker::{TURN_ITEMS, Worker};
-use cell_locks::answer::Talked;
 use cell_locks::named::CellNames;
 use door_worker::handler::{Handler, Outcome};
-use door_worker::reply::Reply;
 use http_front::reading::Request;
+use http_front::reply::Reply;
 use monitor_model::record::End;
 use monitor_model::verdict::Way;
-use named_columns::named::Backed;
+use okld_launch::named::Staffed;
+use okws_base::crash::Cause;
 use okws_base::items::{Items, copies};
 use okws_base::limit::LONGEST_FRAME;
 use okws_outer::children::Children;
 use okws_outer::gate::Gate;
 use okws_outer::keeper::Keeper;
 use okws_outer::stream::Sink;
+use service_cell::answer::Spoken;
 use site_locks::named::Site;
 use std::alloc::AllocError;
 use std::sync::Wait;
@@ -40,11 +43,24 @@ fn fits_frame(request: &Request) -> bool
     head <= LONGEST_FRAME - 9 && content <= LONGEST_FRAME - 9 - head
 }
 
+/// The end of a dialog that crashed by this cause.
+fn end_of(cause: Cause) -> End
+    ensures { result ≡ crash_end cause }
+{
+    match cause {
+        Cause::BadFrame => End::BadFrame,
+        Cause::Ended => End::Ended,
+        Cause::LinkFault => End::LinkFault,
+        Cause::FrameLimit => End::FrameLimit,
+        Cause::Starved => End::Starved,
+    }
+}
+
 impl<
     'a,
     R: Wait,
     G: Gate,
-    N: Backed,
+    N: Staffed,
     J: Site,
     C: CellNames,
     K: Keeper,
@@ -74,18 +90,21 @@ impl<
         Outcome::NoMemory
     }
 
-    // A whole dialog with an incarnation, in one turn at its cell.
+    // A whole dialog with an incarnation, in one turn at its cell. Where the service replied, the Reply is
+    // filled.
     fn dialog(
         &mut self,
         service: u16,
         incarnation: u32,
         head: Items<u8>,
         content: Items<u8>,
-    ) -> Talked
+        reply: &mut Reply,
+    ) -> Spoken
         requires service { service < length N.site.services }
         requires counted { 0 < incarnation }
         requires short { length head + length content + 9 ≤ LONGEST_FRAME }
         ensures talks { (asked : Asked) → asked.head ≡ head → asked.content ≡ content → Talks N.site N.launcher asked service incarnation result self.old.life self.new.life }
+        ensures gives { GivesLast result reply.new (seen_at self.new.life.cells service) }
         ensures booted { WasBooted result incarnation (seen_at self.new.life.cells service) }
         ensures spare { self.new.spare ≡ self.old.spare }
     {
@@ -99,39 +118,28 @@ impl<
             content,
             incarnation,
             &mut self.hands,
+            reply,
         )
     }
 
     // What became of a request whose dialog was answered so. The cell's turn was given back.
-    fn conclude(
-        &mut self,
-        service: u16,
-        incarnation: u32,
-        talked: Talked,
-        reply: &mut Reply,
-    ) -> Outcome
+    fn conclude(&mut self, service: u16, incarnation: u32, spoken: Spoken) -> Outcome
         requires service { service < length N.site.services }
         requires counted { 0 < incarnation }
-        requires booted { WasBooted talked incarnation (seen_at self.old.life.cells service) }
+        requires booted { WasBooted spoken incarnation (seen_at self.old.life.cells service) }
         requires spare { TURN_ITEMS ≤ self.old.spare }
-        ensures follows { Follows N.site service incarnation talked result reply.new self.old.life self.new.life }
+        ensures follows { (reply : Replied) → GivesLast spoken reply (seen_at self.old.life.cells service) → Follows N.site service incarnation spoken result reply self.old.life self.new.life }
         ensures spends { Spends TURN_ITEMS self.old self.new }
     {
-        match talked {
-            Talked::Replied(copy) => {
-                if take_reply(reply, &copy) {
-                    Outcome::Ended(End::Reply)
-                } else {
-                    self.no_memory()
-                }
-            }
-            Talked::Uncopied | Talked::NoMemory => self.no_memory(),
-            Talked::Crashed(cause) => {
+        match spoken {
+            Spoken::Reply => Outcome::Ended(End::Reply),
+            Spoken::Crashed(cause) => {
                 self.report(service, incarnation);
                 Outcome::Ended(end_of(cause))
             }
-            Talked::Missed { .. } => Outcome::Missed,
-            Talked::Superseded { shown, .. } => Outcome::Ended(End::Superseded(shown)),
+            Spoken::Missed { .. } => Outcome::Missed,
+            Spoken::Superseded { shown, .. } => Outcome::Ended(End::Superseded(shown)),
+            Spoken::NoMemory => self.no_memory(),
         }
     }
 
@@ -151,8 +159,8 @@ impl<
         ensures spends { Spends TURN_ITEMS self.old self.new }
     {
         let Request { head, content, .. } = request;
-        let talked = self.dialog(service, incarnation, head, content);
-        self.conclude(service, incarnation, talked, reply)
+        let spoken = self.dialog(service, incarnation, head, content, reply);
+        self.conclude(service, incarnation, spoken)
     }
 }
 
@@ -160,7 +168,7 @@ impl<
     'a,
     R: Wait,
     G: Gate,
-    N: Backed,
+    N: Staffed,
     J: Site,
     C: CellNames,
     K: Keeper,

@@ -13,9 +13,9 @@ ghost use Rattle.site_worker.specs.declared.worker.TheConstants.{TURN_ITEMS};
 use crate::worker::Worker;
 use cell_locks::named::CellNames;
 use cell_locks::note::CellNote;
-use named_columns::named::Backed;
 use okld_launch::answer::{Crashed, Launched, Tended};
 use okld_launch::entered::Entered;
+use okld_launch::named::Staffed;
 use okld_launch::turns::{relaunch_by, report_by, tend_by};
 use okws_outer::children::Children;
 use okws_outer::gate::Gate;
@@ -58,7 +58,7 @@ impl<
     'a,
     R: Wait,
     G: Gate,
-    N: Backed,
+    N: Staffed,
     J: Site,
     C: CellNames,
     K: Keeper,

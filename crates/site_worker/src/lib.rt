@@ -8,5 +8,4 @@ pub mod controls;
 pub mod door;
 pub mod handling;
 mod launching;
-mod replying;
 pub mod worker;

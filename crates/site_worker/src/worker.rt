@@ -6,7 +6,7 @@ ghost use Rattle.monitor_model.specs.declared.record.Own.TheVariants as own;
 ghost use Rattle.turn_lock.specs.Rows.{RestsAt};
 ghost use Rattle.site_locks.specs.Sat.{seen_of};
 ghost use Rattle.site_worker.specs.Launching.{with_launches};
-ghost use Rattle.site_worker.specs.Lives.{Spends, Starves, StarvesWhere};
+ghost use Rattle.site_worker.specs.Lives.{Spends, Starves, StarvesWhere, life_of};
 
 use cell_locks::locks::CellLocks;
 use cell_locks::named::CellNames;
@@ -15,6 +15,7 @@ use monitor_model::record::Own;
 use named_columns::named::Backed;
 use okld_launch::entered::{Entered, MOST_ENTERED};
 use okld_launch::launcher::Launcher;
+use okld_launch::named::Staffed;
 use okws_outer::children::Children;
 use okws_outer::gate::Gate;
 use okws_outer::keeper::Keeper;
@@ -54,7 +55,7 @@ pub struct Shared<
     'a,
     R: Wait,
     G: Gate,
-    N: Backed,
+    N: Staffed,
     J: Site,
     C: CellNames,
     K: Keeper,
@@ -75,7 +76,7 @@ pub struct Worker<
     'a,
     R: Wait,
     G: Gate,
-    N: Backed,
+    N: Staffed,
     J: Site,
     C: CellNames,
     K: Keeper,
@@ -94,23 +95,22 @@ pub struct Worker<
     pub(crate) at_launcher: Seat<Launcher<N, J, C, K, S, F>>,
 }
 
-impl<'a, R: Wait, G: Gate, N: Backed, J: Site, C: CellNames, K: Keeper, S: Sink, F: Children> Model
+impl<'a, R: Wait, G: Gate, N: Staffed, J: Site, C: CellNames, K: Keeper, S: Sink, F: Children> Model
     for Worker<'a, R, G, N, J, C, K, S, F> {
-    ghost use Rattle.site_locks.specs.Sat.{seen_of};
-    ghost use Rattle.site_worker.specs.Lives.{Working, IsWorker};
+    ghost use Rattle.site_worker.specs.Lives.{Working, IsWorker, life_of};
 
     ghost Value = { Working };
 
-    ghost view = { λ w. record { life = record { seen = seen_of w.hands; cells = w.at_cells; board = w.hands.board; launcher = w.at_launcher }; spare = w.hands.spare } };
+    ghost view = { λ w. record { life = life_of w.hands w.at_cells w.at_launcher; spare = w.hands.spare } };
 
-    ghost invariant = { λ w. IsWorker N.site w.services w.hands.number w.launcher.now (record { seen = seen_of w.hands; cells = w.at_cells; board = w.hands.board; launcher = w.at_launcher }) };
+    ghost invariant = { λ w. IsWorker N.site w.services w.hands.number w.launcher.now (life_of w.hands w.at_cells w.at_launcher) };
 }
 
 impl<
     'a,
     R: Wait,
     G: Gate,
-    N: Backed,
+    N: Staffed,
     J: Site,
     C: CellNames,
     K: Keeper,
@@ -132,7 +132,7 @@ impl<
         requires few { length N.site.services ≤ MOST_SERVICES }
         requires retry { N.site.retry ≤ GREATEST_RETRY }
         requires rest { RestsAt shared.launcher.now at_launcher }
-        ensures life { result.life ≡ record { seen = seen_of seats; cells = at_cells; board = seats.board; launcher = at_launcher } }
+        ensures life { result.life ≡ life_of seats at_cells at_launcher }
         ensures spare { result.spare ≡ seats.spare }
     {
         let Shared {
@@ -165,7 +165,7 @@ impl<
         CellSeats<N, C, F::Link>,
         Seat<Launcher<N, J, C, K, S, F>>,
     )
-        ensures columns { (seen_of result.0 ≡ self.entry.life.seen) × (result.0.board ≡ self.entry.life.board) }
+        ensures columns { (seen_of result.0 ≡ self.entry.life.seen) × (result.0.board ≡ self.entry.life.board) × (result.0.pubd ≡ self.entry.life.pubd) }
         ensures cells { result.1 ≡ self.entry.life.cells }
         ensures launcher { result.2 ≡ self.entry.life.launcher }
         ensures number { result.0.number ≡ self.entry.life.cells.number }

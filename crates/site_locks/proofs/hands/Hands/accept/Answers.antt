@@ -1,6 +1,6 @@
 use Rattle.std.proofs.lemmas.Result.{IfOk-weaker, on_err_weaker}
 use Rattle.okws_plan.specs.declared.event.OkdEvent.TheVariants as event
-use Rattle.site_locks.proofs.Asking.{enters_okd, sees_okd, of_result}
+use Rattle.site_locks.proofs.Asking.{enters_okd, okd_keeps, okd_seen_keeps, sees_okd, of_result}
 use Rattle.site_locks.proofs.Seeing.{at_okd, okd_same}
 use Rattle.site_locks.proofs.hands.Hands.accept.Goals as goal
 
@@ -12,3 +12,6 @@ returns-clause-err g c = rw (← c.self.view_is) (on_err_weaker c.accept.result 
 
 pub returns-clause-same : goal.returns-clause-same
 returns-clause-same g c = rw (← c.self.view_is) (of_result c.accept.result _ _ _ c.accept.ensures.ok c.accept.ensures.err (λ way q. enters_okd (event.Accept c.args.path) q.0 c.self.inside.seats c.accept.new.self q.2) (λ q. sees_okd q.0 c.self.inside.seats c.accept.new.self q.1))
+
+pub returns-clause-pubd : goal.returns-clause-pubd
+returns-clause-pubd g c = rw (← c.self.view_is) (of_result c.accept.result _ _ _ c.accept.ensures.ok c.accept.ensures.err (λ way q. okd_keeps (event.Accept c.args.path) q.0 c.self.inside.seats c.accept.new.self q.2) (λ q. okd_seen_keeps q.0 c.self.inside.seats c.accept.new.self q.1))

@@ -1,5 +1,5 @@
 -- What a turn at the launcher enters: its first event, and that nothing else in it was asked for by the operator.
-use Rattle.std.proofs.Common.{◌≡◌, inl, inr, ℕ, zero, suc, ◌+◌, Bool, true, false, List, [], ◌∷◌, ◌++◌, map, refl, sym, ap, ◌∙◌, subst}
+use Rattle.std.proofs.Common.{◌≡◌, inl, inr, ℕ, zero, suc, ◌+◌, Bool, false, List, [], ◌∷◌, ◌++◌, map, refl, sym, ap, ◌∙◌, subst}
 use Rattle.std.proofs.lemmas.List.{append_cancel_right}
 use Rattle.std.proofs.lemmas.List.Folds.{list_any-append}
 use Rattle.std.specs.List.{list_any}
@@ -12,7 +12,7 @@ use Rattle.okws_outer.specs.Families.{Family}
 use Rattle.monitor_model.specs.Launcher.{begun}
 use Rattle.monitor_model.specs.Outside.{launcher_order}
 use Rattle.okld_launch.specs.Entering.{entries_of}
-use Rattle.okld_launch.specs.Going.{Ends, Fell, Goes, GoesCrashed, GoesTended, Tends, with_begun, with_entry, with_failed}
+use Rattle.okld_launch.specs.Going.{Ends, Fell, Goes, GoesAsked, GoesCrashed, GoesTended, Tends, with_begun, with_entry}
 use Rattle.okld_launch.specs.Launchers.{LauncherIs}
 use Rattle.okld_launch.specs.declared.answer.Launched.{Launched}
 use Rattle.okld_launch.specs.declared.answer.Launched.TheVariants as launched
@@ -83,11 +83,24 @@ pub record Entered (first : LauncherEvent) (events : List LauncherEvent) : Type 
   pub more : List LauncherEvent
   pub is : events ≡ more ++ first ∷ []
 
+-- what was entered behind a first event, if that was, of which nothing was asked for
+pub record Behind (first : LauncherEvent) (events : List LauncherEvent) : Type 0 where
+  pub more : List LauncherEvent
+  pub is : events ≡ more ++ first ∷ []
+  pub unasked : list_any is_asked more ≡ false
+
+adds_behind : (w : ℕ) (e : LauncherEvent) (events : List LauncherEvent) (J K : List (Entry LauncherEvent)) → K ≡ entries_of w events ++ J → Adds w (with_entry w e J) K → Behind e events
+adds_behind w e events J K enters adds = record {
+  more = adds.events;
+  is = told_events w events (adds.events ++ e ∷ []) J K enters (adds.is ∙ behind w adds.events e J);
+  unasked = adds.unasked;
+}
+
 entered_behind : (w : ℕ) (e : LauncherEvent) (events : List LauncherEvent) (J K : List (Entry LauncherEvent)) → is_asked e ≡ false → K ≡ entries_of w events ++ J → Adds w (with_entry w e J) K
     → Entered e events × (list_any is_asked events ≡ false)
 entered_behind w e events J K unasked enters adds =
-    let is : events ≡ adds.events ++ e ∷ [] = told_events w events (adds.events ++ e ∷ []) J K enters (adds.is ∙ behind w adds.events e J) in
-    (record { more = adds.events; is = is }, subst (λ (xs : List LauncherEvent). list_any is_asked xs ≡ false) (sym is) (unasked_both adds.events e adds.unasked unasked))
+    let it : Behind e events = adds_behind w e events J K enters adds in
+    (record { more = it.more; is = it.is }, subst (λ (xs : List LauncherEvent). list_any is_asked xs ≡ false) (sym it.is) (unasked_both it.more e it.unasked unasked))
 
 -- ---- a crash
 
@@ -132,3 +145,16 @@ tended_unasked C w s old (tended.Dead n) new events enters (inr h) = tends_unask
 tended_unasked C w s old tended.Spent new events enters h = tends_unasked C w s old launched.Spent new events enters h
 tended_unasked C w s old tended.NoMemory new events enters (inl h) = unasked_of w old.journal.past new.journal.past events enters (none w old.journal.past new.journal.past h)
 tended_unasked C w s old tended.NoMemory new events enters (inr h) = tends_unasked C w s old launched.NoMemory new events enters h
+
+-- ---- what an operator asks for
+
+-- the first event of a turn that an operator asked for is the Asked, and no other is one; or nothing was entered, since all incarnations of the service were begun or memory was refused
+abbrev pub BeginsWithAsked : ℕ → List LauncherEvent → Launched → Type 0
+BeginsWithAsked s events answer = (((answer ≡ launched.NoMemory) ⊎ (answer ≡ launched.Spent)) × (events ≡ [])) ⊎ Behind (event.Asked s) events
+
+pub asked_entered : (C : Config) (w s : ℕ) (J : List (Entry LauncherEvent)) (f : Family) (events : List LauncherEvent) (answer : Launched) (l : LauncherIs) → l.journal.past ≡ entries_of w events ++ J
+    → GoesAsked C w s J f answer l → BeginsWithAsked s events answer
+asked_entered C w s J f events answer l enters (inl h) = inl (inl h.0, told_events w events [] J l.journal.past enters h.1)
+asked_entered C w s J f events answer l enters (inr (inl h)) = inl (inr h.0, told_events w events [] J l.journal.past enters h.2)
+asked_entered C w s J f events answer l enters (inr (inr h)) =
+    inr (adds_behind w (event.Asked s) events J l.journal.past enters (goes_adds C w s (with_entry w (event.Asked s) J) f answer l h))

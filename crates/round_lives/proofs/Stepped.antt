@@ -1,8 +1,8 @@
 -- Each thing that a worker does is pieces of its list.
-use Rattle.std.proofs.Common.{◌≡◌, inl, inr, ℕ, ◌+◌, ◌≤◌, Bool, true, false, not, List, [], ◌∷◌, ◌++◌, ◌==◌, length, map, refl, sym, ap, ◌∙◌, subst, eq-eqb, Option, Some, None}
+use Rattle.std.proofs.Common.{◌≡◌, ℕ, ◌≤◌, Bool, true, false, not, List, [], ◌∷◌, ◌++◌, map, refl, sym, ap, ◌∙◌, subst, eq-eqb, Option, Some, None}
 use Rattle.std.proofs.lemmas.List.Folds.{list_any-append}
 use Rattle.std.specs.List.{list_any}
-use Rattle.std.specs.Prelude.{◌⊎◌, ◌||◌, ◌&&◌, slice_index, slice_set}
+use Rattle.std.specs.Prelude.{◌||◌, slice_index, slice_set}
 use Rattle.okws_base.specs.Turns.{GrowsBy}
 use Rattle.okws_base.specs.declared.journal.Entry.{Entry}
 use Rattle.okws_plan.specs.declared.configuration.Config.{Config}
@@ -13,44 +13,30 @@ use Rattle.okws_plan.specs.declared.event.PubdEvent.TheVariants as pubd
 use Rattle.monitor_model.specs.declared.record.CellEvent.{CellEvent}
 use Rattle.monitor_model.specs.declared.record.Dialog.{Dialog}
 use Rattle.monitor_model.specs.declared.record.End.{End}
-use Rattle.monitor_model.specs.declared.record.End.TheVariants as end
-use Rattle.monitor_model.specs.declared.record.Own.{Own}
 use Rattle.monitor_model.specs.declared.record.Own.TheVariants as own
-use Rattle.monitor_model.specs.declared.verdict.Way.{Way}
 use Rattle.monitor_model.specs.declared.verdict.Way.TheVariants as way
 use Rattle.monitor_model.specs.Cell.{dialogs_of}
 use Rattle.monitor_model.specs.Causes.{is_crash}
-use Rattle.monitor_model.specs.Okd.{accept_verdict}
 use Rattle.monitor_model.specs.Seen.{Seen, AtOkd, AtPubd, noted}
-use Rattle.monitor_model.specs.Worker.{Outcome, Unowned, IsDown, IsMissed, WantsMemory, Spoke, Piece, Accepted, Published, Launched, Wants}
-use Rattle.service_cell.specs.Steps.{crash_end}
+use Rattle.monitor_model.specs.Worker.{Outcome, Spoke, Piece, Accepted, Published, Launched, Wants}
 use Rattle.service_cell.specs.declared.answer.Spoken.{Spoken}
-use Rattle.service_cell.specs.declared.answer.Spoken.TheVariants as spoken
 use Rattle.site_cell.specs.Held.{by_event}
-use Rattle.cell_locks.specs.Row.{CellsSeen, OnlyAt, seen_at}
-use Rattle.cell_locks.specs.Turns.{HasTalked, spoken_of}
-use Rattle.cell_locks.specs.declared.answer.Talked.{Talked}
-use Rattle.cell_locks.specs.declared.answer.Talked.TheVariants as talked
+use Rattle.cell_locks.specs.Row.{CellsSeen, seen_at}
 use Rattle.door_worker.specs.Asking.{Asked}
-use Rattle.door_worker.specs.Replies.{Replied}
-use Rattle.door_worker.specs.declared.handler.Outcome.{Outcome as Told}
-use Rattle.okld_launch.specs.declared.answer.Crashed.{Crashed}
-use Rattle.okld_launch.specs.declared.answer.Crashed.TheVariants as crashed
 use Rattle.okld_launch.specs.declared.answer.Launched.{Launched as Launch}
-use Rattle.site_worker.specs.Handling.{Accepts, Follows, Goes, Handles, Talks, asker_of}
-use Rattle.site_worker.specs.Launching.{Asks, OnlyLauncher, Reports, Tends, crash_starved, with_launches}
+use Rattle.site_worker.specs.Handling.{Accepts, Talks, asker_of}
+use Rattle.site_worker.specs.Launching.{Asks, OnlyLauncher, with_launches}
 use Rattle.site_worker.specs.Lives.{Life, Sees, Starves, StarvesWhere, number_of}
-use Rattle.worker_lives.specs.Going.{Sights, GoesOn, cell_seen, entries_by}
-use Rattle.worker_lives.specs.Leading.{GoesBy, spoken as spoken_in}
-use Rattle.worker_lives.specs.Listing.{are_told, first_item, outcome_is_told, piece_is_told}
-use Rattle.worker_lives.specs.Talking.{Had, SpokeLast, Tells, with_want}
+use Rattle.worker_lives.specs.Going.{GoesOn, entries_by}
+use Rattle.worker_lives.specs.Listing.{are_told, outcome_is_told}
+use Rattle.worker_lives.specs.Talking.{Had, SpokeLast, with_want}
 use Rattle.worker_lives.proofs.Others.{others_leave_dialogs}
-use Rattle.worker_lives.proofs.Steps.{accepts_are_pieces, goings_join, publications_are_pieces, rests_are_no_pieces, turns_are_pieces, wants_are_pieces}
+use Rattle.worker_lives.proofs.Steps.{goings_join, publications_are_pieces, rests_are_no_pieces, turns_are_pieces, wants_are_pieces}
 use Rattle.worker_lives.proofs.Talked.{dialogs_are_outcomes, visits_are_pieces}
 use Rattle.worker_lives.proofs.Told.{told_both}
 use Rattle.round_lives.specs.Living.{IsOf, LivesOn, sights_of}
 use Rattle.round_lives.specs.Laws.{is_accepted, is_order}
-use Rattle.round_lives.proofs.Entered.{BeginsWithCrash, Entered, crash_entered, is_asked, tended_unasked}
+use Rattle.round_lives.proofs.Entered.{is_asked}
 
 -- ---- what lives on
 
@@ -63,6 +49,10 @@ lives_then C w forbidden I J K i j = record {
   allowed = list_any-append forbidden j.pieces i.pieces ∙ ap (λ (b : Bool). b || list_any forbidden i.pieces) j.allowed ∙ i.allowed;
 }
 
+pub lives_then_by : (C : Config) (w : ℕ) (forbidden : Piece → Bool) (I J K : Life) (i : LivesOn C w forbidden I J) (j : LivesOn C w forbidden J K) → (lives_then C w forbidden I J K i j).pieces ≡ j.pieces ++ i.pieces
+unfolding lives_then
+lives_then_by C w forbidden I J K i j = refl
+
 pub same_lives : (C : Config) (w : ℕ) (forbidden : Piece → Bool) (J K : Life) → IsOf w J → K ≡ J → LivesOn C w forbidden J K
 same_lives C w forbidden J K of is = subst (LivesOn C w forbidden J) (sym is) (record {
   pieces = [];
@@ -74,13 +64,13 @@ same_lives C w forbidden J K of is = subst (LivesOn C w forbidden J) (sym is) (r
 
 -- ---- what was seen of the columns alone
 
-sees_sights : (J K : Life) (now : Seen) → Sees now J K → sights_of K ≡ record (sights_of J) { columns = now }
+pub sees_sights : (J K : Life) (now : Seen) → Sees now J K → sights_of K ≡ record (sights_of J) { columns = now }
 sees_sights J K now h =
     ap (λ (S : Seen). record (sights_of K) { columns = S }) h.seen_is
     ∙ ap (λ (a : _). record { columns = now; launcher = a.seen; cells = K.cells.cells }) h.launcher_is
     ∙ ap (λ (c : CellsSeen). record { columns = now; launcher = J.launcher.seen; cells = c.cells }) h.cells_is
 
-sees_of : (w : ℕ) (J K : Life) (now : Seen) → Sees now J K → IsOf w J → IsOf w K
+pub sees_of : (w : ℕ) (J K : Life) (now : Seen) → Sees now J K → IsOf w J → IsOf w K
 sees_of w J K now h of = record {
   number_is = ap (λ (c : CellsSeen). c.number) h.cells_is ∙ of.number_is;
   seat_is = ap (λ (a : _). a.number) h.launcher_is ∙ of.seat_is;
@@ -115,6 +105,11 @@ publishes_lives C w forbidden J K t content before allowed of at h = record {
   allowed = rw (allowed) refl;
 }
 
+pub publishes_lives_by : (C : Config) (w : ℕ) (forbidden : Piece → Bool) (J K : Life) (t : ℕ) (content : List ℕ) (before : _) (allowed : forbidden (Published t content) ≡ false) (of : IsOf w J)
+    (at : AtPubd (number_of J) (pubd.Publish t content) J.seen before K.seen) (h : Sees K.seen J K) → (publishes_lives C w forbidden J K t content before allowed of at h).pieces ≡ Published t content ∷ []
+unfolding publishes_lives
+publishes_lives_by C w forbidden J K t content before allowed of at h = refl
+
 -- ---- the launcher's turns
 
 pub turns_told : (next : Option Piece) (events : List LauncherEvent) → are_told next (map Launched events) ≡ true
@@ -122,13 +117,13 @@ turns_told next [] = refl
 turns_told next (e ∷ events) = turns_told (Some (Launched e)) events
 
 -- what a turn entered was noted
-turned_of : (w : ℕ) (events : List LauncherEvent) (J K : Life) → IsOf w J → OnlyLauncher events J K → IsOf w K
+pub turned_of : (w : ℕ) (events : List LauncherEvent) (J K : Life) → IsOf w J → OnlyLauncher events J K → IsOf w K
 turned_of w events J K of only = record {
   number_is = ap (λ (x : Life). number_of x) only ∙ of.number_is;
   seat_is = ap (λ (x : Life). x.launcher.number) only ∙ of.seat_is;
 }
 
-turned_goes : (C : Config) (w : ℕ) (events : List LauncherEvent) (J K : Life) (before : List (Entry LauncherEvent)) → IsOf w J → OnlyLauncher events J K
+pub turned_goes : (C : Config) (w : ℕ) (events : List LauncherEvent) (J K : Life) (before : List (Entry LauncherEvent)) → IsOf w J → OnlyLauncher events J K
     → GrowsBy (λ (e : Entry LauncherEvent). e.worker) J.launcher.number J.launcher.seen before → K.launcher.seen ≡ entries_by J.launcher.number events ++ before
     → GoesOn C w (map Launched events) (sights_of J) (sights_of K)
 turned_goes C w events J K before of only grows enters =
@@ -139,7 +134,7 @@ turned_goes C w events J K before of only grows enters =
     subst (GoesOn C w (map Launched events) (sights_of J)) (sym then)
     (turns_are_pieces C w events (sights_of J) before (subst (λ (v : ℕ). GrowsBy (λ (e : Entry LauncherEvent). e.worker) v J.launcher.seen before) of.seat_is grows))
 
-turned_lives : (C : Config) (w : ℕ) (forbidden : Piece → Bool) (events : List LauncherEvent) (J K : Life) (before : List (Entry LauncherEvent)) → list_any forbidden (map Launched events) ≡ false → IsOf w J
+pub turned_lives : (C : Config) (w : ℕ) (forbidden : Piece → Bool) (events : List LauncherEvent) (J K : Life) (before : List (Entry LauncherEvent)) → list_any forbidden (map Launched events) ≡ false → IsOf w J
     → OnlyLauncher events J K → GrowsBy (λ (e : Entry LauncherEvent). e.worker) J.launcher.number J.launcher.seen before → K.launcher.seen ≡ entries_by J.launcher.number events ++ before
     → LivesOn C w forbidden J K
 turned_lives C w forbidden events J K before allowed of only grows enters = record {
@@ -150,12 +145,18 @@ turned_lives C w forbidden events J K before allowed of only grows enters = reco
   allowed = allowed;
 }
 
-where_lives : (C : Config) (w : ℕ) (forbidden : Piece → Bool) (starved : Bool) (J K : Life) → forbidden Wants ≡ false → IsOf w J → StarvesWhere starved J K → LivesOn C w forbidden J K
+pub turned_lives_by : (C : Config) (w : ℕ) (forbidden : Piece → Bool) (events : List LauncherEvent) (J K : Life) (before : List (Entry LauncherEvent)) (allowed : list_any forbidden (map Launched events) ≡ false) (of : IsOf w J)
+    (only : OnlyLauncher events J K) (grows : GrowsBy (λ (e : Entry LauncherEvent). e.worker) J.launcher.number J.launcher.seen before) (enters : K.launcher.seen ≡ entries_by J.launcher.number events ++ before)
+    → (turned_lives C w forbidden events J K before allowed of only grows enters).pieces ≡ map Launched events
+unfolding turned_lives
+turned_lives_by C w forbidden events J K before allowed of only grows enters = refl
+
+pub where_lives : (C : Config) (w : ℕ) (forbidden : Piece → Bool) (starved : Bool) (J K : Life) → forbidden Wants ≡ false → IsOf w J → StarvesWhere starved J K → LivesOn C w forbidden J K
 where_lives C w forbidden true J K wants of h = starves_lives C w forbidden J K wants of h
 where_lives C w forbidden false J K wants of h = same_lives C w forbidden J K of h
 
 -- none that was asked for is an order
-unasked_pieces : (events : List LauncherEvent) → list_any is_asked events ≡ false → list_any is_order (map Launched events) ≡ false
+pub unasked_pieces : (events : List LauncherEvent) → list_any is_asked events ≡ false → list_any is_order (map Launched events) ≡ false
 unasked_pieces [] is = refl
 unasked_pieces (e ∷ events) is = by (is_asked e) (unasked_pieces events) is
   where
@@ -164,17 +165,9 @@ unasked_pieces (e ∷ events) is = by (is_asked e) (unasked_pieces events) is
     by false rest fine = rest fine
 
 -- none of them is an Accept
-unaccepted_pieces : (events : List LauncherEvent) → list_any is_accepted (map Launched events) ≡ false
+pub unaccepted_pieces : (events : List LauncherEvent) → list_any is_accepted (map Launched events) ≡ false
 unaccepted_pieces [] = refl
 unaccepted_pieces (e ∷ events) = unaccepted_pieces events
-
-pub tends_lives : (C : Config) (w s : ℕ) (J K : Life) → IsOf w J → Tends C s J K → LivesOn C w is_order J K
-tends_lives C w s J K of h =
-    let t = h.tends in
-    let mid : LivesOn C w is_order J h.mid
-    = turned_lives C w is_order h.events J h.mid t.before.journal.past
-    (unasked_pieces h.events (tended_unasked C J.launcher.number s t.before _ t.after h.events t.turn.enters t.goes)) of h.only t.turn.grows (t.turn.seen_is ∙ t.turn.enters) in
-    lives_then C w is_order J h.mid K mid (where_lives C w is_order _ h.mid K refl mid.same h.notes)
 
 pub asks_lives : (C : Config) (w s : ℕ) (answer : Launch) (J K : Life) → IsOf w J → Asks C s answer J K → LivesOn C w is_accepted J K
 asks_lives C w s answer J K of h =
@@ -185,50 +178,32 @@ asks_lives C w s answer J K of h =
 
 -- ---- a request
 
--- a piece that is told of anyway
-lives_by : (C : Config) (w : ℕ) (path head content : List ℕ) (outcome : Outcome) (J K : Life) → GoesOn C w (Accepted path head content outcome ∷ []) (sights_of J) (sights_of K) → IsOf w K → outcome_is_told outcome None ≡ true
-    → LivesOn C w is_order J K
-lives_by C w path head content outcome J K goes of told = record { pieces = Accepted path head content outcome ∷ []; goes = goes; same = of; told = rw (told) refl; allowed = refl }
-
--- what went nowhere
-passes_lives : (C : Config) (w : ℕ) (asked : Asked) (goes : Way) (outcome : Outcome) (J M K : Life) → IsOf w J → Accepts C asked.path goes J M → ((S : Seen) → GoesBy C w goes asked.head asked.content S outcome S)
-    → ((s : ℕ) → spoken_in s outcome ≡ []) → outcome_is_told outcome None ≡ true → K ≡ M → LivesOn C w is_order J K
-passes_lives C w asked goes outcome J M K of a follows silent told is = subst (LivesOn C w is_order J) (sym is) (
-    lives_by C w asked.path asked.head asked.content outcome J M
-    (accepts_are_pieces C w asked.path asked.head asked.content outcome (sights_of J) (sights_of M) a.before M.seen
-    (subst (λ (v : ℕ). AtOkd v (okd.Accept asked.path) J.seen a.before M.seen) of.number_is a.enters)
-    (subst (λ (v : Way). GoesBy C w v asked.head asked.content M.seen outcome M.seen) a.goes_is (follows M.seen))
-    (ap (λ (x : _). x.seen) a.rest.launcher_is)
-    (λ s. ap (λ (c : CellsSeen). dialogs_of w (seen_at c s)) a.rest.cells_is ∙ ap (λ (first : List (ℕ × Dialog)). first ++ dialogs_of w (seen_at J.cells s)) (sym (silent s))))
-    (sees_of w J M M.seen a.rest of) told
-    )
-
 -- what the worker had of a cell that it went to
-pub record HadThere (C : Config) (w s k : ℕ) (asked : Asked) (answer : Talked) (M N : Life) : Type 0 where
+pub record HadThere (C : Config) (w s k : ℕ) (asked : Asked) (answer : Spoken) (M N : Life) : Type 0 where
   pub outcome : Outcome
-  pub had : Had C w s k asked.head asked.content M.seen (seen_at M.cells s) (spoken_of answer) N.seen (seen_at N.cells s) outcome
+  pub had : Had C w s k asked.head asked.content M.seen (seen_at M.cells s) answer N.seen (seen_at N.cells s) outcome
 
-had_there : (C : Config) (n w s k : ℕ) (asked : Asked) (answer : Talked) (M N : Life) → number_of M ≡ w → Talks C n asked s k answer M N → HadThere C w s k asked answer M N
+pub had_there : (C : Config) (n w s k : ℕ) (asked : Asked) (answer : Spoken) (M N : Life) → number_of M ≡ w → Talks C n asked s k answer M N → HadThere C w s k asked answer M N
 had_there C n w s k asked answer M N is h =
     let t = h.talked in
     let same : dialogs_of (number_of M) t.before.past ≡ dialogs_of (number_of M) (seen_at M.cells s)
     = others_leave_dialogs (by_event n) (number_of M) (seen_at M.cells s) t.before.past (λ d. refl) t.found.grows in
-    let it = dialogs_are_outcomes (asker_of C M) (λ (shown : ℕ). shown ≤ slice_index N.board s) asked.head asked.content k s (seen_at M.cells s) t.before t.after M.seen N.seen (spoken_of answer) t.found.service_is same t.talks in
+    let it = dialogs_are_outcomes (asker_of C M) (λ (shown : ℕ). shown ≤ slice_index N.board s) asked.head asked.content k s (seen_at M.cells s) t.before t.after M.seen N.seen answer t.found.service_is same t.talks in
     record {
       outcome = it.0;
-      had = subst (λ (v : ℕ). Had C v s k asked.head asked.content M.seen (seen_at M.cells s) (spoken_of answer) N.seen (seen_at N.cells s) it.0) is
-          (subst (λ (past : List CellEvent). Had C (number_of M) s k asked.head asked.content M.seen (seen_at M.cells s) (spoken_of answer) N.seen past it.0) (sym t.seen_is) it.1);
+      had = subst (λ (v : ℕ). Had C v s k asked.head asked.content M.seen (seen_at M.cells s) answer N.seen (seen_at N.cells s) it.0) is
+          (subst (λ (past : List CellEvent). Had C (number_of M) s k asked.head asked.content M.seen (seen_at M.cells s) answer N.seen past it.0) (sym t.seen_is) it.1);
     }
 
 -- the Accept and what was had, where the worker K has seen this
-visited : (C : Config) (n w s k : ℕ) (asked : Asked) (answer : Talked) (J M N K : Life) → IsOf w J → Accepts C asked.path (way.To s k) J M → Talks C n asked s k answer M N → (h : HadThere C w s k asked answer M N)
-    → K.seen ≡ with_want (spoken_of answer) N.seen → K.launcher ≡ N.launcher → K.cells ≡ N.cells → GoesOn C w (Accepted asked.path asked.head asked.content h.outcome ∷ []) (sights_of J) (sights_of K)
+pub visited : (C : Config) (n w s k : ℕ) (asked : Asked) (answer : Spoken) (J M N K : Life) → IsOf w J → Accepts C asked.path (way.To s k) J M → Talks C n asked s k answer M N → (h : HadThere C w s k asked answer M N)
+    → K.seen ≡ with_want answer N.seen → K.launcher ≡ N.launcher → K.cells ≡ N.cells → GoesOn C w (Accepted asked.path asked.head asked.content h.outcome ∷ []) (sights_of J) (sights_of K)
 visited C n w s k asked answer J M N K of a t h seen launcher cells =
-    visits_are_pieces C w asked.path asked.head asked.content s k a.before M.seen N.seen (spoken_of answer) h.outcome (sights_of J) (sights_of K)
+    visits_are_pieces C w asked.path asked.head asked.content s k a.before M.seen N.seen answer h.outcome (sights_of J) (sights_of K)
     (subst (λ (v : ℕ). AtOkd v (okd.Accept asked.path) J.seen a.before M.seen) of.number_is a.enters)
     (sym a.goes_is)
-    (subst (λ (new : List CellEvent). Had C w s k asked.head asked.content M.seen (seen_at J.cells s) (spoken_of answer) N.seen new h.outcome) (sym there)
-    (subst (λ (c : CellsSeen). Had C w s k asked.head asked.content M.seen (seen_at c s) (spoken_of answer) N.seen (seen_at N.cells s) h.outcome) a.rest.cells_is h.had))
+    (subst (λ (new : List CellEvent). Had C w s k asked.head asked.content M.seen (seen_at J.cells s) answer N.seen new h.outcome) (sym there)
+    (subst (λ (c : CellsSeen). Had C w s k asked.head asked.content M.seen (seen_at c s) answer N.seen (seen_at N.cells s) h.outcome) a.rest.cells_is h.had))
     seen
     (ap (λ (x : _). x.seen) launcher ∙ ap (λ (x : _). x.seen) t.launcher_is ∙ ap (λ (x : _). x.seen) a.rest.launcher_is)
     rows
@@ -242,116 +217,32 @@ visited C n w s k asked answer J M N K of a t h seen launcher cells =
         ∙ ap (λ (c : CellsSeen). slice_set c.cells s (seen_at N.cells s)) a.rest.cells_is
         ∙ ap (λ (past : List CellEvent). slice_set J.cells.cells s past) (sym there)
 
-talks_of : (C : Config) (n w s k : ℕ) (asked : Asked) (answer : Talked) (M N : Life) → IsOf w M → Talks C n asked s k answer M N → IsOf w N
+pub talks_of : (C : Config) (n w s k : ℕ) (asked : Asked) (answer : Spoken) (M N : Life) → IsOf w M → Talks C n asked s k answer M N → IsOf w N
 talks_of C n w s k asked answer M N of t = record {
   number_is = ap (λ (c : CellsSeen). c.number) t.only ∙ of.number_is;
   seat_is = ap (λ (x : _). x.number) t.launcher_is ∙ of.seat_is;
 }
 
 -- a dialog that is no crash is told of anyway
-told_last : (s k : ℕ) (how : End) (outcome : Outcome) (new : List CellEvent) → is_crash how ≡ false → SpokeLast s k how outcome new → outcome_is_told outcome None ≡ true
+pub told_last : (s k : ℕ) (how : End) (outcome : Outcome) (new : List CellEvent) → is_crash how ≡ false → SpokeLast s k how outcome new → outcome_is_told outcome None ≡ true
 told_last s k how outcome new fine last =
     ap (λ (x : Outcome). outcome_is_told x None) last.1 ∙ ap (λ (e : End). not (is_crash e) || false) last.2 ∙ ap (λ (b : Bool). not b || false) fine
 
 -- a crash is told of where the piece behind it tells that
-told_crash : (s k : ℕ) (d : Dialog) (next : Piece) → outcome_is_told (Spoke s k d) (Some next) ≡ true → (outcome : Outcome) → outcome ≡ Spoke s k d → outcome_is_told outcome (Some next) ≡ true
+pub told_crash : (s k : ℕ) (d : Dialog) (next : Piece) → outcome_is_told (Spoke s k d) (Some next) ≡ true → (outcome : Outcome) → outcome ≡ Spoke s k d → outcome_is_told outcome (Some next) ≡ true
 told_crash s k d next told outcome is = ap (λ (x : Outcome). outcome_is_told x (Some next)) is ∙ told
 
 or_true : (b : Bool) → (b || true) ≡ true
 or_true true = refl
 or_true false = refl
 
-crash_tells : (s k : ℕ) (d : Dialog) → outcome_is_told (Spoke s k d) (Some (Launched (event.Crashed s k))) ≡ true
+pub crash_tells : (s k : ℕ) (d : Dialog) → outcome_is_told (Spoke s k d) (Some (Launched (event.Crashed s k))) ≡ true
 crash_tells s k d = rw (eq-eqb s s refl, eq-eqb k k refl) (or_true (not (is_crash d.end)))
 
-want_tells : (s k : ℕ) (d : Dialog) → outcome_is_told (Spoke s k d) (Some Wants) ≡ true
+pub want_tells : (s k : ℕ) (d : Dialog) → outcome_is_told (Spoke s k d) (Some Wants) ≡ true
 want_tells s k d = or_true (not (is_crash d.end))
 
 -- the pieces of a turn that begins with an event, behind others
-turn_behind : (next : Option Piece) (more : List LauncherEvent) (e : LauncherEvent) (rest : List Piece) → are_told (Some (Launched e)) rest ≡ true → are_told next (map Launched (more ++ e ∷ []) ++ rest) ≡ true
+pub turn_behind : (next : Option Piece) (more : List LauncherEvent) (e : LauncherEvent) (rest : List Piece) → are_told (Some (Launched e)) rest ≡ true → are_told next (map Launched (more ++ e ∷ []) ++ rest) ≡ true
 turn_behind next [] e rest told = told
 turn_behind next (m ∷ more) e rest told = turn_behind (Some (Launched m)) more e rest told
-
--- a crash, and the launcher's turn that was told of it
-crash_lives : (C : Config) (w s k : ℕ) (path head content : List ℕ) (outcome : Outcome) (d : Dialog) (J N K : Life) → outcome ≡ Spoke s k d → GoesOn C w (Accepted path head content outcome ∷ []) (sights_of J) (sights_of N) → IsOf w N
-    → Reports C s k N K → LivesOn C w is_order J K
-crash_lives C w s k path head content outcome d J N K is goes of h =
-    let t = h.reports in
-    let entered = crash_entered C N.launcher.number s k t.before.journal.past t.before.crew.family h.events h.answer t.after t.turn.enters t.goes in
-    let turn : GoesOn C w (map Launched h.events) (sights_of N) (sights_of h.mid) = turned_goes C w h.events N h.mid t.before.journal.past of h.only t.turn.grows (t.turn.seen_is ∙ t.turn.enters) in
-    let mid : IsOf w h.mid = turned_of w h.events N h.mid of h.only in
-    let both : GoesOn C w (map Launched h.events ++ Accepted path head content outcome ∷ []) (sights_of J) (sights_of h.mid) = goings_join C w _ (map Launched h.events) (sights_of J) (sights_of N) (sights_of h.mid) goes turn in
-    by mid both (unasked_pieces h.events entered.1) h.notes entered.0
-  where
-    accepted : Piece
-    accepted = Accepted path head content outcome
-
-    allowed : (events : List LauncherEvent) → list_any is_order (map Launched events) ≡ false → list_any is_order (map Launched events ++ Accepted path head content outcome ∷ []) ≡ false
-    allowed events fine = list_any-append is_order (map Launched events) (Accepted path head content outcome ∷ []) ∙ ap (λ (b : Bool). b || false) fine
-
-    told_then : (events : List LauncherEvent) → Entered (event.Crashed s k) events → are_told None (map Launched events ++ Accepted path head content outcome ∷ []) ≡ true
-    told_then events entered =
-        subst (λ (xs : List LauncherEvent). are_told None (map Launched xs ++ Accepted path head content outcome ∷ []) ≡ true) (sym entered.is)
-        (turn_behind None entered.more (event.Crashed s k) (Accepted path head content outcome ∷ []) (rw (told_crash s k d (Launched (event.Crashed s k)) (crash_tells s k d) outcome is) refl))
-
-    by : IsOf w h.mid → GoesOn C w (map Launched h.events ++ Accepted path head content outcome ∷ []) (sights_of J) (sights_of h.mid) → list_any is_order (map Launched h.events) ≡ false
-        → StarvesWhere (crash_starved h.answer) h.mid K → BeginsWithCrash s k h.events h.answer → LivesOn C w is_order J K
-    by mid both fine notes (inr entered) =
-        let whole : LivesOn C w is_order J h.mid
-        = record { pieces = map Launched h.events ++ Accepted path head content outcome ∷ []; goes = both; same = mid; told = told_then h.events entered; allowed = allowed h.events fine } in
-        lives_then C w is_order J h.mid K whole (where_lives C w is_order (crash_starved h.answer) h.mid K refl mid notes)
-    by mid both fine notes (inl nothing) =
-        let starved : Starves h.mid K = subst (λ (a : Crashed). StarvesWhere (crash_starved a) h.mid K) nothing.0 notes in
-        let wants : LivesOn C w is_order h.mid K = starves_lives C w is_order h.mid K refl mid starved in
-        let alone : GoesOn C w (Accepted path head content outcome ∷ []) (sights_of J) (sights_of h.mid)
-        = subst (λ (xs : List LauncherEvent). GoesOn C w (map Launched xs ++ Accepted path head content outcome ∷ []) (sights_of J) (sights_of h.mid)) nothing.1 both in
-        record {
-          pieces = Wants ∷ Accepted path head content outcome ∷ [];
-          goes = goings_join C w (Accepted path head content outcome ∷ []) (Wants ∷ []) (sights_of J) (sights_of h.mid) (sights_of K) alone
-              (subst (GoesOn C w (Wants ∷ []) (sights_of h.mid)) (sym (sees_sights h.mid K (noted h.mid.seen own.NoMemory) starved)) (wants_are_pieces C w (sights_of h.mid)));
-          same = wants.same;
-          told = rw (told_crash s k d Wants (want_tells s k d) outcome is) refl;
-          allowed = refl;
-        }
-
-follows_lives : (C : Config) (n w s k : ℕ) (asked : Asked) (answer : Talked) (became : Told) (reply : Replied) (J M N K : Life) → IsOf w J → Accepts C asked.path (way.To s k) J M → Talks C n asked s k answer M N
-    → HadThere C w s k asked answer M N → IsOf w N → Follows C s k answer became reply N K → LivesOn C w is_order J K
-follows_lives C n w s k asked (talked.Replied r) became reply J M N K of a t h then f =
-    let here : LivesOn C w is_order J N
-    = lives_by C w asked.path asked.head asked.content h.outcome J N (visited C n w s k asked (talked.Replied r) J M N N of a t h refl refl refl) then (told_last s k end.Reply h.outcome (seen_at N.cells s) refl h.had.tells) in
-    by here f
-  where
-    by : LivesOn C w is_order J N → Follows C s k (talked.Replied r) became reply N K → LivesOn C w is_order J K
-    by here (inl g) = subst (LivesOn C w is_order J) (sym g.2) here
-    by here (inr g) = lives_then C w is_order J N K here (starves_lives C w is_order N K refl then g.2)
-follows_lives C n w s k asked talked.Uncopied became reply J M N K of a t h then f =
-    let here : LivesOn C w is_order J N
-    = lives_by C w asked.path asked.head asked.content h.outcome J N (visited C n w s k asked talked.Uncopied J M N N of a t h refl refl refl) then (told_last s k end.Reply h.outcome (seen_at N.cells s) refl h.had.tells) in
-    lives_then C w is_order J N K here (starves_lives C w is_order N K refl then f.1)
-follows_lives C n w s k asked (talked.Crashed why) became reply J M N K of a t h then f =
-    let last : SpokeLast s k (crash_end why) h.outcome (seen_at N.cells s) = h.had.tells in
-    crash_lives C w s k asked.path asked.head asked.content h.outcome last.0 J N K last.1 (visited C n w s k asked (talked.Crashed why) J M N N of a t h refl refl refl) then f.1
-follows_lives C n w s k asked (talked.Missed wanted is) became reply J M N K of a t h then f =
-    let here : LivesOn C w is_order J N
-    = lives_by C w asked.path asked.head asked.content h.outcome J N (visited C n w s k asked (talked.Missed wanted is) J M N N of a t h refl refl refl) then (ap (λ (x : Outcome). outcome_is_told x None) h.had.tells) in
-    subst (LivesOn C w is_order J) (sym f.1) here
-follows_lives C n w s k asked (talked.Superseded i shown) became reply J M N K of a t h then f =
-    let here : LivesOn C w is_order J N
-    = lives_by C w asked.path asked.head asked.content h.outcome J N (visited C n w s k asked (talked.Superseded i shown) J M N N of a t h refl refl refl) then
-    (told_last s k (end.Superseded shown) h.outcome (seen_at N.cells s) refl h.had.tells) in
-    subst (LivesOn C w is_order J) (sym f.1) here
-follows_lives C n w s k asked talked.NoMemory became reply J M N K of a t h then f =
-    let sees : Starves N K = f.1 in
-    lives_by C w asked.path asked.head asked.content h.outcome J K (visited C n w s k asked talked.NoMemory J M N K of a t h sees.seen_is sees.launcher_is sees.cells_is)
-    (sees_of w N K (noted N.seen own.NoMemory) sees then) (ap (λ (x : Outcome). outcome_is_told x None) h.had.tells)
-
-goes_lives : (C : Config) (n w : ℕ) (asked : Asked) (goes : Way) (became : Told) (reply : Replied) (J M K : Life) → IsOf w J → Accepts C asked.path goes J M → Goes C n asked goes became reply M K → LivesOn C w is_order J K
-goes_lives C n w asked way.NotOwned became reply J M K of a h = passes_lives C w asked way.NotOwned Unowned J M K of a (λ S. (refl, refl)) (λ s. refl) refl h.1
-goes_lives C n w asked (way.Down s) became reply J M K of a h = passes_lives C w asked (way.Down s) IsDown J M K of a (λ S. (refl, refl)) (λ t. refl) refl h.1
-goes_lives C n w asked (way.To s k) became reply J M K of a h =
-    let then : IsOf w M = sees_of w J M M.seen a.rest of in
-    follows_lives C n w s k asked h.0 became reply J M h.1 K of a h.2 (had_there C n w s k asked h.0 M h.1 then.number_is h.2) (talks_of C n w s k asked h.0 M h.1 then h.2) h.3
-
-pub handles_lives : (C : Config) (n w : ℕ) (J : Life) (asked : Asked) (became : Told) (reply : Replied) (K : Life) → IsOf w J → Handles C n J asked became reply K → LivesOn C w is_order J K
-handles_lives C n w J asked became reply K of (inl h) = starves_lives C w is_order J K refl of h.1
-handles_lives C n w J asked became reply K of (inr h) = goes_lives C n w asked h.0 became reply J h.1 K of h.2 h.3

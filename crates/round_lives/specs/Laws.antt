@@ -1,5 +1,5 @@
 -- That what a worker does at a door and at the console is pieces of its list. Number n launches.
-use Rattle.std.specs.Prelude.{◌≡◌, ℕ, Bool, List}
+use Rattle.std.specs.Prelude.{ℕ, Bool, List}
 use Rattle.okws_plan.specs.declared.configuration.Config.{Config}
 use Rattle.okws_outer.specs.Conns.{ConnWire}
 use Rattle.okws_outer.specs.Doors.{Entrance}

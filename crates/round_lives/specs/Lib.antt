@@ -1,2 +1,4 @@
 pub mod Living
 pub mod Laws
+pub mod Orders
+pub mod Serving

@@ -1,5 +1,5 @@
 -- What a worker's life says of the pieces of its list. Number n launches.
-use Rattle.std.specs.Prelude.{◌≡◌, ℕ, Bool, List, Option, None, IsTrue, IsFalse}
+use Rattle.std.specs.Prelude.{◌≡◌, ℕ, Bool, List, None, IsTrue, IsFalse}
 use Rattle.std.specs.List.{list_any}
 use Rattle.okws_plan.specs.declared.configuration.Config.{Config}
 use Rattle.monitor_model.specs.Worker.{Piece}

@@ -6,7 +6,10 @@ pub mod Left
 pub mod Running
 pub mod Finishing
 pub mod Stationing
+pub mod Spent
 pub mod Serving
 pub mod Surviving
 pub mod Listing
 pub mod Pieces
+pub mod Whole
+pub mod Connected

@@ -1,5 +1,5 @@
 -- The lists of a run's workers are made of whole pieces.
-use Rattle.std.proofs.Common.{◌≡◌, ◌≤◌, ◌<◌, ◌+◌, inl, inr, ℕ, suc, Bool, true, false, List, [], ◌∷◌, ◌++◌, length, map, get_or, refl, sym, ap, ◌∙◌, subst, arith}
+use Rattle.std.proofs.Common.{◌≡◌, ◌≤◌, ◌<◌, ◌+◌, inl, inr, ℕ, suc, Bool, true, false, List, [], ◌∷◌, ◌++◌, length, map, filter_map, reverse, get_or, refl, sym, ap, ◌∙◌, subst, arith}
 use Rattle.std.proofs.lemmas.Bool.{true≢false}
 use Rattle.std.proofs.lemmas.List.Folds.{list_any-append}
 use Rattle.std.specs.Prelude.{◌&&◌, ◌||◌, is_some, is_none, Some, None}
@@ -16,7 +16,7 @@ use Rattle.monitor_model.specs.declared.record.Own.TheVariants as own
 use Rattle.monitor_model.specs.declared.record.Record.{Record}
 use Rattle.monitor_model.specs.Cell.{dialogs_of}
 use Rattle.monitor_model.specs.Merged.{list_of}
-use Rattle.monitor_model.specs.Outside.{Order, launcher_order}
+use Rattle.monitor_model.specs.Outside.{Order, Ordered, come_of, item_order, launcher_order}
 use Rattle.monitor_model.specs.Pieces.{is_accept_item, is_ordered}
 use Rattle.monitor_model.specs.Seen.{Seen}
 use Rattle.monitor_model.specs.Worker.{IsWorker, Piece, nothing_seen}
@@ -27,18 +27,22 @@ use Rattle.worker_lives.specs.Beginning.{IsOfTurn, turned_alone}
 use Rattle.worker_lives.specs.Going.{GoesOn, IsBlank, Sights}
 use Rattle.worker_lives.specs.Listing.{are_told, first_item}
 use Rattle.worker_lives.proofs.Begun.{turns_alone_are_lives}
-use Rattle.worker_lives.proofs.Listed.{items_are_of_pieces}
+use Rattle.worker_lives.proofs.Listed.{items_are_of_pieces, orders_are_of_pieces}
 use Rattle.worker_lives.proofs.Others.{others_leave_dialogs}
 use Rattle.worker_lives.proofs.Steps.{goings_are_lives, goings_join, lives_end_in_records}
 use Rattle.worker_lives.proofs.Told.{crashes_told, told_both}
+use Rattle.round_lives.specs.Laws.{is_accepted}
 use Rattle.round_lives.specs.Living.{IsOf, LivesOn, sights_of}
+use Rattle.round_lives.specs.Orders.{Steers, carried_out}
+use Rattle.round_lives.proofs.Coming.{filter_map-both, filter_map-reverse}
+use Rattle.round_lives.proofs.Obeyed.{consoles_are_obeyed, nothing_carried}
 use Rattle.round_lives.proofs.Rounded.{consoles_are_lived, doors_are_lived}
 use Rattle.site_worker.specs.Lives.{Life}
 use Rattle.site_worker.specs.declared.door.Attended.{Attended}
 use Rattle.site_run.specs.Tied.{LifeBegins, LifeEnds, is_launching}
 use Rattle.site_run.proofs.Leaving.{cell_at}
 use Rattle.okws_serve.specs.Doors.{AllAttend, AttendsAt, ServesConsole}
-use Rattle.okws_serve.specs.Lived.{ListIsPieces}
+use Rattle.okws_serve.specs.Lived.{ListIsPieces, OrdersAreObeyed}
 
 -- ---- what number 0 noted before the workers began
 
@@ -58,7 +62,7 @@ none_some : {A : Type 0} (o : Option A) → is_none o ≡ true → is_some o ≡
 none_some None h = refl
 none_some (Some x) h = absurd (true≢false (sym h))
 
-both_of : (a b : Bool) → (a && b) ≡ true → (a ≡ true) × (b ≡ true)
+pub both_of : (a b : Bool) → (a && b) ≡ true → (a ≡ true) × (b ≡ true)
 both_of true b h = (refl, h)
 both_of false b h = absurd (true≢false (sym h))
 
@@ -99,13 +103,18 @@ any_first forbidden (piece ∷ pieces) = ap (λ (b : Bool). forbidden (first_ite
 -- ---- a worker's list
 
 module _ (C : Config) (n : ℕ) (R : Record) (w : ℕ) (J K : Life) (many : length R.proxies ≡ length C.proxies) (begins : LifeBegins C w J) (ends : LifeEnds n w K R) where
-  first_is : IsOf w J
+  pub first_is : IsOf w J
   first_is = record { number_is = begins.cells.number_is; seat_is = begins.seat }
 
-  pub list_is : (forbidden : Own → Bool) → ((item : Own) → is_launching item ≡ true → forbidden item ≡ false)
-      → ((pieces : List Piece) (items : List Own) → IsWorker C R w pieces items → list_any forbidden items ≡ list_any (λ (piece : Piece). forbidden (first_item piece)) pieces)
-      → LivesOn C w (λ (piece : Piece). forbidden (first_item piece)) J K → ListIsPieces C R forbidden w
-  list_is forbidden few link lives =
+  -- the pieces of its whole list: those by which it lived, and before them what it noted before it began
+  pub record Listed (forbidden : Piece → Bool) (lives : LivesOn C w forbidden J K) : Type 0 where
+    pub before : List Piece
+    pub first : map first_item before ≡ J.seen.own
+    pub told : are_told None before ≡ true
+    pub worker : IsWorker C R w (lives.pieces ++ before) (list_of R w)
+
+  pub listed : (forbidden : Piece → Bool) (lives : LivesOn C w forbidden J K) → Listed forbidden lives
+  listed forbidden lives =
       let items = J.seen.own in
       let m = length C.proxies in
       let blank : Sights = turned_alone m [] [] J.cells.cells in
@@ -118,19 +127,47 @@ module _ (C : Config) (n : ℕ) (R : Record) (w : ℕ) (J K : Life) (many : leng
       let begun : IsBlank m blank = record { columns = refl; launcher = refl; cells = λ s. new_at (length C.services) w s J.cells begins.cells } in
       let lived = goings_are_lives C w all blank (sights_of K) begun joined in
       let dialogs = λ (s : ℕ). others_leave_dialogs (by_event n) w (get_or K.cells.cells s []) (get_or R.cells s []) (λ d. refl) (cell_at n w K.cells.cells R.cells ends.cells s) in
-      let worker : IsWorker C R w all (list_of R w) = subst (IsWorker C R w all) ends.own_is (lives_end_in_records C R w all (sights_of K) many lived ends.columns ends.launcher dialogs) in
-      let pieced = lives_are_pieces C R w all (list_of R w) many worker in
-      let told : are_told None all ≡ true = told_both None at.0 lives.pieces at.3 lives.told in
-      let before : list_any (λ (piece : Piece). forbidden (first_item piece)) at.0 ≡ false =
-      any_first forbidden at.0 ∙ (ap (list_any forbidden) at.2 ∙ launches_allowed forbidden few items begins.launches.only) in
+      record {
+        before = at.0;
+        first = at.2;
+        told = at.3;
+        worker = subst (IsWorker C R w all) ends.own_is (lives_end_in_records C R w all (sights_of K) many lived ends.columns ends.launcher dialogs);
+      }
+
+  -- nothing that it noted before it began is forbidden, where no launch is
+  before_allowed : (forbidden : Own → Bool) → ((item : Own) → is_launching item ≡ true → forbidden item ≡ false) → (before : List Piece) → map first_item before ≡ J.seen.own
+      → list_any (λ (piece : Piece). forbidden (first_item piece)) before ≡ false
+  before_allowed forbidden few before first = any_first forbidden before ∙ (ap (list_any forbidden) first ∙ launches_allowed forbidden few J.seen.own begins.launches.only)
+
+  pub list_is : (forbidden : Own → Bool) → ((item : Own) → is_launching item ≡ true → forbidden item ≡ false)
+      → ((pieces : List Piece) (items : List Own) → IsWorker C R w pieces items → list_any forbidden items ≡ list_any (λ (piece : Piece). forbidden (first_item piece)) pieces)
+      → LivesOn C w (λ (piece : Piece). forbidden (first_item piece)) J K → ListIsPieces C R forbidden w
+  list_is forbidden few link lives =
+      let l = listed (λ (piece : Piece). forbidden (first_item piece)) lives in
+      let all = lives.pieces ++ l.before in
+      let pieced = lives_are_pieces C R w all (list_of R w) many l.worker in
+      let told : are_told None all ≡ true = told_both None l.before lives.pieces l.told lives.told in
       record {
         whole = pieced.0;
-        allowed = link all (list_of R w) worker
-            ∙ (list_any-append (λ (piece : Piece). forbidden (first_item piece)) lives.pieces at.0
-            ∙ (ap (λ (b : Bool). b || list_any (λ (piece : Piece). forbidden (first_item piece)) at.0) lives.allowed ∙ before));
+        allowed = link all (list_of R w) l.worker
+            ∙ (list_any-append (λ (piece : Piece). forbidden (first_item piece)) lives.pieces l.before
+            ∙ (ap (λ (b : Bool). b || list_any (λ (piece : Piece). forbidden (first_item piece)) l.before) lives.allowed ∙ before_allowed forbidden few l.before l.first));
         fits = pieced.1;
-        told = crashes_told C R w all (list_of R w) many worker told;
+        told = crashes_told C R w all (list_of R w) many l.worker told;
       }
+
+  -- what it carried out comes of the orders of which its life's pieces do
+  pub list_obeys : (orders : List Ordered) → Steers C w orders J K → come_of false orders (filter_map item_order (reverse (list_of R w))) ≡ true
+  list_obeys orders steers =
+      let l = listed is_accepted steers.lives in
+      let pieces = steers.lives.pieces in
+      let all = pieces ++ l.before in
+      let order_of = λ (piece : Piece). item_order (first_item piece) in
+      let before : carried_out l.before ≡ [] = nothing_carried l.before (before_allowed is_ordered few_ordered l.before l.first) in
+      let is : filter_map item_order (reverse (list_of R w)) ≡ carried_out pieces
+      = filter_map-reverse item_order (list_of R w) ∙ ap reverse (orders_are_of_pieces C R w all (list_of R w) many l.worker) ∙ sym (filter_map-reverse order_of all)
+      ∙ filter_map-both order_of l.before pieces ∙ ap (λ (first : List Order). first ++ carried_out pieces) before in
+      subst (λ (done : List Order). come_of false orders done ≡ true) (sym is) steers.comes
 
 -- of a worker at a door: it carries out no order
 pub door_is : {X : Type 0} (wire : X → ConnWire) (C : Config) (n most : ℕ) (R : Record) (w : ℕ) (e f : Entrance) (a : Attended) → length R.proxies ≡ length C.proxies → AttendsAt wire C n most R w e f a
@@ -154,3 +191,16 @@ pub console_is : (C : Config) (n : ℕ) (R : Record) (w : ℕ) (x y : ConnWire) 
 console_is C n R w x y failed many h =
     list_is C n R w h.before h.after many h.begins h.left is_accept_item few_accepted (λ pieces items worker. (items_are_of_pieces C R w pieces items many worker).1)
     (consoles_are_lived C w x y 0 h.lines h.before h.after h.how (first_is C n R w h.before h.after many h.begins h.left) h.oversees)
+
+-- and what it carried out comes of what was ordered there
+pub console_obeys : (C : Config) (n : ℕ) (R : Record) (w : ℕ) (x y : ConnWire) (failed : Bool) → length R.proxies ≡ length C.proxies → ServesConsole C n R w x y failed → OrdersAreObeyed C R w x y failed
+console_obeys C n R w x y failed many h =
+    let it = consoles_are_obeyed C w x y 0 h.lines h.before h.after h.how (first_is C n R w h.before h.after many h.begins h.left) h.oversees in
+    record {
+      lines = h.lines;
+      how = h.how;
+      failed_is = h.failed_is;
+      orders = it.0;
+      reads = it.1;
+      comes = list_obeys C n R w h.before h.after many h.begins h.left it.0 it.2;
+    }

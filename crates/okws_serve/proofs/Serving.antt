@@ -11,7 +11,7 @@ use Rattle.okws_outer.specs.Streams.{Rose, counted}
 use Rattle.okws_plan.specs.declared.configuration.Config.{Config}
 use Rattle.monitor_model.specs.declared.record.Record.{Record}
 use Rattle.http_front.specs.declared.kept.Kept.{Kept}
-use Rattle.door_worker.specs.Replies.{Replied}
+use Rattle.http_front.specs.Replies.{Replied}
 use Rattle.door_worker.specs.Serving.{Serves}
 use Rattle.door_worker.specs.declared.serving.Serving.{Serving}
 use Rattle.door_worker.specs.declared.serving.Serving.TheVariants as serving
@@ -25,6 +25,7 @@ use Rattle.site_run.specs.Whole.{AllDrewAt, AllDrawn}
 use Rattle.okws_serve.specs.Doors.{Tally, TalliesAt, AllTally, AllAttend, connections_of, begun_of, total, any_starved, ServesConsole, ServesDoors}
 use Rattle.okws_serve.specs.Posts.{DoorIs, AttendedBy}
 use Rattle.okws_serve.specs.Manned.{AllAttended, ConsoleDone, DoorsDone, lives_of, served_of}
+use Rattle.okws_serve.proofs.Spent.{oversees_spent}
 use Rattle.okws_serve.proofs.Finishing.{attended_same}
 use Rattle.okws_serve.proofs.Counting.{one_below, below, below-all, one-below, none-below, sum_below, sum-all, last-below}
 
@@ -272,6 +273,7 @@ console_ends C n R w life old new failed d end = record {
   oversees = d.oversees;
   failed_is = d.failed_is;
   left = end;
+  spent = oversees_spent C R w old new 0 d.lines d.before life d.how d.oversees end.pubd;
 }
 
 -- there are as many doors as before

@@ -12,6 +12,7 @@ use Rattle.site_worker.specs.Rounds.{Attends}
 use Rattle.site_worker.specs.declared.console.Overseen.{Overseen}
 use Rattle.site_worker.specs.declared.console.Overseen.TheVariants as overseen
 use Rattle.site_run.specs.Tied.{LifeBegins, LifeEnds}
+use Rattle.okws_serve.specs.Spent.{OverseesSpent}
 
 -- What was done at a door: so many connections were served whole, so many were cut, and so many did not come.
 pub record Tally : Type 0 where
@@ -85,7 +86,7 @@ abbrev pub is_fault : Overseen → Bool
 is_fault overseen.Finished = false
 is_fault overseen.ConsoleFault = true
 
--- A console of a site was overseen from its first line by a worker of number w, whose life began there and ended in the record: its commands were carried out and answered one after the other, to `end` or its end, or until a call of it failed. Number n launches.
+-- A console of a site was overseen from its first line by a worker of number w, whose life began there and ended in the record: its commands were carried out and answered one after the other, to `end` or its end, or until a call of it failed. Where a publication was refused since all editions of its template are spent, the record has as many as a template may have. Number n launches.
 pub record ServesConsole (C : Config) (n : ℕ) (R : Record) (w : ℕ) (old new : ConnWire) (failed : Bool) : Type 0 where
   pub lines : ℕ
   pub before : Life
@@ -95,3 +96,4 @@ pub record ServesConsole (C : Config) (n : ℕ) (R : Record) (w : ℕ) (old new 
   pub oversees : Oversees C old new 0 lines before after how
   pub failed_is : failed ≡ is_fault how
   pub left : LifeEnds n w after R
+  pub spent : OverseesSpent C R old new 0 lines before after how oversees

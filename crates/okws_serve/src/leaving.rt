@@ -12,7 +12,7 @@ ghost use Rattle.okws_serve.specs.Posts.{DoorIs};
 
 use crate::post::{ConsolePost, DoorPost, Post, PostOf};
 use cell_locks::named::CellNames;
-use named_columns::named::Backed;
+use okld_launch::named::Staffed;
 use okws_outer::children::Children;
 use okws_outer::conn::Conn;
 use okws_outer::door::Door;
@@ -52,7 +52,7 @@ impl Served {
 fn leave_door<
     R: Wait,
     G: Gate,
-    N: Backed,
+    N: Staffed,
     J: Site,
     C: CellNames,
     K: Keeper,
@@ -89,7 +89,7 @@ fn leave_door<
 pub(crate) fn leave_doors<
     R: Wait,
     G: Gate,
-    N: Backed,
+    N: Staffed,
     J: Site,
     C: CellNames,
     K: Keeper,
@@ -134,7 +134,7 @@ pub(crate) fn leave_doors<
 pub(crate) fn leave_console<
     R: Wait,
     G: Gate,
-    N: Backed,
+    N: Staffed,
     J: Site,
     C: CellNames,
     K: Keeper,

@@ -12,7 +12,7 @@ ghost use Rattle.okws_serve.specs.Posts.{DoorIs};
 use crate::post::{ConsolePost, DoorPost, Post, PostOf};
 use admin_console::reader::Reader;
 use cell_locks::named::CellNames;
-use named_columns::named::Backed;
+use okld_launch::named::Staffed;
 use okws_outer::children::Children;
 use okws_outer::conn::Conn;
 use okws_outer::door::Door;
@@ -35,7 +35,7 @@ fn man_doors<
     'a,
     R: Wait,
     G: Gate,
-    N: Backed,
+    N: Staffed,
     J: Site,
     C: CellNames,
     K: Keeper,
@@ -78,7 +78,7 @@ pub(crate) fn man_all<
     'a,
     R: Wait,
     G: Gate,
-    N: Backed,
+    N: Staffed,
     J: Site,
     C: CellNames,
     K: Keeper,

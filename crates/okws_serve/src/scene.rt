@@ -22,7 +22,7 @@ use crate::outside::Outside;
 use crate::post::PostOf;
 use crate::scope::run;
 use cell_locks::named::CellNames;
-use named_columns::named::Backed;
+use okld_launch::named::Staffed;
 use okws_outer::children::Children;
 use okws_outer::conn::Conn;
 use okws_outer::door::Door;
@@ -43,14 +43,14 @@ use std::sync::{Arc, Wait};
 use std::thread::Threads;
 
 /// What the workers of a run are lent.
-pub(crate) struct Scene<R, N: Backed, J: Site, C: CellNames, K: Keeper, S: Sink, F: Children, G> {
+pub(crate) struct Scene<R, N: Staffed, J: Site, C: CellNames, K: Keeper, S: Sink, F: Children, G> {
     pub(crate) rt: R,
     pub(crate) site: Arc<Config, Global>,
     pub(crate) gate: G,
     pub(crate) hall: Hall<N, J, C, K, S, F>,
 }
 
-impl<R: Wait, N: Backed, J: Site, C: CellNames, K: Keeper, S: Sink, F: Children, G: Gate> Scene<
+impl<R: Wait, N: Staffed, J: Site, C: CellNames, K: Keeper, S: Sink, F: Children, G: Gate> Scene<
     R,
     N,
     J,
@@ -82,7 +82,7 @@ impl<R: Wait, N: Backed, J: Site, C: CellNames, K: Keeper, S: Sink, F: Children,
 /// A run that began: what its workers are lent, their seats, the doors, the console, and room for the end.
 pub(crate) struct Staged<
     R,
-    N: Backed,
+    N: Staffed,
     J: Site,
     C: CellNames,
     K: Keeper,
@@ -102,7 +102,7 @@ pub(crate) struct Staged<
 /// Stages a run over what stands outside. Where memory is refused, that comes back.
 pub(crate) fn stage<
     R: Copy,
-    N: Backed,
+    N: Staffed,
     J: Site,
     C: CellNames,
     D: Door,
@@ -125,6 +125,7 @@ pub(crate) fn stage<
     requires servable { IsServable N.site }
     requires doors { (0 < vec_len outside.doors) × (vec_len outside.doors ≤ MOST_DOORS) }
     requires idle { AllIdle (map D.entrance outside.doors.items) }
+    requires children { F.family outside.children ≡ N.children }
     ensures ready { IfOk result (λ o. IsReady N.site N.launcher o.scene.hall.turn o.scene.hall.numbers o.scene.hall.cells o.chairs o.places) }
     ensures doors { IfOk result (λ o. o.places.entrances ≡ map D.entrance outside.doors.items) }
     ensures beside { IfOk result (λ o. (arc_value o.scene.site ≡ N.site) × (o.console.console ≡ outside.console) × (o.console.reader ≡ 0) × (o.room + 1 ≡ N.launcher)) }
@@ -175,7 +176,7 @@ pub(crate) fn stage<
 pub(crate) fn work_in<
     'a,
     R: Threads + Wait + Sync,
-    N: Backed + Send + Sync,
+    N: Staffed + Send + Sync,
     J: Site + Send + Sync,
     C: CellNames + Send + Sync,
     D: Door + Send,
@@ -216,7 +217,7 @@ where
 /// Ends a run whose workers left their posts.
 pub(crate) fn end_run<
     R: Wait + Copy,
-    N: Backed,
+    N: Staffed,
     J: Site,
     C: CellNames,
     D: Door,
@@ -236,14 +237,15 @@ pub(crate) fn end_run<
     overseen: Overseen,
 ) -> Left<D, O, F, K, S, G>
     requires held { IsHeld N.site N.launcher scene.hall.turn scene.hall.numbers scene.hall.cells chairs places }
+    requires tells { N.tells ≡ true }
     requires room { room + 1 ≡ N.launcher }
     requires idle { AllIdle places.entrances }
     ensures idle { AllIdle (map D.entrance result.doors.items) }
     ensures some { IsSome result.ran × IsSome result.log }
     ensures ran { IfSome result.ran (λ ran. IfSome result.log (λ log. (most : ℕ) (old : PlacesAre) (w : ConnWire) → most ≤ MOST_CONNECTIONS
         → WorkDone D.Conn.wire N.site N.launcher scene.hall.numbers.id most chairs old places w (O.wire console) served.connections served.starved (is_fault overseen)
-        → Runs D.Conn.wire N.site N.run_seed N.launcher most (record { steady = N.steady; keeper_faults = N.keeper_faults; sink_faults = N.sink_faults }) old.entrances w ran
-        (record { entrances = map D.entrance result.doors.items; console = O.wire result.console; keepers = map (keeper_of K.tables K.told K.faults K.steady) result.keepers.items; given = S.given log; faults = S.faults log }))) }
+        → Runs D.Conn.wire N.site N.run_seed N.launcher most (record { steady = N.steady; keeper_faults = N.keeper_faults; sink_faults = N.sink_faults; children = N.children }) old.entrances w ran
+        (record { entrances = map D.entrance result.doors.items; console = O.wire result.console; children = F.family result.children; keepers = map (keeper_of K.tables K.told K.faults K.steady) result.keepers.items; given = S.given log; faults = S.faults log }))) }
 {
     let Scene {
         rt,
@@ -269,6 +271,7 @@ fn left<D: Door, O: Conn, F: Children, K: Keeper, S: Sink, G: Gate>(
     overseen: Overseen,
 ) -> Left<D, O, F, K, S, G>
     ensures objects { (result.doors.items ≡ ended.doors.items) × (result.console ≡ console) × (result.keepers.items ≡ ended.keepers.items) × (result.log ≡ Some ended.log) }
+    ensures children { F.family result.children ≡ F.family ended.children }
     ensures ran { result.ran ≡ Some (record { «record» = ended.record; counts = ended.counts; log_failed = ended.log_failed; console_failed = is_fault overseen; starved = served.starved }) }
 {
     let Ended {

@@ -15,7 +15,7 @@ use crate::leaving::{Served, leave_console, leave_doors};
 use crate::manning::{Console, man_all};
 use crate::post::{Post, PostOf, Works};
 use cell_locks::named::CellNames;
-use named_columns::named::Backed;
+use okld_launch::named::Staffed;
 use okws_outer::children::Children;
 use okws_outer::conn::Conn;
 use okws_outer::door::Door;
@@ -51,7 +51,7 @@ fn work_each<R: Threads + Sync, P: Works + Send>(rt: &R, all: &mut [P])
 fn work_all<
     R: Threads + Wait + Sync,
     G: Gate + Sync,
-    N: Backed + Send + Sync,
+    N: Staffed + Send + Sync,
     J: Site + Send + Sync,
     C: CellNames + Send + Sync,
     K: Keeper + Send,
@@ -74,7 +74,7 @@ where
 fn work_posts<
     R: Threads + Wait + Sync,
     G: Gate + Sync,
-    N: Backed + Send + Sync,
+    N: Staffed + Send + Sync,
     J: Site + Send + Sync,
     C: CellNames + Send + Sync,
     K: Keeper + Send,
@@ -99,7 +99,7 @@ pub(crate) fn run<
     'a,
     R: Threads + Wait + Sync,
     G: Gate + Sync,
-    N: Backed + Send + Sync,
+    N: Staffed + Send + Sync,
     J: Site + Send + Sync,
     C: CellNames + Send + Sync,
     K: Keeper + Send,

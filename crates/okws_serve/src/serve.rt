@@ -15,7 +15,7 @@ use crate::outfit::{Left, Limits, Outfit};
 use crate::outside::Outside;
 use crate::scene::{Staged, end_run, stage, work_in};
 use cell_locks::named::CellNames;
-use named_columns::named::Backed;
+use okld_launch::named::Staffed;
 use okws_outer::children::Children;
 use okws_outer::conn::Conn;
 use okws_outer::door::Door;
@@ -66,9 +66,9 @@ where
     ensures idle { AllIdle (map D.entrance result.doors.items) }
     ensures ran { IfSome result.ran (λ ran. IfSome result.log (λ log.
         Runs D.Conn.wire (arc_value site.now) seed.now (vec_len outfit.doors + 1) limits.connections
-        (record { steady = are_steady (map (keeper_of K.tables K.told K.faults K.steady) outfit.keepers.items); keeper_faults = faults_at (map (keeper_of K.tables K.told K.faults K.steady) outfit.keepers.items); sink_faults = S.faults outfit.log })
+        (record { steady = are_steady (map (keeper_of K.tables K.told K.faults K.steady) outfit.keepers.items); keeper_faults = faults_at (map (keeper_of K.tables K.told K.faults K.steady) outfit.keepers.items); sink_faults = S.faults outfit.log; children = F.family outfit.children })
         (map D.entrance outfit.doors.items) (O.wire outfit.console) ran
-        (record { entrances = map D.entrance result.doors.items; console = O.wire result.console; keepers = map (keeper_of K.tables K.told K.faults K.steady) result.keepers.items; given = S.given log; faults = S.faults log }))) }
+        (record { entrances = map D.entrance result.doors.items; console = O.wire result.console; children = F.family result.children; keepers = map (keeper_of K.tables K.told K.faults K.steady) result.keepers.items; given = S.given log; faults = S.faults log }))) }
     ensures log { IsSome result.ran → IsSome result.log }
     ensures unserved { IfNone result.ran ((map D.entrance result.doors.items ≡ map D.entrance outfit.doors.items) × (O.wire result.console ≡ O.wire outfit.console) × (F.family result.children ≡ F.family outfit.children)) }
 {
@@ -78,7 +78,7 @@ where
 // The same in a run that has a name: its launcher's number, its site and its seed are known by it.
 fn serve_numbered<
     R: Threads + Wait + Sync,
-    N: Backed + Send + Sync,
+    N: Staffed + Send + Sync,
     D: Door + Send + Drop,
     O: Conn + Send + Drop,
     F: Children + Send + Drop,
@@ -103,6 +103,7 @@ where
     requires tells { N.tells ≡ true }
     requires launcher { N.launcher ≡ vec_len outfit.doors + 1 }
     requires faults { N.sink_faults ≡ S.faults outfit.log }
+    requires children { F.family outfit.children ≡ N.children }
     requires servable { IsServable N.site }
     requires limit { limits.connections ≤ MOST_CONNECTIONS }
     requires doors { (0 < vec_len outfit.doors) × (vec_len outfit.doors ≤ MOST_DOORS) }
@@ -112,9 +113,9 @@ where
     requires log { IfSome (S.given outfit.log) (λ given. given ≡ []) }
     ensures idle { AllIdle (map D.entrance result.doors.items) }
     ensures ran { IfSome result.ran (λ ran. IfSome result.log (λ log.
-        Runs D.Conn.wire N.site N.run_seed N.launcher limits.connections (record { steady = N.steady; keeper_faults = N.keeper_faults; sink_faults = N.sink_faults })
+        Runs D.Conn.wire N.site N.run_seed N.launcher limits.connections (record { steady = N.steady; keeper_faults = N.keeper_faults; sink_faults = N.sink_faults; children = N.children })
         (map D.entrance outfit.doors.items) (O.wire outfit.console) ran
-        (record { entrances = map D.entrance result.doors.items; console = O.wire result.console; keepers = map (keeper_of K.tables K.told K.faults K.steady) result.keepers.items; given = S.given log; faults = S.faults log }))) }
+        (record { entrances = map D.entrance result.doors.items; console = O.wire result.console; children = F.family result.children; keepers = map (keeper_of K.tables K.told K.faults K.steady) result.keepers.items; given = S.given log; faults = S.faults log }))) }
     ensures log { IsSome result.ran → IsSome result.log }
     ensures unserved { IfNone result.ran ((map D.entrance result.doors.items ≡ map D.entrance outfit.doors.items) × (O.wire result.console ≡ O.wire outfit.console) × (F.family result.children ≡ F.family outfit.children)) }
 {
@@ -144,7 +145,7 @@ where
 // The same in a run whose locks have names.
 fn serve_named<
     R: Threads + Wait + Sync + Copy,
-    N: Backed + Send + Sync,
+    N: Staffed + Send + Sync,
     J: Site + Send + Sync,
     C: CellNames + Send + Sync,
     D: Door + Send + Drop,
@@ -174,11 +175,12 @@ where
     requires servable { IsServable N.site }
     requires doors { (0 < vec_len outside.doors) × (vec_len outside.doors ≤ MOST_DOORS) }
     requires idle { AllIdle (map D.entrance outside.doors.items) }
+    requires children { F.family outside.children ≡ N.children }
     ensures idle { AllIdle (map D.entrance result.doors.items) }
     ensures ran { IfSome result.ran (λ ran. IfSome result.log (λ log.
-        Runs D.Conn.wire N.site N.run_seed N.launcher limits.connections (record { steady = N.steady; keeper_faults = N.keeper_faults; sink_faults = N.sink_faults })
+        Runs D.Conn.wire N.site N.run_seed N.launcher limits.connections (record { steady = N.steady; keeper_faults = N.keeper_faults; sink_faults = N.sink_faults; children = N.children })
         (map D.entrance outside.doors.items) (O.wire outside.console) ran
-        (record { entrances = map D.entrance result.doors.items; console = O.wire result.console; keepers = map (keeper_of K.tables K.told K.faults K.steady) result.keepers.items; given = S.given log; faults = S.faults log }))) }
+        (record { entrances = map D.entrance result.doors.items; console = O.wire result.console; children = F.family result.children; keepers = map (keeper_of K.tables K.told K.faults K.steady) result.keepers.items; given = S.given log; faults = S.faults log }))) }
     ensures log { IsSome result.ran → IsSome result.log }
     ensures unserved { IfNone result.ran ((map D.entrance result.doors.items ≡ map D.entrance outside.doors.items) × (O.wire result.console ≡ O.wire outside.console) × (F.family result.children ≡ F.family outside.children)) }
 {

@@ -16,33 +16,34 @@ use Rattle.okws_server.specs.Served.{IsUntouched, RanAt, RanLogged, RanOver, Ran
 use Rattle.okws_server.specs.Views.{Gear}
 
 over_by : {X : Type 0} (wire : X → ConnWire) (server : Serving) (C : Config) (seed : List ℕ) (a b : Gear) (ran : Ran) (given : Option (List ℕ)) (faults m : ℕ) (start : StartIs) (old new : List Entrance) (keepers : List KeeperIs) →
-    old ≡ replicate server.doors new_entrance → m ≡ server.doors → start.steady ≡ true → start.sink_faults ≡ 0 → b.net ≡ record (a.net) { doors = new } → b.depot ≡ a.depot →
-    Runs wire C seed (m + 1) server.connections start old a.console ran (record { entrances = new; console = b.console; keepers = keepers; given = given; faults = faults }) →
+    old ≡ replicate server.doors new_entrance → m ≡ server.doors → start.steady ≡ true → start.sink_faults ≡ 0 → start.children ≡ a.family → b.net ≡ record (a.net) { doors = new } → b.depot ≡ a.depot →
+    Runs wire C seed (m + 1) server.connections start old a.console ran (record { entrances = new; console = b.console; children = b.family; keepers = keepers; given = given; faults = faults }) →
     RanOver wire server C seed a b ran given faults
-over_by wire server C seed a b ran given faults m start old new keepers o many steady none net depot h =
+over_by wire server C seed a b ran given faults m start old new keepers o many steady none family net depot h =
     let doors : (b.net).doors ≡ new = ap (λ n. n.doors) net in
     record {
       start = start;
       steady = steady;
       sink = none;
+      children = family;
       keepers = keepers;
-      runs = subst (λ x. Runs wire C seed (server.doors + 1) server.connections start (replicate server.doors new_entrance) a.console ran (record { entrances = x; console = b.console; keepers = keepers; given = given; faults = faults })) (sym doors)
-          (subst (λ x. Runs wire C seed (server.doors + 1) server.connections start x a.console ran (record { entrances = new; console = b.console; keepers = keepers; given = given; faults = faults })) o
-          (subst (λ x. Runs wire C seed (x + 1) server.connections start old a.console ran (record { entrances = new; console = b.console; keepers = keepers; given = given; faults = faults })) many h));
+      runs = subst (λ x. Runs wire C seed (server.doors + 1) server.connections start (replicate server.doors new_entrance) a.console ran (record { entrances = x; console = b.console; children = b.family; keepers = keepers; given = given; faults = faults })) (sym doors)
+          (subst (λ x. Runs wire C seed (server.doors + 1) server.connections start x a.console ran (record { entrances = new; console = b.console; children = b.family; keepers = keepers; given = given; faults = faults })) o
+          (subst (λ x. Runs wire C seed (x + 1) server.connections start old a.console ran (record { entrances = new; console = b.console; children = b.family; keepers = keepers; given = given; faults = faults })) many h));
       net = subst (λ x. b.net ≡ record (a.net) { doors = x }) (sym doors) net;
       depot = depot;
     }
 
 -- a run over doors that were open
 pub ran_over : {X S : Type 0} (wire : X → ConnWire) (server : Serving) (C : Config) (seed : List ℕ) (a b : Gear) (ran : Option Ran) (log : Option S) (given : S → Option (List ℕ)) (faults : S → ℕ) (m : ℕ) (start : StartIs)
-    (old new : List Entrance) (keepers : List KeeperIs) → old ≡ replicate server.doors new_entrance → m ≡ server.doors → start.steady ≡ true → start.sink_faults ≡ 0 → b.net ≡ record (a.net) { doors = new } →
+    (old new : List Entrance) (keepers : List KeeperIs) → old ≡ replicate server.doors new_entrance → m ≡ server.doors → start.steady ≡ true → start.sink_faults ≡ 0 → start.children ≡ a.family → b.net ≡ record (a.net) { doors = new } →
     b.depot ≡ a.depot →
-    IfSome ran (λ r. IfSome log (λ l. Runs wire C seed (m + 1) server.connections start old a.console r (record { entrances = new; console = b.console; keepers = keepers; given = given l; faults = faults l }))) →
+    IfSome ran (λ r. IfSome log (λ l. Runs wire C seed (m + 1) server.connections start old a.console r (record { entrances = new; console = b.console; children = b.family; keepers = keepers; given = given l; faults = faults l }))) →
     IfSome ran (λ r. IfSome log (λ l. RanOver wire server C seed a b r (given l) (faults l)))
-ran_over wire server C seed a b None log given faults m start old new keepers o many steady none net depot h = tt
-ran_over wire server C seed a b (Some r) None given faults m start old new keepers o many steady none net depot h = tt
-ran_over wire server C seed a b (Some r) (Some l) given faults m start old new keepers o many steady none net depot h =
-    over_by wire server C seed a b r (given l) (faults l) m start old new keepers o many steady none net depot h
+ran_over wire server C seed a b None log given faults m start old new keepers o many steady none family net depot h = tt
+ran_over wire server C seed a b (Some r) None given faults m start old new keepers o many steady none family net depot h = tt
+ran_over wire server C seed a b (Some r) (Some l) given faults m start old new keepers o many steady none family net depot h =
+    over_by wire server C seed a b r (given l) (faults l) m start old new keepers o many steady none family net depot h
 
 -- a run that never began
 pub untouched_by : (P : Type 0) (a b : Gear) (ran : Option Ran) (new : List Entrance) → b.net ≡ record (a.net) { doors = new } → b.depot ≡ a.depot → IfNone ran (P × (b.console ≡ a.console) × (b.family ≡ a.family)) →
@@ -55,7 +56,7 @@ over_alike : {X : Type 0} (wire : X → ConnWire) (server : Serving) (C : Config
     c ≡ record a { rack = c.rack } → d ≡ record b { rack = d.rack } → RanOver wire server C seed a b ran given faults → RanOver wire server C seed c d ran given faults
 over_alike wire server C seed a b c d ran given faults e f h =
     let made : RanOver wire server C seed (record a { rack = c.rack }) (record b { rack = d.rack }) ran given faults =
-    record { start = h.start; steady = h.steady; sink = h.sink; keepers = h.keepers; runs = h.runs; net = h.net; depot = h.depot } in
+    record { start = h.start; steady = h.steady; sink = h.sink; children = h.children; keepers = h.keepers; runs = h.runs; net = h.net; depot = h.depot } in
     subst (λ x. RanOver wire server C seed x d ran given faults) (sym e) (subst (λ x. RanOver wire server C seed (record a { rack = c.rack }) x ran given faults) (sym f) made)
 
 -- its log's sink is closed

@@ -96,9 +96,10 @@ pub record RanOver {X : Type 0} (wire : X → ConnWire) (server : Serving) (C : 
   pub start : StartIs
   pub steady : start.steady ≡ true
   pub sink : start.sink_faults ≡ 0
+  pub children : start.children ≡ a.family
   pub keepers : List KeeperIs
   pub runs : Runs wire C seed (server.doors + 1) server.connections start (replicate server.doors new_entrance) a.console ran
-      (record { entrances = (b.net).doors; console = b.console; keepers = keepers; given = given; faults = faults })
+      (record { entrances = (b.net).doors; console = b.console; children = b.family; keepers = keepers; given = given; faults = faults })
   pub net : b.net ≡ record (a.net) { doors = (b.net).doors }
   pub depot : b.depot ≡ a.depot
 

@@ -139,11 +139,12 @@ module _ (R : Record) (s : Sat) where
 
 module _ (t : TurnIs) (cells n : ℕ) (R : Record) where
   life_ends : (w : ℕ) (J : Life) (s : Sat) (c : CellsSeen) (a : SeatIs (Entry LauncherEvent)) → IsChair t cells w s c a → IsChairOf J s c a → EndsIn R w (seen_of s)
-      → CellsGrow n c.number c.cells R.cells → GrowsBy by_entry a.number a.seen R.launcher → list_of R w ≡ s.own → ((u : ℕ) → u < length R.cells → slice_index s.board u ≤ begun R.launcher u) → LifeEnds n w J R
-  life_ends w J s c a h o columns grown launcher list board = record {
+      → GrowsBy by_entry s.number s.pubd R.pubd → CellsGrow n c.number c.cells R.cells → GrowsBy by_entry a.number a.seen R.launcher → list_of R w ≡ s.own → ((u : ℕ) → u < length R.cells → slice_index s.board u ≤ begun R.launcher u) → LifeEnds n w J R
+  life_ends w J s c a h o columns pubd grown launcher list board = record {
     number_is = ap (λ (x : CellsSeen). x.number) o.cells_is ∙ h.cells_number;
     own_is = ap (λ (S : Seen). S.own) o.seen_is ∙ sym list;
     columns = subst (EndsIn R w) (sym o.seen_is) columns;
+    pubd = subst (λ I. Grows w I R.pubd) (sym o.pubd_is) (grows_foreign w s.pubd R.pubd (subst (λ k. GrowsBy by_entry k s.pubd R.pubd) h.sat_number pubd));
     cells = subst (λ (x : CellsSeen). CellsGrow n w x.cells R.cells) (sym o.cells_is) (subst (λ k. CellsGrow n k c.cells R.cells) h.cells_number grown);
     launcher = subst (λ (x : SeatIs (Entry LauncherEvent)). Grows w x.seen R.launcher) (sym o.launcher_is) (grows_foreign w a.seen R.launcher (subst (λ k. GrowsBy by_entry k a.seen R.launcher) h.seat_number launcher));
     board = λ u l. subst (λ (b : List ℕ). slice_index b u ≤ begun R.launcher u) (sym o.board_is) (board u l);
@@ -157,7 +158,7 @@ module _ (t : TurnIs) (cells n : ℕ) (R : Record) where
   all_end w (J ∷ Js) (s ∷ ss) [] as' last h o g i j list board = absurd o
   all_end w (J ∷ Js) (s ∷ ss) (c ∷ cs) [] last h o g i j list board = absurd o
   all_end w (J ∷ Js) (s ∷ ss) (c ∷ cs) (a ∷ as') last h o g i j list board = (
-    life_ends w J s c a h.0 o.0 (columns_end R s w h.0.sat_number g.okd_grown.0 g.proxies_grown.0 g.pubd_grown.0 g.log_grown.0) i.0 j.0.0 (list 0 w (omega arith)) board.0,
+    life_ends w J s c a h.0 o.0 (columns_end R s w h.0.sat_number g.okd_grown.0 g.proxies_grown.0 g.pubd_grown.0 g.log_grown.0) g.pubd_grown.0 i.0 j.0.0 (list 0 w (omega arith)) board.0,
     all_end (suc w) Js ss cs as' last h.1 o.1 (record { okd_grown = g.okd_grown.1; proxies_grown = g.proxies_grown.1; pubd_grown = g.pubd_grown.1; log_grown = g.log_grown.1 }) i.1 j.1 (λ k m e. list (suc k) m (omega arith)) board.1,
   )
 

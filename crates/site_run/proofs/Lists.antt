@@ -21,7 +21,7 @@ use Rattle.turn_lock.specs.Rows.{AllNone}
 use Rattle.turn_lock.proofs.Rows.{turned_push}
 use Rattle.site_run.specs.Journals.{AllProxies, AllCells}
 use Rattle.site_run.specs.Keepers.{KeeperIs, IsKeeper, AreBacked}
-use Rattle.site_run.specs.Closing.{AllKept}
+use Rattle.site_run.specs.Closing.{AllKept, KeeperEnds}
 use Rattle.site_run.proofs.Seating.{push_length}
 
 pub rise_push : (k m : ℕ) (xs : List ℕ) → m ≡ length xs + k → RiseFrom k xs → RiseFrom k (xs ++ m ∷ [])
@@ -41,13 +41,12 @@ pub backed_next : {K : Type 0} (f : K → KeeperIs) (C : Config) (steady : Bool)
     → IsKeeper C p (f k) × (steady ≡ true → (f k).steady ≡ true) × (first p ≤ (f k).faults) × AreBacked C steady first (suc p) (reverse (map f left))
 backed_next f C steady first p more left k e h = subst (AreBacked C steady first p) (turned_push f more left k e) h
 
-pub kept_push : (C : Config) (steady : Bool) (first : ℕ → ℕ) (p m : ℕ) (ls : List KeeperIs) (l : KeeperIs) (Js : List (List (Entry ProxyEvent))) (J : List (Entry ProxyEvent)) → m ≡ length Js + p → AllKept C steady first p ls Js
-    → l.tables ≡ tables C m → counted (first m) (faults J) ≤ l.faults → (steady ≡ true → faults J ≡ 0) → AllKept C steady first p (ls ++ l ∷ []) (Js ++ J ∷ [])
-kept_push C steady first p m [] l [] J e h t c s =
-    let q : m ≡ p = omega arith in (t ∙ ap (tables C) q, subst (λ x. counted (first x) (faults J) ≤ l.faults) q c, s, tt)
-kept_push C steady first p m [] l (I ∷ Js) J e h t c s = absurd h
-kept_push C steady first p m (k ∷ ls) l [] J e h t c s = absurd h
-kept_push C steady first p m (k ∷ ls) l (I ∷ Js) J e h t c s = (h.0, h.1, h.2, kept_push C steady first (suc p) m ls l Js J (omega arith) h.3 t c s)
+pub kept_push : (C : Config) (tells steady : Bool) (first : ℕ → ℕ) (p m : ℕ) (ls : List KeeperIs) (l : KeeperIs) (Js : List (List (Entry ProxyEvent))) (J : List (Entry ProxyEvent)) → m ≡ length Js + p → AllKept C tells steady first p ls Js
+    → KeeperEnds C tells steady (first m) m l J → AllKept C tells steady first p (ls ++ l ∷ []) (Js ++ J ∷ [])
+kept_push C tells steady first p m [] l [] J e h it = (let q : m ≡ p = omega arith in subst (λ x. KeeperEnds C tells steady (first x) x l J) q it, tt)
+kept_push C tells steady first p m [] l (I ∷ Js) J e h it = absurd h
+kept_push C tells steady first p m (k ∷ ls) l [] J e h it = absurd h
+kept_push C tells steady first p m (k ∷ ls) l (I ∷ Js) J e h it = (h.0, kept_push C tells steady first (suc p) m ls l Js J (omega arith) h.1 it)
 
 pub proxies_push : (C : Config) (seed : List ℕ) (n p m : ℕ) (Js : List (List (Entry ProxyEvent))) (J : List (Entry ProxyEvent)) → m ≡ length Js + p → AllProxies C seed n p Js
     → ProxyLaw C seed m J → LaunchedBy proxy_grant n J → AllProxies C seed n p (Js ++ J ∷ [])

@@ -36,8 +36,8 @@ use Rattle.service_cell.specs.Standing.{Standing, speaker}
 use Rattle.site_cell.specs.Held.{by_event}
 use Rattle.cell_locks.proofs.Onlys.{new_at, only_else}
 use Rattle.cell_locks.specs.Row.{CellsSeen, OnlyAt, seen_at}
-use Rattle.cell_locks.specs.declared.answer.Talked.{Talked}
-use Rattle.cell_locks.specs.declared.answer.Talked.TheVariants as talked
+use Rattle.service_cell.specs.declared.answer.Spoken.{Spoken}
+use Rattle.service_cell.specs.declared.answer.Spoken.TheVariants as spoken
 use Rattle.door_worker.specs.Asking.{Asked}
 use Rattle.admin_console.specs.declared.controls.Publishing.{Publishing}
 use Rattle.admin_console.specs.declared.controls.Publishing.TheVariants as publishing
@@ -251,25 +251,22 @@ module _ (C : Config) (n w : ℕ) where
       cells = same_cells s J K b.past only grown o (seen_is ∙ ap (λ (x : Standing). x.past) after) now;
     }
 
-  talks_owned : (asked : Asked) (s k : ℕ) (answer : Talked) (J K : Life) → Talks C n asked s k answer J K → Owns C n w J → Owns C n w K
-  talks_owned asked s k (talked.Replied r) J K h o =
+  talks_owned : (asked : Asked) (s k : ℕ) (answer : Spoken) (J K : Life) → Talks C n asked s k answer J K → Owns C n w J → Owns C n w K
+  talks_owned asked s k spoken.Reply J K h o =
       let t = h.talked in
       dialog_owned asked s k J K t.before t.after t.found.service_is h.only h.launcher_is t.found.grows t.seen_is o asked.head asked.content _ _ t.talks.1.6
-  talks_owned asked s k talked.Uncopied J K h o =
-      let t = h.talked in
-      dialog_owned asked s k J K t.before t.after t.found.service_is h.only h.launcher_is t.found.grows t.seen_is o asked.head asked.content _ _ t.talks.1.6
-  talks_owned asked s k (talked.Crashed why) J K h o =
+  talks_owned asked s k (spoken.Crashed why) J K h o =
       let t = h.talked in
       dialog_owned asked s k J K t.before t.after t.found.service_is h.only h.launcher_is t.found.grows t.seen_is o asked.head asked.content _ _ t.talks.1.2
-  talks_owned asked s k (talked.Missed wanted is) J K h o =
+  talks_owned asked s k (spoken.Missed wanted is) J K h o =
       let t = h.talked in
       let b = t.before in
       missed_owned_there asked s k J K t.before t.after t.found.service_is h.only h.launcher_is t.found.grows t.seen_is o is
       (subst (λ i. t.after ≡ record b { past = cell.Missed (number_of J) i is ∷ b.past }) refl t.talks.3) t.talks.4
-  talks_owned asked s k (talked.Superseded i shown) J K h o =
+  talks_owned asked s k (spoken.Superseded i shown) J K h o =
       let t = h.talked in
       dialog_owned asked s k J K t.before t.after t.found.service_is h.only h.launcher_is t.found.grows t.seen_is o asked.head asked.content _ _ t.talks.1.4
-  talks_owned asked s k talked.NoMemory J K h o =
+  talks_owned asked s k spoken.NoMemory J K h o =
       let t = h.talked in
       nothing_owned_there asked s k J K t.before t.after t.found.service_is h.only h.launcher_is t.found.grows t.seen_is o t.talks.0 t.talks.1
 
@@ -278,7 +275,7 @@ module _ (C : Config) (n w : ℕ) where
       let enters = subst (λ v. AtPubd v (pubd.Publish t content) J.seen h.0 K.seen) o.number_is h.2 in
       let l = J.launcher.seen in
       sees_owned J K K.seen h.3 (pubd_keeps (length C.proxies) w (pubd.Publish t content) (whole J) h.0 (beside l K.seen) (pubd_beside l w (pubd.Publish t content) J.seen h.0 K.seen enters) o.columns) (λ s. ap (λ (S : Seen). filter (is_at_cell s) S.own) enters.1) o
-  publishes_owned J t content publishing.EditionsSpent K h o = sees_owned J K J.seen h.2 o.columns (λ s. refl) o
+  publishes_owned J t content publishing.EditionsSpent K h o = sees_owned J K J.seen h.1 o.columns (λ s. refl) o
   publishes_owned J t content publishing.NoMemory K (inl h) o = starves_owned J K h o
   publishes_owned J t content publishing.NoMemory K (inr h) o = subst (Owns C n w) (sym h) o
 

@@ -10,7 +10,7 @@ use Rattle.monitor_model.specs.declared.verdict.Way.{Way}
 use Rattle.monitor_model.specs.declared.verdict.Way.TheVariants as way
 use Rattle.http_front.specs.declared.kept.Kept.{Kept as KeptHead}
 use Rattle.door_worker.specs.Asking.{Asked}
-use Rattle.door_worker.specs.Replies.{Replied}
+use Rattle.http_front.specs.Replies.{Replied}
 use Rattle.door_worker.specs.Serving.{Course, IsHandled, Serves}
 use Rattle.door_worker.specs.Serving.{Handled, Refused, Starved, Broken}
 use Rattle.door_worker.specs.declared.handler.Outcome.{Outcome}
@@ -23,8 +23,8 @@ use Rattle.admin_console.specs.declared.order.Order.{Order}
 use Rattle.admin_console.specs.declared.order.Order.TheVariants as order
 use Rattle.admin_console.specs.declared.step.Stepped.{Stepped}
 use Rattle.admin_console.specs.declared.step.Stepped.TheVariants as stepped
-use Rattle.cell_locks.specs.declared.answer.Talked.{Talked}
-use Rattle.cell_locks.specs.declared.answer.Talked.TheVariants as talked
+use Rattle.service_cell.specs.declared.answer.Spoken.{Spoken}
+use Rattle.service_cell.specs.declared.answer.Spoken.TheVariants as spoken
 use Rattle.okld_launch.specs.Launchers.{LauncherIs}
 use Rattle.okld_launch.specs.Turns.{InTurn}
 use Rattle.okld_launch.specs.declared.answer.Launched.{Launched}
@@ -42,7 +42,7 @@ pub record IsKept (C : Config) (n : ℕ) (P : Life → Type 0) : Type 0 where
   pub starves : (J K : Life) → Starves J K → P J → P K
   pub turns : (events : List LauncherEvent) (J K : Life) → TakesTurn events J K → P J → P K
   pub accepts : (path : List ℕ) (goes : Way) (J K : Life) → Accepts C path goes J K → P J → P K
-  pub talks : (asked : Asked) (s k : ℕ) (answer : Talked) (J K : Life) → Talks C n asked s k answer J K → P J → P K
+  pub talks : (asked : Asked) (s k : ℕ) (answer : Spoken) (J K : Life) → Talks C n asked s k answer J K → P J → P K
   pub publishes : (J : Life) (t : ℕ) (content : List ℕ) (p : Publishing) (K : Life) → Publishes J t content p K → P J → P K
 
 module _ (C : Config) (n : ℕ) (P : Life → Type 0) (kept : IsKept C n P) where
@@ -69,14 +69,12 @@ module _ (C : Config) (n : ℕ) (P : Life → Type 0) (kept : IsKept C n P) wher
 
   -- ---- a request
 
-  follows : (s k : ℕ) (answer : Talked) (became : Outcome) (reply : Replied) (J K : Life) → Follows C s k answer became reply J K → P J → P K
-  follows s k (talked.Replied r) became reply J K (inl h) p = same J K h.2 p
-  follows s k (talked.Replied r) became reply J K (inr h) p = kept.starves J K h.2 p
-  follows s k talked.Uncopied became reply J K h p = kept.starves J K h.1 p
-  follows s k (talked.Crashed why) became reply J K h p = reports s k J K h.1 p
-  follows s k (talked.Missed wanted is) became reply J K h p = same J K h.1 p
-  follows s k (talked.Superseded i shown) became reply J K h p = same J K h.1 p
-  follows s k talked.NoMemory became reply J K h p = kept.starves J K h.1 p
+  follows : (s k : ℕ) (answer : Spoken) (became : Outcome) (reply : Replied) (J K : Life) → Follows C s k answer became reply J K → P J → P K
+  follows s k spoken.Reply became reply J K h p = same J K h.2 p
+  follows s k (spoken.Crashed why) became reply J K h p = reports s k J K h.1 p
+  follows s k (spoken.Missed wanted is) became reply J K h p = same J K h.1 p
+  follows s k (spoken.Superseded i shown) became reply J K h p = same J K h.1 p
+  follows s k spoken.NoMemory became reply J K h p = kept.starves J K h.1 p
 
   goes_on : (asked : Asked) (goes : Way) (became : Outcome) (reply : Replied) (J K : Life) → Goes C n asked goes became reply J K → P J → P K
   goes_on asked way.NotOwned became reply J K h p = same J K h.1 p

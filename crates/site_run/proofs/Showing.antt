@@ -27,8 +27,8 @@ use Rattle.admin_console.specs.declared.controls.Publishing.{Publishing}
 use Rattle.admin_console.specs.declared.controls.Publishing.TheVariants as publishing
 use Rattle.cell_locks.proofs.Onlys.{new_at, only_else}
 use Rattle.cell_locks.specs.Row.{CellsSeen, OnlyAt, seen_at}
-use Rattle.cell_locks.specs.declared.answer.Talked.{Talked}
-use Rattle.cell_locks.specs.declared.answer.Talked.TheVariants as talked
+use Rattle.service_cell.specs.declared.answer.Spoken.{Spoken}
+use Rattle.service_cell.specs.declared.answer.Spoken.TheVariants as spoken
 use Rattle.door_worker.specs.Asking.{Asked}
 use Rattle.site_worker.specs.Handling.{Accepts, Talks, asker_of}
 use Rattle.site_worker.specs.Launching.{TakesTurn}
@@ -117,7 +117,7 @@ module _ (C : Config) (n w : ℕ) where
 
   publishes_shown : (J : Life) (t : ℕ) (content : List ℕ) (p : Publishing) (K : Life) → Publishes J t content p K → Shows w J → Shows w K
   publishes_shown J t content (publishing.Edition m) K h o = sees_shown J K K.seen h.3 o
-  publishes_shown J t content publishing.EditionsSpent K h o = sees_shown J K J.seen h.2 o
+  publishes_shown J t content publishing.EditionsSpent K h o = sees_shown J K J.seen h.1 o
   publishes_shown J t content publishing.NoMemory K (inl h) o = starves_shown J K h o
   publishes_shown J t content publishing.NoMemory K (inr h) o = subst (Shows w) (sym h) o
 
@@ -150,24 +150,21 @@ module _ (C : Config) (n w : ℕ) where
   crash_fits top cause.FrameLimit = tt
   crash_fits top cause.Starved = tt
 
-  talks_shown : (asked : Asked) (s k : ℕ) (answer : Talked) (J K : Life) → Talks C n asked s k answer J K → Shows w J → Shows w K
-  talks_shown asked s k (talked.Replied r) J K h o =
+  talks_shown : (asked : Asked) (s k : ℕ) (answer : Spoken) (J K : Life) → Talks C n asked s k answer J K → Shows w J → Shows w K
+  talks_shown asked s k spoken.Reply J K h o =
       let t = h.talked in
       dialog_shown s J K t.before t.after h.only t.found.grows h.board t.seen_is o asked.head asked.content _ _ tt t.talks.1.6
-  talks_shown asked s k talked.Uncopied J K h o =
-      let t = h.talked in
-      dialog_shown s J K t.before t.after h.only t.found.grows h.board t.seen_is o asked.head asked.content _ _ tt t.talks.1.6
-  talks_shown asked s k (talked.Crashed why) J K h o =
+  talks_shown asked s k (spoken.Crashed why) J K h o =
       let t = h.talked in
       dialog_shown s J K t.before t.after h.only t.found.grows h.board t.seen_is o asked.head asked.content _ (crash_end why) (crash_fits (slice_index K.board s) why) t.talks.1.2
-  talks_shown asked s k (talked.Missed wanted is) J K h o =
+  talks_shown asked s k (spoken.Missed wanted is) J K h o =
       let t = h.talked in
       turn_shown s J K t.before t.after h.only t.found.grows h.board t.seen_is o
       (subst (Each (OwnShown w (slice_index K.board s))) (sym (ap (λ (x : Standing). x.past) t.talks.3)) (tt, before_shown s J K t.before t.after h.only t.found.grows h.board t.seen_is o))
-  talks_shown asked s k (talked.Superseded i shown) J K h o =
+  talks_shown asked s k (spoken.Superseded i shown) J K h o =
       let t = h.talked in
       dialog_shown s J K t.before t.after h.only t.found.grows h.board t.seen_is o asked.head asked.content _ (end.Superseded shown) t.talks.1.2 t.talks.1.4
-  talks_shown asked s k talked.NoMemory J K h o =
+  talks_shown asked s k spoken.NoMemory J K h o =
       let t = h.talked in
       turn_shown s J K t.before t.after h.only t.found.grows h.board t.seen_is o
       (subst (Each (OwnShown w (slice_index K.board s))) (sym (ap (λ (x : Standing). x.past) t.talks.0)) (before_shown s J K t.before t.after h.only t.found.grows h.board t.seen_is o))

@@ -15,17 +15,18 @@ use Rattle.turn_lock.specs.Seats.{SeatIs}
 use Rattle.cell_locks.specs.Row.{CellsSeen, IsNew}
 use Rattle.site_locks.specs.Made.{fresh}
 use Rattle.site_locks.specs.Sat.{Sat, seen_of}
-use Rattle.site_worker.specs.Lives.{Life}
+use Rattle.site_worker.specs.Lives.{Life, life_of}
 use Rattle.site_run.specs.Rows.{ChairsAre}
 use Rattle.site_run.specs.Tied.{IsUnusedChair, OnlyLaunches, AreUnused, IsChairOf, AreChairsOf, SeatsOf, MoreOf, LifeBegins, AllBegin, LifeEnds, AllEnd}
 
 -- ---- whose the seats are
 
 -- a worker that was made of these seats
-pub chair_of : (J : Life) (s : Sat) (c : CellsSeen) (a : SeatIs (Entry LauncherEvent)) → J ≡ record { seen = seen_of s; cells = c; board = s.board; launcher = a } → IsChairOf J s c a
+pub chair_of : (J : Life) (s : Sat) (c : CellsSeen) (a : SeatIs (Entry LauncherEvent)) → J ≡ life_of s c a → IsChairOf J s c a
 chair_of J s c a e = record {
   seen_is = ap (λ (K : Life). K.seen) e;
   board_is = ap (λ (K : Life). K.board) e;
+  pubd_is = ap (λ (K : Life). K.pubd) e;
   cells_is = ap (λ (K : Life). K.cells) e;
   launcher_is = ap (λ (K : Life). K.launcher) e;
 }
@@ -139,6 +140,7 @@ life_begins C w J s c a u h =
     record {
       seen_is = subst (λ (items : List Own). J.seen ≡ record (nothing_seen (length C.proxies)) { own = items }) (sym own_is) seen_is;
       board_is = h.board_is ∙ ap (λ (x : Sat). x.board) u.sat_is;
+      pubd_is = h.pubd_is ∙ ap (λ (x : Sat). x.pubd) u.sat_is;
       cells = subst (IsNew (length C.services) w) (sym h.cells_is) u.cells;
       seat = ap (λ (x : SeatIs (Entry LauncherEvent)). x.number) h.launcher_is ∙ u.seat;
       launches = subst (λ (items : List Own). OnlyLaunches w items J.launcher.seen) (sym own_is) (subst (OnlyLaunches w s.own) (sym past_is) u.launches);

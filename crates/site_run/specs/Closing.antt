@@ -1,5 +1,5 @@
 -- What a run leaves of its log's sink and of its keepers.
-use Rattle.std.specs.Prelude.{◌≡◌, ◌≤◌, ℕ, suc, Bool, List, [], ◌∷◌, true, false, IfSome}
+use Rattle.std.specs.Prelude.{◌≡◌, ◌≤◌, ℕ, suc, Bool, List, [], ◌∷◌, true, false, IfSome, is_some}
 use Rattle.std.specs.declared.option.Option.{Option}
 use Rattle.okws_base.specs.declared.journal.Entry.{Entry}
 use Rattle.okws_plan.specs.declared.configuration.Config.{Config}
@@ -9,6 +9,7 @@ use Rattle.okws_plan.specs.declared.event.ProxyEvent.{ProxyEvent}
 use Rattle.okws_outer.specs.Streams.{counted, Rose}
 use Rattle.monitor_model.specs.Columns.{faults}
 use Rattle.monitor_model.specs.Logd.{log_text}
+use Rattle.monitor_model.specs.Proxy.{rows}
 use Rattle.log_daemon.specs.Seen.{IsFront}
 use Rattle.site_run.specs.Keepers.{KeeperIs}
 
@@ -19,10 +20,17 @@ pub record WritesLog (C : Config) (J : List (Entry LogEvent)) (given : Option (L
   pub cause : failed ≡ true → Rose before after
   pub later : before ≤ after
 
--- The keepers of the proxies from p on, in a run in which no call of a keeper fails where `steady` says so, and which began when their counts were `first`: each has its proxy's tables, and at most as many Calls were marked Fault as its count rose.
-abbrev pub AllKept : Config → Bool → (ℕ → ℕ) → ℕ → List KeeperIs → List (List (Entry ProxyEvent)) → Type 0
-AllKept C steady first p [] [] = Unit {0}
-AllKept C steady first p [] (J ∷ Js) = ⊥
-AllKept C steady first p (k ∷ ks) [] = ⊥
-AllKept C steady first p (k ∷ ks) (J ∷ Js) =
-    (k.tables ≡ tables C p) × (counted (first p) (faults J) ≤ k.faults) × (steady ≡ true → faults J ≡ 0) × AllKept C steady first (suc p) ks Js
+-- A keeper of proxy p, whose journal this is, in a run in which keepers tell their rows where `tells` says so, in which no call of a keeper fails where `steady` says so, and which began when the keeper's count was `first`: it has the proxy's tables, and its rows are those of the journal; at most as many Calls were marked Fault as its count rose.
+pub record KeeperEnds (C : Config) (tells steady : Bool) (first p : ℕ) (k : KeeperIs) (J : List (Entry ProxyEvent)) : Type 0 where
+  pub tables_are : k.tables ≡ tables C p
+  pub tells_them : tells ≡ true → is_some k.told ≡ true
+  pub rows_are : IfSome k.told (λ T. T ≡ rows C p J)
+  pub faults_are : counted first (faults J) ≤ k.faults
+  pub faultless : steady ≡ true → faults J ≡ 0
+
+-- The same of the keepers of the proxies from p on.
+abbrev pub AllKept : Config → Bool → Bool → (ℕ → ℕ) → ℕ → List KeeperIs → List (List (Entry ProxyEvent)) → Type 0
+AllKept C tells steady first p [] [] = Unit {0}
+AllKept C tells steady first p [] (J ∷ Js) = ⊥
+AllKept C tells steady first p (k ∷ ks) [] = ⊥
+AllKept C tells steady first p (k ∷ ks) (J ∷ Js) = KeeperEnds C tells steady (first p) p k J × AllKept C tells steady first (suc p) ks Js

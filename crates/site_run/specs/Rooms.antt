@@ -4,18 +4,12 @@ use Rattle.okws_plan.specs.declared.configuration.Config.{Config}
 use Rattle.launch_journal.specs.Launches.{Launches}
 use Rattle.live_board.specs.Seats.{BoardIs, AreRising}
 use Rattle.live_board.specs.Seats.{SeatIs as Place}
+use Rattle.okld_launch.specs.Launchers.{ArePapers}
 
 -- An empty vector, of this length and this capacity, has room for n items.
 pub record HasRoom (n len capacity : ℕ) : Type 0 where
   pub empty : len ≡ 0
   pub room : n ≤ capacity
-
--- What a launcher of this site and this seed takes, which did nothing yet.
-pub record ArePapers (C : Config) (seed : List ℕ) (journal : Launches) (site : Config) (own_seed : List ℕ) : Type 0 where
-  pub config_is : journal.config ≡ C
-  pub none : journal.past ≡ []
-  pub site_is : site ≡ C
-  pub seed_is : own_seed ≡ seed
 
 -- A board for the numbers of connections and so many seats at it, those of number 0 first, from which nothing was drawn.
 pub record AreOffered (doors : ℕ) (numbers : BoardIs) (places : List Place) : Type 0 where

@@ -68,6 +68,7 @@ Unused C x = AreUnused C 0 x.seats x.cells x.turns
 pub record IsChairOf (J : Life) (s : Sat) (c : CellsSeen) (a : SeatIs (Entry LauncherEvent)) : Type 0 where
   pub seen_is : J.seen ≡ seen_of s
   pub board_is : J.board ≡ s.board
+  pub pubd_is : J.pubd ≡ s.pubd
   pub cells_is : J.cells ≡ c
   pub launcher_is : J.launcher ≡ a
 
@@ -100,6 +101,7 @@ pub record MoreOf (Js : List Life) (x y : ChairsAre) : Type 0 where
 pub record LifeBegins (C : Config) (w : ℕ) (J : Life) : Type 0 where
   pub seen_is : J.seen ≡ record (nothing_seen (length C.proxies)) { own = J.seen.own }
   pub board_is : J.board ≡ none_begun
+  pub pubd_is : J.pubd ≡ []
   pub cells : IsNew (length C.services) w J.cells
   pub seat : J.launcher.number ≡ w
   pub launches : OnlyLaunches w J.seen.own J.launcher.seen
@@ -110,11 +112,12 @@ abbrev pub AllBegin : Config → ℕ → List Life → Type 0
 AllBegin C w [] = Unit {0}
 AllBegin C w (J ∷ Js) = LifeBegins C w J × AllBegin C (suc w) Js
 
--- A life of number w ends in a record: its own items are that number's list there, and each journal and each cell went on by entries of others alone from what it had seen there at last. It saw no incarnation on the board that was not begun.
+-- A life of number w ends in a record: its own items are that number's list there, and each journal and each cell went on by entries of others alone from what it had seen there at last, pubd's also from what it saw where it entered nothing. It saw no incarnation on the board that was not begun.
 pub record LifeEnds (n w : ℕ) (J : Life) (R : Record) : Type 0 where
   pub number_is : number_of J ≡ w
   pub own_is : J.seen.own ≡ list_of R w
   pub columns : EndsIn R w J.seen
+  pub pubd : Grows w J.pubd R.pubd
   pub cells : CellsGrow n w J.cells.cells R.cells
   pub launcher : Grows w J.launcher.seen R.launcher
   pub board : (s : ℕ) → s < length R.cells → slice_index J.board s ≤ begun R.launcher s

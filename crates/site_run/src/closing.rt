@@ -11,6 +11,7 @@ ghost use Rattle.monitor_model.specs.Standing.{okd_grant, pubd_grant, log_grant}
 ghost use Rattle.named_columns.specs.Counts.{capped, accepts, ups, publications, logged};
 ghost use Rattle.named_columns.specs.Held.{HeldProxy};
 ghost use Rattle.named_columns.specs.Launched.{by_entry, LaunchedBy};
+ghost use Rattle.okld_launch.specs.Failures.{FailuresAreTold};
 ghost use Rattle.site_cell.specs.Held.{by_event};
 ghost use Rattle.site_locks.specs.Closing.{AllSaw, SomeIs};
 ghost use Rattle.site_locks.specs.Sat.{RiseFrom};
@@ -37,6 +38,7 @@ use named_columns::okd::SiteOkd;
 use named_columns::proxy::SiteProxy;
 use named_columns::pubd::SitePubd;
 use okld_launch::launcher::Launcher;
+use okld_launch::named::Staffed;
 use okws_base::journal::{Entry, Past};
 use okws_outer::children::Children;
 use okws_outer::keeper::Keeper;
@@ -149,7 +151,7 @@ fn end_proxies<N: Backed, K: Keeper>(
     requires numbered { RiseFrom 0 (reverse (map (λ (x : HeldProxy). x.number) proxies.items)) }
     ensures pasts { result.pasts.items ≡ reverse (map (λ (x : HeldProxy). x.past) proxies.items) }
     ensures laws { AllProxies N.site N.run_seed N.launcher 0 result.pasts.items }
-    ensures kept { AllKept N.site N.steady N.keeper_faults 0 (map (keeper_of K.tables K.told K.faults K.steady) result.keepers.items) result.pasts.items }
+    ensures kept { AllKept N.site N.tells N.steady N.keeper_faults 0 (map (keeper_of K.tables K.told K.faults K.steady) result.keepers.items) result.pasts.items }
 {
     let mut end = room;
     while let Some(proxy) = proxies.pop() {
@@ -208,7 +210,7 @@ pub(crate) fn end_columns<N: Backed, J: Site, K: Keeper, S: Sink>(
     ensures launches { result.okd.launches ≡ capped (ups result.okd.past) }
     ensures proxies { AllProxies N.site N.run_seed N.launcher 0 result.proxies.pasts.items × NoneFrom by_entry count result.proxies.pasts.items }
     ensures many { vec_len result.proxies.pasts ≡ length N.site.proxies }
-    ensures kept { AllKept N.site N.steady N.keeper_faults 0 (map (keeper_of K.tables K.told K.faults K.steady) result.proxies.keepers.items) result.proxies.pasts.items }
+    ensures kept { AllKept N.site N.tells N.steady N.keeper_faults 0 (map (keeper_of K.tables K.told K.faults K.steady) result.proxies.keepers.items) result.proxies.pasts.items }
     ensures pubd { PubdLaw N.site result.pubd.past × LaunchedBy pubd_grant N.launcher result.pubd.past × ((k : ℕ) → count ≤ k → of by_entry k result.pubd.past ≡ []) }
     ensures publications { result.pubd.publications ≡ capped (publications result.pubd.past) }
     ensures oklogd { LogLaw result.oklogd.past × LaunchedBy log_grant N.launcher result.oklogd.past × ((k : ℕ) → count ≤ k → of by_entry k result.oklogd.past ≡ []) }
@@ -291,15 +293,16 @@ pub(crate) fn end_cells<N: Backed, C: CellNames, L: Link + Drop>(
 }
 
 /// The launcher's journal, and what its crew left.
-pub(crate) struct LauncherEnd<N: Backed, J: Site, C: CellNames, K: Keeper, S: Sink, F: Children> {
+pub(crate) struct LauncherEnd<N: Staffed, J: Site, C: CellNames, K: Keeper, S: Sink, F: Children> {
     pub(crate) past: Past<Entry<LauncherEvent>>,
     pub(crate) stopped: Stopped<N, J, C, K, S, F>,
 }
 
-/// Ends the launcher's lock by the workers' seats at it, and stops and finishes all children.
+/// Ends the launcher's lock by the workers' seats at it, and stops and finishes all children, of which a fault
+/// was told for each Failed of the launcher's journal.
 pub(crate) fn end_launcher<
     R: Wait,
-    N: Backed,
+    N: Staffed,
     J: Site,
     C: CellNames,
     K: Keeper,
@@ -320,6 +323,7 @@ pub(crate) fn end_launcher<
     ensures grown { AllClosed by_entry turns.items result.past }
     ensures shown { (s : ℕ) → s < length N.site.services → slice_index result.stopped.seats.board s ≡ begun result.past s }
     ensures own { AreOwn N.launcher result.stopped.seats result.stopped.cells result.stopped.own }
+    ensures failed { FailuresAreTold N.children result.past (F.family result.stopped.children) }
 {
     let launcher = turn.close(turns);
     let (past, crew) = launcher.close();

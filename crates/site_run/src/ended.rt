@@ -71,6 +71,7 @@ impl<K: Keeper, S: Sink> LocksEnd<K, S> {
         children: F,
     ) -> Ended<K, S, F, D>
         ensures objects { (result.doors.items ≡ doors.items) × (result.keepers.items ≡ self.columns.proxies.keepers.items) × (result.log ≡ self.columns.oklogd.sink) × (result.log_failed ≡ self.columns.oklogd.failed) }
+        ensures children { F.family result.children ≡ F.family children }
         ensures counts { result.counts ≡ counts }
         ensures journals { result.record ≡ record { okd = self.columns.okd.past; proxies = self.columns.proxies.pasts.items; pubd = self.columns.pubd.past; oklogd = self.columns.oklogd.past; launcher = self.launcher; cells = self.cells.events.items; sents = self.cells.sents.items; doors = []; workers = self.columns.workers.items; launches = self.launches } }
     {

@@ -13,13 +13,14 @@ ghost use Rattle.site_run.specs.Whole.{IsReady};
 
 use crate::cells::cells;
 use crate::columns::columns;
-use crate::hiring::Papers;
 use crate::room::{Office, Room};
 use crate::whole::{Run, name};
 use admin_console::reader::Reader;
 use cell_locks::making::{NewCells, make_cells};
 use cell_locks::named::CellNames;
 use named_columns::named::Backed;
+use okld_launch::named::Staffed;
+use okld_launch::papers::Papers;
 use okws_outer::children::Children;
 use okws_outer::door::Door;
 use okws_outer::keeper::Keeper;
@@ -166,7 +167,7 @@ pub fn make_kit<N: Backed, K: Keeper + Drop, S: Sink + Drop, L: Link + Drop>(
 }
 
 /// A run that began, and what is beside it: the site, the reader of its console's lines, and room for its end.
-pub struct Begun<N: Backed, J: Site, C: CellNames, K: Keeper, S: Sink, F: Children, D: Door> {
+pub struct Begun<N: Staffed, J: Site, C: CellNames, K: Keeper, S: Sink, F: Children, D: Door> {
     pub run: Run<N, J, C, K, S, F, D>,
     pub site: Arc<Config, Global>,
     pub reader: Reader,
@@ -176,7 +177,7 @@ pub struct Begun<N: Backed, J: Site, C: CellNames, K: Keeper, S: Sink, F: Childr
 /// Gives the locks their names, and begins the run. Where memory is refused, the doors and the children come
 /// back.
 pub fn begin<
-    N: Backed,
+    N: Staffed,
     J: Site,
     C: CellNames,
     K: Keeper + Drop,
@@ -197,6 +198,7 @@ pub fn begin<
     requires servable { IsServable N.site }
     requires doors { (0 < vec_len doors) × (vec_len doors ≤ MOST_DOORS) }
     requires idle { AllIdle (map D.entrance doors.items) }
+    requires children { F.family children ≡ N.children }
     ensures ready { IfOk result (λ b. IsReady N.site N.launcher b.run.hall.turn b.run.hall.numbers b.run.hall.cells b.run.chairs b.run.places) }
     ensures doors { IfOk result (λ b. b.run.places.entrances ≡ map D.entrance doors.items) }
     ensures beside { IfOk result (λ b. (arc_value b.site ≡ N.site) × (b.reader ≡ 0) × (b.room + 1 ≡ N.launcher)) }

@@ -15,6 +15,7 @@ use named_columns::named::Backed;
 use okld_launch::answer::Launched;
 use okld_launch::entered::Entered;
 use okld_launch::launcher::Launcher;
+use okld_launch::named::Staffed;
 use okld_launch::turns::launch_by;
 use okws_outer::children::Children;
 use okws_outer::gate::Gate;
@@ -53,7 +54,7 @@ fn note_where<N: Backed, J: Site, K: Keeper, S: Sink>(seats: &mut Seats<N, J, K,
 }
 
 // Launches a service that isn't up, in a turn of this seat; what the turn entered is noted, and want of memory.
-fn launch_one<R: Wait, G: Gate, N: Backed, J: Site, C: CellNames, K: Keeper, S: Sink, F: Children>(
+fn launch_one<R: Wait, G: Gate, N: Staffed, J: Site, C: CellNames, K: Keeper, S: Sink, F: Children>(
     ground: &Ground<'_, R, G, N, J, C, K, S, F>,
     seats: &mut Seats<N, J, K, S>,
     seat: &mut Seat<Launcher<N, J, C, K, S, F>>,
@@ -82,7 +83,16 @@ fn launch_one<R: Wait, G: Gate, N: Backed, J: Site, C: CellNames, K: Keeper, S: 
 }
 
 // Launches each service that isn't up, in turns of this seat.
-fn launch_from<R: Wait, G: Gate, N: Backed, J: Site, C: CellNames, K: Keeper, S: Sink, F: Children>(
+fn launch_from<
+    R: Wait,
+    G: Gate,
+    N: Staffed,
+    J: Site,
+    C: CellNames,
+    K: Keeper,
+    S: Sink,
+    F: Children,
+>(
     ground: &Ground<'_, R, G, N, J, C, K, S, F>,
     seats: &mut Seats<N, J, K, S>,
     seat: &mut Seat<Launcher<N, J, C, K, S, F>>,
@@ -107,7 +117,7 @@ fn launch_from<R: Wait, G: Gate, N: Backed, J: Site, C: CellNames, K: Keeper, S:
 pub fn launch_all<
     R: Wait,
     G: Gate,
-    N: Backed,
+    N: Staffed,
     J: Site,
     C: CellNames,
     K: Keeper,

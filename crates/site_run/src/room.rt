@@ -7,8 +7,8 @@ ghost use Rattle.okws_base.specs.declared.limit.TheConstants.{MOST_DOORS};
 ghost use Rattle.site_run.specs.Rooms.{AreOffered};
 
 use crate::closing::{CellsEnd, CellsRoom, ColumnsRoom, ProxiesEnd};
-use door_worker::reply::Reply;
 use http_front::kept::Kept;
+use http_front::reply::Reply;
 use live_board::{Board, Seat as Place};
 use named_columns::named::Backed;
 use okws_outer::keeper::Keeper;

@@ -10,8 +10,8 @@ use cell_locks::locks::CellLocks;
 use cell_locks::named::CellNames;
 use cell_locks::seats::CellSeats;
 use live_board::Board;
-use named_columns::named::Backed;
 use okld_launch::launcher::Launcher;
+use okld_launch::named::Staffed;
 use okws_outer::children::Children;
 use okws_outer::gate::Gate;
 use okws_outer::keeper::Keeper;
@@ -32,7 +32,7 @@ pub struct Ground<
     'a,
     R: Wait,
     G: Gate,
-    N: Backed,
+    N: Staffed,
     J: Site,
     C: CellNames,
     K: Keeper,
@@ -52,13 +52,13 @@ pub struct Ground<
 
 /// The seats of the workers at the columns, at the cells and at the launcher, those of number 0 first.
 #[derive(Drop)]
-pub struct Chairs<N: Backed, J: Site, C: CellNames, K: Keeper, S: Sink, F: Children> {
+pub struct Chairs<N: Staffed, J: Site, C: CellNames, K: Keeper, S: Sink, F: Children> {
     pub(crate) seats: Vec<Seats<N, J, K, S>>,
     pub(crate) cells: Vec<CellSeats<N, C, F::Link>>,
     pub(crate) turns: Vec<Seat<Launcher<N, J, C, K, S, F>>>,
 }
 
-impl<N: Backed, J: Site, C: CellNames, K: Keeper, S: Sink, F: Children> Model
+impl<N: Staffed, J: Site, C: CellNames, K: Keeper, S: Sink, F: Children> Model
     for Chairs<N, J, C, K, S, F> {
     ghost use Rattle.std.specs.Prelude.{vec_capacity};
     ghost use Rattle.site_run.specs.Rows.{ChairsAre};
@@ -68,7 +68,7 @@ impl<N: Backed, J: Site, C: CellNames, K: Keeper, S: Sink, F: Children> Model
     ghost view = { λ x. record { seats = x.seats.items; cells = x.cells.items; turns = x.turns.items; seats_room = vec_capacity x.seats; cells_room = vec_capacity x.cells; turns_room = vec_capacity x.turns } };
 }
 
-impl<N: Backed, J: Site, C: CellNames, K: Keeper, S: Sink, F: Children> Chairs<N, J, C, K, S, F> {
+impl<N: Staffed, J: Site, C: CellNames, K: Keeper, S: Sink, F: Children> Chairs<N, J, C, K, S, F> {
     /// The seats in these rows.
     pub(crate) fn of(
         seats: Vec<Seats<N, J, K, S>>,

@@ -6,18 +6,20 @@ ghost use Rattle.okws_base.specs.declared.limit.TheConstants.{MOST_SERVICES, MOS
 ghost use Rattle.turn_lock.specs.Rows.{AllCount};
 ghost use Rattle.live_board.specs.Seats.{AllAt};
 ghost use Rattle.site_locks.specs.Sat.{ids_of};
+ghost use Rattle.okld_launch.specs.Failures.{FailuresAreTold};
 ghost use Rattle.site_worker.specs.Lives.{Life};
 ghost use Rattle.site_run.specs.Closing.{WritesLog, AllKept};
 ghost use Rattle.site_run.specs.Journals.{KeepLaws, NameNumbers, AreCounts};
 ghost use Rattle.site_run.specs.Keepers.{keeper_of};
 ghost use Rattle.site_run.specs.Places.{AllIdle};
-ghost use Rattle.site_run.specs.Rooms.{HasRoom, ArePapers, AreOffered};
+ghost use Rattle.okld_launch.specs.Launchers.{ArePapers};
+ghost use Rattle.site_run.specs.Rooms.{HasRoom, AreOffered};
 ghost use Rattle.site_run.specs.Tied.{AllEnd, LaunchesAreOwn, SeatsOf};
 ghost use Rattle.site_run.specs.Whole.{AreNamed, IsHeld, IsReady, AllDrawn};
 
 use crate::closing::{LauncherEnd, end_cells, end_columns, end_launcher};
 use crate::ended::{Ended, LocksEnd, counted};
-use crate::hiring::{Hired, Papers, hire};
+use crate::hiring::{Hired, hire};
 use crate::order::turned;
 use crate::places::Doors;
 use crate::room::{Desk, Office, Room};
@@ -29,6 +31,8 @@ use cell_locks::seats::CellSeats;
 use live_board::{Board, Seat as Place};
 use named_columns::named::Backed;
 use okld_launch::launcher::Launcher;
+use okld_launch::named::Staffed;
+use okld_launch::papers::Papers;
 use okws_outer::children::Children;
 use okws_outer::door::Door;
 use okws_outer::keeper::Keeper;
@@ -82,7 +86,7 @@ pub(crate) fn name<
 }
 
 /// What the workers of a run share: its locks, and the board of its connections' numbers.
-pub struct Hall<N: Backed, J: Site, C: CellNames, K: Keeper, S: Sink, F: Children> {
+pub struct Hall<N: Staffed, J: Site, C: CellNames, K: Keeper, S: Sink, F: Children> {
     pub locks: Locks<N, J, K, S>,
     pub cells: CellLocks<N, C, F::Link>,
     pub turn: Turn<Launcher<N, J, C, K, S, F>>,
@@ -90,14 +94,14 @@ pub struct Hall<N: Backed, J: Site, C: CellNames, K: Keeper, S: Sink, F: Childre
 }
 
 /// A run: what its workers share, their seats, and its doors.
-pub struct Run<N: Backed, J: Site, C: CellNames, K: Keeper, S: Sink, F: Children, D: Door> {
+pub struct Run<N: Staffed, J: Site, C: CellNames, K: Keeper, S: Sink, F: Children, D: Door> {
     pub hall: Hall<N, J, C, K, S, F>,
     pub chairs: Chairs<N, J, C, K, S, F>,
     pub places: Doors<D>,
 }
 
 impl<
-    N: Backed,
+    N: Staffed,
     J: Site,
     C: CellNames,
     K: Keeper + Drop,
@@ -118,6 +122,7 @@ impl<
         requires named { AreNamed N.site N.launcher named.cells named.seats.items named.at_cells.items (vec_capacity named.seats) (vec_capacity named.at_cells) }
         requires papers { ArePapers N.site N.run_seed papers.journal (arc_value papers.site) papers.seed }
         requires few { (length N.site.proxies ≤ MOST_PROXIES) × (length N.site.services ≤ MOST_SERVICES) }
+        requires children { F.family children ≡ N.children }
         requires launcher { N.launcher ≡ vec_len doors + 1 }
         requires doors { (0 < vec_len doors) × (vec_len doors ≤ MOST_DOORS) }
         requires idle { AllIdle (map D.entrance doors.items) }
@@ -176,7 +181,7 @@ fn end_numbers(numbers: Board, mut desks: Vec<Desk>, room: Vec<Place>) -> u64
     numbers.close(places)
 }
 
-impl<N: Backed, J: Site, C: CellNames, K: Keeper, S: Sink, F: Children, D: Door> Run<
+impl<N: Staffed, J: Site, C: CellNames, K: Keeper, S: Sink, F: Children, D: Door> Run<
     N,
     J,
     C,
@@ -185,7 +190,8 @@ impl<N: Backed, J: Site, C: CellNames, K: Keeper, S: Sink, F: Children, D: Door>
     F,
     D,
 > {
-    /// Stops and finishes all children, and ends all locks. So many connections were served.
+    /// Stops and finishes all children, and ends all locks. So many connections were served. For each Failed
+    /// of the launcher's journal a fault was told of the children.
     pub fn end<R: Wait>(
         self,
         rt: &R,
@@ -201,9 +207,10 @@ impl<N: Backed, J: Site, C: CellNames, K: Keeper, S: Sink, F: Children, D: Door>
         ensures numbers { NameNumbers N.launcher result.record }
         ensures lives { (lives : List Life) → SeatsOf lives self.chairs → AllEnd N.launcher 0 lives result.record }
         ensures launched { LaunchesAreOwn N.launcher result.record }
+        ensures failed { FailuresAreTold N.children result.record.launcher (F.family result.children) }
         ensures counts { AreCounts N.site result.record result.counts }
         ensures connections { result.counts.connections ≡ connections }
-        ensures kept { AllKept N.site N.steady N.keeper_faults 0 (map (keeper_of K.tables K.told K.faults K.steady) result.keepers.items) result.record.proxies }
+        ensures kept { AllKept N.site N.tells N.steady N.keeper_faults 0 (map (keeper_of K.tables K.told K.faults K.steady) result.keepers.items) result.record.proxies }
         ensures written { WritesLog N.site result.record.oklogd (S.given result.log) N.sink_faults (S.faults result.log) result.log_failed }
     {
         let Run {

@@ -1,19 +1,25 @@
 use Rattle.std.proofs.Common.{arith, ◌≡◌, ◌≤◌, ◌<◌, ◌+◌, ℕ, [], ◌∷◌, ◌++◌, map, length, refl, sym, ap, ◌∙◌, subst}
 use Rattle.std.specs.Prelude.{IsSome}
+use Rattle.monitor_model.specs.Pieces.{is_accept_item, is_ordered}
+use Rattle.okld_launch.specs.Failures.{FailuresAreTold}
 use Rattle.site_run.specs.Places.{AllIdle}
 use Rattle.site_run.specs.Keepers.{keeper_of}
 use Rattle.site_run.specs.Closing.{AllKept}
 use Rattle.site_run.specs.Whole.{AllDrawn}
+use Rattle.okws_serve.specs.Connected.{ServesConnections}
 use Rattle.okws_serve.specs.Doors.{ServesConsole, ServesDoors, is_fault}
+use Rattle.okws_serve.specs.Lived.{ListIsPieces, OrdersAreObeyed}
 use Rattle.okws_serve.specs.declared.outfit.Ran.{Ran}
 use Rattle.site_run.proofs.Alone.{launches_alone}
 use Rattle.site_run.proofs.Merging.{lists_make}
 use Rattle.site_run.proofs.Shown.{cells_are_true}
 use Rattle.site_run.proofs.Tying.{end_pop}
+use Rattle.okws_serve.proofs.Connected.{connects_doors}
 use Rattle.okws_serve.proofs.Listing.{Told, all_told}
-use Rattle.okws_serve.proofs.Pieces.{console_is, doors_are}
+use Rattle.okws_serve.proofs.Pieces.{console_is, console_obeys, doors_are}
 use Rattle.okws_serve.proofs.Serving.{console_ends, doors_alike, lives_many, serves_doors}
 use Rattle.okws_serve.proofs.Surviving.{if_some}
+use Rattle.okws_serve.proofs.Whole.{all_pieces}
 use Rattle.okws_serve.proofs.scene.end_run.Goals as goal
 
 pub returns-clause-idle : goal.returns-clause-idle
@@ -47,6 +53,14 @@ returns-clause-ran g c =
     (omega arith) c.requires.held.some refl (subst (λ k. AllDrawn k places.places) (let k = c.requires.held.numbers_count in let q : c.args.scene.hall.numbers.count ≡ length places.entrances = omega arith in q) c.end-ended.ensures.drawn) done.doors ends.0 in
     let steered = console_ends C n R (length old.entrances) done.last w (g.O.Conn.wire c.args.console) (is_fault c.args.overseen) done.console ends.1 in
     let told : (k : ℕ) → k ≤ n → Told n R k = all_told wire C n most R old.entrances places.entrances served.attended w (g.O.Conn.wire c.args.console) (is_fault c.args.overseen) (omega arith) c.end-ended.ensures.numbers.workers served.attend steered c.end-ended.ensures.launched in
+    let x = g.O.Conn.wire c.args.console in
+    let failed = is_fault c.args.overseen in
+    let proxies = c.end-ended.ensures.laws.proxies_are in
+    let door_lists : (k : ℕ) → k < length old.entrances → ListIsPieces C R is_ordered k
+    = λ k l. doors_are wire C n most R 0 k old.entrances places.entrances served.attended proxies served.attend (omega arith) (let u : k < length old.entrances + 0 = omega arith in u) in
+    let console_list : ListIsPieces C R is_accept_item (length old.entrances) = console_is C n R (length old.entrances) w x failed proxies steered in
+    let obeyed : OrdersAreObeyed C R (length old.entrances) w (g.O.Conn.wire r.console) failed
+    = subst (λ o. OrdersAreObeyed C R (length old.entrances) w (g.O.Conn.wire o) failed) (sym c.left.ensures.objects.1) (console_obeys C n R (length old.entrances) w x failed proxies steered) in
     let cells = cells_are_true C g.N.Numbered.run_seed n R c.end-ended.ensures.laws c.end-ended.ensures.numbers (λ k l. (told k l).1) in
     record {
       served = subst (λ k. ServesDoors wire C n most R old.entrances (map g.D.Door.entrance r.doors.items) k starved) (sym c.end-ended.ensures.connections)
@@ -54,13 +68,19 @@ returns-clause-ran g c =
       steered = subst (λ x. ServesConsole C n R (length old.entrances) w (g.O.Conn.wire x) (is_fault c.args.overseen)) (sym c.left.ensures.objects.1) steered;
       made = lists_make n R c.end-ended.ensures.numbers (λ k l. (told k l).0)
           (launches_alone C g.N.Numbered.run_seed n R c.end-ended.ensures.numbers.workers c.end-ended.ensures.laws c.end-ended.ensures.launched (λ k l. (told k (let u : k ≤ n = omega arith in u)).0));
-      door_lists = λ k l. doors_are wire C n most R 0 k old.entrances places.entrances served.attended c.end-ended.ensures.laws.proxies_are served.attend (omega arith) (let u : k < length old.entrances + 0 = omega arith in u);
-      console_list = console_is C n R (length old.entrances) w (g.O.Conn.wire c.args.console) (is_fault c.args.overseen) c.end-ended.ensures.laws.proxies_are steered;
+      door_lists = door_lists;
+      console_list = console_list;
+      orders = obeyed;
+      pieces = all_pieces C R (length old.entrances) failed obeyed.orders (let k = c.end-ended.ensures.numbers.workers in omega arith) door_lists console_list obeyed.comes;
+      connections = subst (ServesConnections wire C R old.entrances) (sym doors)
+          (connects_doors wire C n most R c.end-ended.ensures.laws.proxies_are old.entrances places.entrances served.attended (let k = c.end-ended.ensures.numbers.workers in let l : length old.entrances ≤ length R.workers = omega arith in l) served.attend);
       missed = cells.0;
       stands = cells.1;
       laws = c.end-ended.ensures.laws;
       numbers = c.end-ended.ensures.numbers;
       counts = c.end-ended.ensures.counts;
-      kept = subst (λ ks. AllKept C g.N.Backed.steady g.N.Backed.keeper_faults 0 (map keeper ks) e.record.proxies) (sym c.left.ensures.objects.2) c.end-ended.ensures.kept;
+      kept = subst (λ t. AllKept C t g.N.Backed.steady g.N.Backed.keeper_faults 0 (map keeper r.keepers.items) e.record.proxies) c.requires.tells
+          (subst (λ ks. AllKept C g.N.Backed.tells g.N.Backed.steady g.N.Backed.keeper_faults 0 (map keeper ks) e.record.proxies) (sym c.left.ensures.objects.2) c.end-ended.ensures.kept);
+      failed = subst (FailuresAreTold g.N.Staffed.children e.record.launcher) (sym c.left.ensures.children) c.end-ended.ensures.failed;
       written = c.end-ended.ensures.written;
     }))

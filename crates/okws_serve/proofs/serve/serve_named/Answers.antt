@@ -62,11 +62,12 @@ returns-in-Ok-stage-clause-ran g c =
     let w = g.O.Conn.wire c.args.outside.console in
     let l = c.in-Ok-stage.staged in
     let done = subst (λ x. WorkDone g.D.Conn.Conn.wire g.N.Numbered.site g.N.Numbered.launcher l.scene.hall.numbers.id c.args.limits.connections c.work_in-console.new.chairs l.places c.work_in-console.new.places (g.O.Conn.wire x) (g.O.Conn.wire c.work_in-console.result.0) c.work_in-console.result.1.connections c.work_in-console.result.1.starved (is_fault c.work_in-console.result.2)) c.in-Ok-stage.ensures.beside.1 c.work_in-console.ensures.done in
-    let start : StartIs = record { steady = g.N.Backed.steady; keeper_faults = g.N.Backed.keeper_faults; sink_faults = g.N.Backed.sink_faults } in
+    let start : StartIs = record { steady = g.N.Backed.steady; keeper_faults = g.N.Backed.keeper_faults; sink_faults = g.N.Backed.sink_faults; children = g.N.Staffed.children } in
     if_both r.ran r.log _ _ (λ ran log h.
     let now : ObjectsAre = record {
       entrances = map g.D.Door.entrance r.doors.items;
       console = g.O.Conn.wire r.console;
+      children = g.F.Children.family r.children;
       keepers = map (keeper_of g.K.Keeper.tables g.K.Keeper.told g.K.Keeper.faults g.K.Keeper.steady) r.keepers.items;
       given = g.S.Sink.given log;
       faults = g.S.Sink.faults log;

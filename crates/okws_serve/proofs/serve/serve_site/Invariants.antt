@@ -14,3 +14,6 @@ ghosts-serve_numbered-N-Backed g a = record {
   keeper_faults = faults_at (map (keeper_of g.K.Keeper.tables g.K.Keeper.told g.K.Keeper.faults g.K.Keeper.steady) a.outfit.keepers.items);
   sink_faults = g.S.Sink.faults a.outfit.log;
 }
+
+abbrev pub ghosts-serve_numbered-N-Staffed : goal.ghosts-serve_numbered-N-Staffed
+ghosts-serve_numbered-N-Staffed g a = record { children = g.F.Children.family a.outfit.children }

@@ -6,6 +6,8 @@ use Rattle.okws_base.specs.declared.journal.Entry.{Entry}
 use Rattle.okws_plan.specs.declared.event.LauncherEvent.{LauncherEvent}
 use Rattle.named_columns.specs.Launched.{by_entry}
 use Rattle.turn_lock.specs.Seats.{AllClosed}
+use Rattle.launch_crew.proofs.Children.{more_finished}
+use Rattle.okld_launch.proofs.Failing.{told_more}
 use Rattle.site_run.proofs.closing.end_launcher.Goals as goal
 
 pub returns-clause-none : goal.returns-clause-none
@@ -20,3 +22,10 @@ returns-clause-own g c = c.stop_all-stopped.ensures.own
 pub returns-clause-shown : goal.returns-clause-shown
 returns-clause-shown g c = λ s l.
     ap (λ (x : Sat). slice_index x.board s) c.stop_all-stopped.ensures.columns ∙ c.close-past.ensures.shown s l
+
+pub returns-clause-failed : goal.returns-clause-failed
+returns-clause-failed g c =
+    let ends = c.stop_all-stopped.ensures.children in
+    let before = c.close-past.result.1.staff.family in
+    let after = g.F.Children.family c.stop_all-stopped.result.children in
+    told_more g.N.Staffed.children before after c.close-past.result.0 (more_finished ends.0 before after ends.1) c.close-past.ensures.failed

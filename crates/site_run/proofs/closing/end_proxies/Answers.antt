@@ -24,8 +24,8 @@ loop-proxy-init g c =
       pasts = ap (λ l. l ++ reverse (map (λ (x : HeldProxy). x.past) c.args.proxies.items)) none;
       numbered = subst (λ l. RiseFrom (length l) (reverse (map (λ (x : HeldProxy). x.number) c.args.proxies.items))) (sym none) c.requires.numbered;
       laws = subst (AllProxies g.N.Numbered.site g.N.Numbered.run_seed g.N.Numbered.launcher 0) (sym none) tt;
-      kept = subst (AllKept g.N.Numbered.site g.N.Backed.steady g.N.Backed.keeper_faults 0 (map f c.args.room.keepers.items)) (sym none)
-          (subst (λ l. AllKept g.N.Numbered.site g.N.Backed.steady g.N.Backed.keeper_faults 0 (map f l) []) (sym alone) tt);
+      kept = subst (AllKept g.N.Numbered.site g.N.Backed.tells g.N.Backed.steady g.N.Backed.keeper_faults 0 (map f c.args.room.keepers.items)) (sym none)
+          (subst (λ l. AllKept g.N.Numbered.site g.N.Backed.tells g.N.Backed.steady g.N.Backed.keeper_faults 0 (map f l) []) (sym alone) tt);
       many = search rules;
       alike = search rules;
       pasts_room = refl;
@@ -60,10 +60,15 @@ loop-proxy-preserved g c =
       pasts = moved past more left x pasts pasts_now J _ e put c.close-past.ensures.past i.pasts;
       numbered = subst (λ k. RiseFrom k (reverse (map number left))) (sym size) rise.1;
       laws = subst (AllProxies C seed n 0) (sym put) (proxies_push C seed n 0 (number x) pasts J at i.laws c.close-past.ensures.law c.close-past.ensures.launched);
-      kept = subst (AllKept C g.N.Backed.steady g.N.Backed.keeper_faults 0 (map f keepers_now)) (sym put)
-          (subst (λ ls. AllKept C g.N.Backed.steady g.N.Backed.keeper_faults 0 ls (pasts ++ J ∷ [])) (sym (pushed_map f keepers_now keepers keeper held))
-          (kept_push C g.N.Backed.steady g.N.Backed.keeper_faults 0 (number x) (map f keepers) (f keeper) pasts J at i.kept c.close-past.ensures.tables
-          (subst (λ m. counted (g.N.Backed.keeper_faults (number x)) (faults J) ≤ m) (sym c.close-past.ensures.faults) c.close-past.ensures.marked) c.close-past.ensures.faultless));
+      kept = subst (AllKept C g.N.Backed.tells g.N.Backed.steady g.N.Backed.keeper_faults 0 (map f keepers_now)) (sym put)
+          (subst (λ ls. AllKept C g.N.Backed.tells g.N.Backed.steady g.N.Backed.keeper_faults 0 ls (pasts ++ J ∷ [])) (sym (pushed_map f keepers_now keepers keeper held))
+          (kept_push C g.N.Backed.tells g.N.Backed.steady g.N.Backed.keeper_faults 0 (number x) (map f keepers) (f keeper) pasts J at i.kept (record {
+            tables_are = c.close-past.ensures.tables;
+            tells_them = c.close-past.ensures.tells;
+            rows_are = c.close-past.ensures.rows;
+            faults_are = subst (λ m. counted (g.N.Backed.keeper_faults (number x)) (faults J) ≤ m) (sym c.close-past.ensures.faults) c.close-past.ensures.marked;
+            faultless = c.close-past.ensures.faultless;
+          })));
       many = search rules;
       alike = search rules;
       pasts_room = search rules;

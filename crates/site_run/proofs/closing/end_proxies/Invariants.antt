@@ -12,7 +12,7 @@ invariant-loop-proxy g l = record {
   pasts : l.end.pasts.items ++ reverse (map (λ (x : HeldProxy). x.past) l.proxies.items) ≡ reverse (map (λ (x : HeldProxy). x.past) l.fn.proxies.items);
   numbered : RiseFrom (length l.end.pasts.items) (reverse (map (λ (x : HeldProxy). x.number) l.proxies.items));
   laws : AllProxies g.N.Numbered.site g.N.Numbered.run_seed g.N.Numbered.launcher 0 l.end.pasts.items;
-  kept : AllKept g.N.Numbered.site g.N.Backed.steady g.N.Backed.keeper_faults 0 (map (keeper_of g.K.Keeper.tables g.K.Keeper.told g.K.Keeper.faults g.K.Keeper.steady) l.end.keepers.items) l.end.pasts.items;
+  kept : AllKept g.N.Numbered.site g.N.Backed.tells g.N.Backed.steady g.N.Backed.keeper_faults 0 (map (keeper_of g.K.Keeper.tables g.K.Keeper.told g.K.Keeper.faults g.K.Keeper.steady) l.end.keepers.items) l.end.pasts.items;
   many : vec_len l.proxies + vec_len l.end.pasts ≡ vec_len l.fn.proxies;
   alike : vec_len l.end.keepers ≡ vec_len l.end.pasts;
   pasts_room : vec_capacity l.end.pasts ≡ vec_capacity l.fn.room.pasts;

@@ -1,10 +1,12 @@
 use Rattle.std.proofs.Common.{rules, arith, ◌≡◌, ◌≤◌, ◌<◌, ◌+◌, [], length, map, sym, ap, ◌∙◌, subst}
 use Rattle.std.proofs.lemmas.List.{length-map}
 use Rattle.turn_lock.specs.Rows.{AllCount, NoneFrom}
+use Rattle.okws_outer.specs.Families.{Family}
 use Rattle.monitor_model.specs.declared.record.Record.{Record}
 use Rattle.site_cell.specs.Held.{by_event}
 use Rattle.cell_locks.specs.Closing.{HasNumber}
 use Rattle.named_columns.specs.Launched.{by_entry}
+use Rattle.okld_launch.specs.Failures.{FailuresAreTold}
 use Rattle.site_locks.specs.Closing.{SomeIs}
 use Rattle.site_run.specs.Closing.{AllKept, WritesLog}
 use Rattle.site_run.specs.Journals.{KeepLaws, NameNumbers, AreCounts}
@@ -139,8 +141,8 @@ pub returns-clause-kept : goal.returns-clause-kept
 returns-clause-kept g c =
     let columns = c.end_columns-columns in
     let keeper = keeper_of g.K.Keeper.tables g.K.Keeper.told g.K.Keeper.faults g.K.Keeper.steady in
-    subst (λ ks. AllKept g.N.Numbered.site g.N.Backed.steady g.N.Backed.keeper_faults 0 (map keeper ks) c.told.result.record.proxies) (sym c.told.ensures.objects.1)
-    (subst (λ (R : Record). AllKept g.N.Numbered.site g.N.Backed.steady g.N.Backed.keeper_faults 0 (map keeper columns.result.proxies.keepers.items) R.proxies) (sym c.told.ensures.journals) columns.ensures.kept)
+    subst (λ ks. AllKept g.N.Numbered.site g.N.Backed.tells g.N.Backed.steady g.N.Backed.keeper_faults 0 (map keeper ks) c.told.result.record.proxies) (sym c.told.ensures.objects.1)
+    (subst (λ (R : Record). AllKept g.N.Numbered.site g.N.Backed.tells g.N.Backed.steady g.N.Backed.keeper_faults 0 (map keeper columns.result.proxies.keepers.items) R.proxies) (sym c.told.ensures.journals) columns.ensures.kept)
 
 pub returns-clause-written : goal.returns-clause-written
 returns-clause-written g c =
@@ -208,3 +210,8 @@ returns-clause-launched g c =
     (launches_own n R c.chairs.inside.seats.items c.push_reserved.new.self.items past.result.stopped.seats c.chairs.inside.cells.items c.push_reserved-2.new.self.items past.result.stopped.cells
     c.push_reserved.ensures.items c.push_reserved-2.ensures.items past.ensures.numbers.0 past.ensures.numbers.1 columns.ensures.grown cells.ensures.grown
     (past.ensures.none n (omega arith)) past.ensures.own)
+
+pub returns-clause-failed : goal.returns-clause-failed
+returns-clause-failed g c =
+    subst (λ (R : Record). FailuresAreTold g.N.Staffed.children R.launcher (g.F.Children.family c.told.result.children)) (sym c.told.ensures.journals)
+    (subst (λ (f : Family). FailuresAreTold g.N.Staffed.children c.end_launcher-past.result.past f) (sym c.told.ensures.children) c.end_launcher-past.ensures.failed)

@@ -1,0 +1,22 @@
+use Rattle.std.proofs.Common.{inr, refl, subst}
+use Rattle.std.specs.Prelude.{IfSome}
+use Rattle.std.specs.Arc.{arc_value}
+use Rattle.std.specs.declared.option.Option.{Option}
+use Rattle.okws_serve.specs.declared.outfit.Ran.{Ran}
+use Rattle.okws_server.specs.Served.{RanAt, serving_of}
+use Rattle.okws_server.specs.Views.{Gear, gear_of}
+use Rattle.okws_server.proofs.server.serve_open.Goals as goal
+
+pub returns : goal.returns
+returns g c =
+    let wire = g.E.Network.Door.Conn.Conn.wire in
+    let C = arc_value c.args.ground.stock.site in
+    let before : Gear = gear_of g.E.Network.Network.net g.E.Children.Children.family g.E.Console.Conn.wire g.E.Stores.Stores.depot g.E.Sinks.Sinks.rack c.args.things in
+    let after : Gear = gear_of g.E.Network.Network.net g.E.Children.Children.family g.E.Console.Conn.wire g.E.Stores.Stores.depot g.E.Sinks.Sinks.rack c.serve_doors-things.result.0 in
+    inr (
+      c.in-Some.ran,
+      c.serve_doors-things.result.2,
+      subst (λ (o : Option Ran). IfSome o (λ ran. RanAt wire (serving_of c.args.server.now) C c.args.ground.seed before after ran c.serve_doors-things.result.2)) c.in-Some.is c.serve_doors-things.ensures.ran,
+      refl,
+      c.print_end-status.ensures,
+    )

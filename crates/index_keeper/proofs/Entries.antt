@@ -1,29 +1,30 @@
 -- Rows at their places, after changes and without.
-use Rattle.std.proofs.Common.{◌≡◌, ◌∙◌, ℕ, suc, ◌+◌, ◌<◌, ◌≤◌, Bool, true, false, cond, List, [], ◌∷◌, ◌++◌, length, get_or, take, refl, ap, sym, subst, Some, None, arith}
-use Rattle.std.specs.Prelude.{filter, map, ◌==◌, not, if◌then◌else◌, option_map, nat_lt}
-use Rattle.std.specs.List.{list_any, filter_map, cons_option, AllByRecursion}
+use Rattle.std.proofs.Common.{◌≡◌, ◌∙◌, ℕ, suc, ◌+◌, ◌<◌, Bool, true, false, cond, List, [], ◌∷◌, ◌++◌, length, get_or, take, refl, ap, sym, subst, Some, None, arith}
+use Rattle.std.specs.Prelude.{filter, map, ◌==◌, not, if◌then◌else◌, option_map}
+use Rattle.std.specs.List.{list_any, filter_map, cons_option}
 use Rattle.std.specs.List.Sorted.{IsStrictlySortedBy}
 use Rattle.std.specs.Cmp.{nat_cmp_total, tied_itself, unsigned_tied, nat_eq_equiv, eq_by_cmp_equiv, unsigned_Decides, signed_Decides, ranked_equal, int_ranks}
 use Rattle.std.specs.Bool.{one_answer}
 use Rattle.std.specs.Ordering.{is_eq, nat_cmp, int_cmp, int_eq, ordering_reverse}
 use Rattle.std.specs.Map.{keys_of}
-use Rattle.std.specs.BTreeMap.{is_at, insert_entry}
+use Rattle.std.specs.BTreeMap.{is_at}
 use Rattle.std.specs.declared.cmp.Ordering.{Ordering}
 use Rattle.std.specs.declared.cmp.Ordering.TheVariants.{Less, Equal, Greater}
 use Rattle.std.specs.declared.option.Option.{Option}
 use Rattle.std.proofs.lemmas.List.{take_more, append-nil}
 use Rattle.std.proofs.lemmas.List.Elements.{filter_map-append}
 use Rattle.std.proofs.lemmas.Map.{lookup-none}
-use Rattle.std.proofs.lemmas.Map.Keys.{IsDistinct-from_sorted, sorted_head, sorted_tail}
+use Rattle.std.proofs.lemmas.Map.Keys.{IsDistinct-from_sorted, sorted_tail}
 use Rattle.std.proofs.lemmas.Map.Entries.{lookup-filter-values, option_filter, none_past_head, none_below_head}
 use Rattle.std.proofs.lemmas.Map.Lookups.{exact_unsigned}
 use Rattle.std.proofs.lemmas.Map.Text.{is_eq-slice_cmp}
-use Rattle.okws_base.specs.Runs.{Each}
 use Rattle.okws_base.specs.Value.{value_cmp, value_eq}
 use Rattle.okws_base.specs.declared.value.Value.{Value}
 use Rattle.okws_base.specs.declared.value.Value.TheVariants.{Int, Text, Bytes}
+use Rattle.placed_rows.specs.Places.{merged, row_at}
+use Rattle.placed_rows.proofs.Stood.{row_first, row_later}
 use Rattle.index_keeper.specs.Places.{places_where, rows_of}
-use Rattle.index_keeper.specs.Changes.{merged, after_change, changed, row_at, changes_to}
+use Rattle.index_keeper.specs.Changes.{after_change, changed, changes_to}
 use Rattle.index_keeper.specs.declared.changing.Change.{Change}
 use Rattle.index_keeper.proofs.Found.{sorted_filtered, rows_where}
 
@@ -110,12 +111,6 @@ after_listed make test (e ∷ es) a p up = by (is_eq (nat_cmp p e.0)) (test e.1)
         let front : changed (listed_changes make test (e ∷ es)) a p ≡ changed (listed_changes make test es) a p = rw miss refl in
         let stood : row_at (e ∷ es) p ≡ row_at es p = rw is refl in
         front ∙ rest a ∙ sym (ap (λ (o : Option (List Value)). after_test make test o a) stood)
-
-row_first : (e : ℕ × List Value) (es : List (ℕ × List Value)) (p : ℕ) → is_eq (nat_cmp p e.0) ≡ true → row_at (e ∷ es) p ≡ Some e.1
-row_first e es p is = rw is refl
-
-row_later : (e : ℕ × List Value) (es : List (ℕ × List Value)) (p : ℕ) → is_eq (nat_cmp p e.0) ≡ false → row_at (e ∷ es) p ≡ row_at es p
-row_later e es p is = rw is refl
 
 -- None stands below the first place, nor at it once more.
 none_below : (p : ℕ) (e : ℕ × List Value) (es : List (ℕ × List Value)) → IsStrictlySortedBy nat_cmp (keys_of (e ∷ es)) → nat_cmp p e.0 ≡ Less → row_at (e ∷ es) p ≡ None
@@ -237,23 +232,6 @@ changed_none (ch ∷ L) p = by (ch.place == p) refl (changed_none L p)
     by true is rest = ap (λ (b : Bool). changed L (if b then None else None) p) is ∙ rest
     by false is rest = ap (λ (b : Bool). changed L (if b then None else None) p) is ∙ rest
 
-greater : (n k : ℕ) → k < n → nat_cmp n k ≡ Greater
-greater n k h = grind arith
-
--- A row at a place behind all others is put behind them.
-pub put_last : (es : List (ℕ × List Value)) (n : ℕ) (row : List Value) → Each (λ (e : ℕ × List Value). e.0 < n) es → rows_of (insert_entry nat_cmp es n row) ≡ rows_of es ++ row ∷ []
-put_last [] n row all = refl
-put_last (e ∷ es) n row all = rw (greater n e.0 all.0) (ap (λ (more : List (List Value)). e.1 ∷ more) (put_last es n row all.1))
-
--- All places are below one from which on no row stands.
-pub all_below : (f : ℕ → Option (List Value)) (n : ℕ) (es : List (ℕ × List Value)) → Each (λ (e : ℕ × List Value). f e.0 ≡ Some e.1) es → ((p : ℕ) → n ≤ p → f p ≡ None) → Each (λ (e : ℕ × List Value). e.0 < n) es
-all_below f n [] all free = tt
-all_below f n (e ∷ es) all free = (by (nat_lt e.0 n) refl, all_below f n es all.1 free)
-  where
-    by : (b : Bool) → nat_lt e.0 n ≡ b → e.0 < n
-    by true is = grind arith
-    by false is = let high : n ≤ e.0 = grind arith in let none : f e.0 ≡ None = free e.0 high in let there : f e.0 ≡ Some e.1 = all.0 in let never : ⊥ = cc in absurd never
-
 some_there : (n : ℕ) → (suc n == 0) ≡ false
 some_there n = by (suc n == 0) refl
   where
@@ -281,16 +259,3 @@ value_eq_is (Text a) (Bytes b) = refl
 value_eq_is (Bytes a) (Int b) = refl
 value_eq_is (Bytes a) (Text b) = refl
 value_eq_is (Bytes a) (Bytes b) = is_eq-slice_cmp a b
-
-later : (k p : ℕ) → nat_cmp k p ≡ Less → is_eq (nat_cmp p k) ≡ false
-later k p h = ap is_eq (nat_cmp_total.antisymm p k ∙ ap ordering_reverse h)
-
-each_behind : (e : ℕ × List Value) (es fs : List (ℕ × List Value)) → AllByRecursion (λ (y : ℕ). nat_cmp e.0 y ≡ Less) (keys_of fs) → Each (λ (x : ℕ × List Value). row_at es x.0 ≡ Some x.1) fs → Each (λ (x : ℕ × List Value). row_at (e ∷ es) x.0 ≡ Some x.1) fs
-each_behind e es [] above all = tt
-each_behind e es (x ∷ fs) above all = (row_later e es x.0 (later e.0 x.0 above.0) ∙ all.0, each_behind e es fs above.1 all.1)
-
--- Each row stands at its place.
-pub each_here : (es : List (ℕ × List Value)) → IsStrictlySortedBy nat_cmp (keys_of es) → Each (λ (e : ℕ × List Value). row_at es e.0 ≡ Some e.1) es
-each_here [] up = tt
-each_here (e ∷ es) up =
-    (row_first e es e.0 (ap is_eq (tied_itself nat_cmp_total e.0)), each_behind e es es (sorted_head nat_cmp e.0 (keys_of es) up) (each_here es (sorted_tail nat_cmp e.0 (keys_of es) up)))

@@ -1,20 +1,18 @@
 -- What is found by slots is what passes a test of rows.
 use Rattle.std.proofs.Common.{◌≡◌, ◌∙◌, ℕ, ◌+◌, ◌<◌, Bool, true, false, cond, List, [], ◌∷◌, ◌++◌, length, get_or, take, refl, ap, sym, subst, suc, Some, None}
 use Rattle.std.specs.Prelude.{filter, map, ◌||◌, ◌&&◌, ◌==◌, is_some}
-use Rattle.std.specs.List.{list_any, list_all, find, All, AllByRecursion}
+use Rattle.std.specs.List.{list_any, list_all, find, AllByRecursion}
 use Rattle.std.specs.List.Sorted.{IsStrictlySortedBy}
 use Rattle.std.specs.Cmp.{nat_cmp_total, tied_then, eq_by_cmp_equiv, unsigned_Decides}
 use Rattle.std.specs.Ordering.{is_eq, nat_cmp, ordering_then}
 use Rattle.std.specs.Map.{lookup, keys_of}
-use Rattle.std.specs.BTreeMap.{BTreeMap, get, is_at}
+use Rattle.std.specs.BTreeMap.{is_at}
 use Rattle.std.specs.BTreeSet.{BTreeSet, contains}
 use Rattle.std.specs.BTreeSet as sorted
-use Rattle.std.specs.BTreeMap as tree
 use Rattle.std.specs.declared.cmp.Ordering.{Ordering}
 use Rattle.std.specs.declared.cmp.Ordering.TheVariants.{Less, Equal, Greater}
 use Rattle.std.specs.declared.option.Option.{Option}
-use Rattle.std.proofs.lemmas.List.Elements.{filter_more, All-head, All-tail}
-use Rattle.std.proofs.lemmas.Map.Views.{All-found}
+use Rattle.std.proofs.lemmas.List.Elements.{filter_more}
 use Rattle.std.proofs.lemmas.List.{append-nil}
 use Rattle.okws_base.specs.Runs.{Each}
 use Rattle.std.proofs.lemmas.Map.Keys.{IsDistinct-from_sorted}
@@ -27,6 +25,8 @@ use Rattle.okws_plan.specs.declared.statement.Condition.{Condition}
 use Rattle.okws_plan.specs.declared.statement.Comparison.{Comparison}
 use Rattle.okws_plan.specs.declared.statement.Comparison.TheVariants as comparison
 use Rattle.okws_base.specs.Value.{value_cmp}
+use Rattle.placed_rows.specs.Places.{row_at}
+use Rattle.placed_rows.proofs.Stood.{each_here}
 use Rattle.index_keeper.specs.Slots.{slot_cmp, is_of, places_in}
 use Rattle.index_keeper.specs.Places.{places_where, rows_of, is_indexed, cell, is_value, passes_at, is_equality, leading, tests, tests_by, IsIndex}
 use Rattle.index_keeper.specs.declared.slot.Slot.{Slot}
@@ -135,21 +135,21 @@ same_test c v None = refl
 same_test c v (Some row) = refl
 
 -- The places in the slots of a value are those of the rows that have it.
-pub listed : (columns : List ℕ) (rows : BTreeMap ℕ (List Value)) (slots : BTreeSet Slot) (c : ℕ) (v : Value) → IsIndex columns rows slots → tree.IsOrdered nat_cmp rows → sorted.IsOrdered slot_cmp slots → is_indexed columns c ≡ true
-    → places_in c v slots.keys ≡ places_where (λ (row : List Value). is_value v (Some (at_column row c))) rows.entries
+pub listed : (columns : List ℕ) (rows : List (ℕ × List Value)) (slots : BTreeSet Slot) (c : ℕ) (v : Value) → IsIndex columns rows slots → IsStrictlySortedBy nat_cmp (keys_of rows) → sorted.IsOrdered slot_cmp slots → is_indexed columns c ≡ true
+    → places_in c v slots.keys ≡ places_where (λ (row : List Value). is_value v (Some (at_column row c))) rows
 listed columns rows slots c v index up rise has =
     let holds : List Value → Bool = λ (row : List Value). is_value v (Some (at_column row c)) in
     let left : BTreeSet ℕ = record { keys = places_in c v slots.keys } in
-    let right : BTreeSet ℕ = record { keys = places_where holds rows.entries } in
+    let right : BTreeSet ℕ = record { keys = places_where holds rows } in
     let same : (p : ℕ) → contains nat_cmp left p ≡ contains nat_cmp right p = λ (p : ℕ).
     any_in_group c v p slots.keys
     ∙ index.exact (record { column = c; value = v; place = p })
-    ∙ ap (λ (b : Bool). b && is_value v (cell c (get nat_cmp rows p))) has
-    ∙ same_test c v (get nat_cmp rows p)
-    ∙ sym (any_where holds rows.entries p up) in
+    ∙ ap (λ (b : Bool). b && is_value v (cell c (row_at rows p))) has
+    ∙ same_test c v (row_at rows p)
+    ∙ sym (any_where holds rows p up) in
     btree_set_from_contains nat_cmp_total left right
     (places_sorted (record { column = c; value = v; place = 0 }) slots.keys rise)
-    (sorted_filtered nat_cmp (λ (e : ℕ × List Value). e.0) (λ (e : ℕ × List Value). holds e.1) rows.entries up)
+    (sorted_filtered nat_cmp (λ (e : ℕ × List Value). e.0) (λ (e : ℕ × List Value). holds e.1) rows up)
     same
     exact_unsigned
 
@@ -245,21 +245,13 @@ pub count_all : (es : List (ℕ × List Value)) → length (rows_of es) ≡ leng
 count_all [] = refl
 count_all (e ∷ es) = ap suc (count_all es)
 
-each_of_all : {X : Type 0} (P : X → Type 0) (xs : List X) → All P xs → Each P xs
-each_of_all P [] all = tt
-each_of_all P (x ∷ xs) all = (All-head P x xs all, each_of_all P xs (All-tail P x xs all))
-
--- Each row is found at its place.
-pub each_found : (rows : BTreeMap ℕ (List Value)) → tree.IsOrdered nat_cmp rows → Each (λ (e : ℕ × List Value). get nat_cmp rows e.0 ≡ Some e.1) rows.entries
-each_found rows up = each_of_all (λ (e : ℕ × List Value). get nat_cmp rows e.0 ≡ Some e.1) rows.entries (All-found nat_cmp_total rows up)
-
 each_passes : (f : ℕ → Option (List Value)) (test : List Value → Bool) (es : List (ℕ × List Value)) → Each (λ (e : ℕ × List Value). f e.0 ≡ Some e.1) es → Each (λ (e : ℕ × List Value). passes_at test (f e.0) ≡ test e.1) es
 each_passes f test [] all = tt
 each_passes f test (e ∷ es) all = (ap (passes_at test) all.0, each_passes f test es all.1)
 
 -- The candidates are the places of the rows that meet the leading condition.
-pub candidates_are : (columns : List ℕ) (rows : BTreeMap ℕ (List Value)) (slots : BTreeSet Slot) (args : List Value) (conditions : List Condition) (c : Condition) → IsIndex columns rows slots → tree.IsOrdered nat_cmp rows → sorted.IsOrdered slot_cmp slots → leading columns conditions ≡ Some c
-    → places_in c.column (operand args c.operand) slots.keys ≡ places_where (λ (row : List Value). is_value (operand args c.operand) (Some (at_column row c.column))) rows.entries
+pub candidates_are : (columns : List ℕ) (rows : List (ℕ × List Value)) (slots : BTreeSet Slot) (args : List Value) (conditions : List Condition) (c : Condition) → IsIndex columns rows slots → IsStrictlySortedBy nat_cmp (keys_of rows) → sorted.IsOrdered slot_cmp slots → leading columns conditions ≡ Some c
+    → places_in c.column (operand args c.operand) slots.keys ≡ places_where (λ (row : List Value). is_value (operand args c.operand) (Some (at_column row c.column))) rows
 candidates_are columns rows slots args conditions c index up rise h =
     listed columns rows slots c.column (operand args c.operand) index up rise
     (both_right (is_equality c.comparison) (is_indexed columns c.column) (find_passes (λ (d : Condition). is_equality d.comparison && is_indexed columns d.column) conditions c h))
@@ -270,23 +262,23 @@ met_leading columns args conditions c h row met =
     sym (leading_holds columns args conditions c row h) ∙ find_met (λ (d : Condition). is_equality d.comparison && is_indexed columns d.column) (λ (d : Condition). meets args d row) conditions c h met
 
 -- Those of the candidates that meet all conditions are the places of all rows that do.
-pub found_by : (columns : List ℕ) (rows : BTreeMap ℕ (List Value)) (slots : BTreeSet Slot) (args : List Value) (conditions : List Condition) (c : Condition) → IsIndex columns rows slots → tree.IsOrdered nat_cmp rows → sorted.IsOrdered slot_cmp slots → leading columns conditions ≡ Some c
-    → filter (λ (p : ℕ). passes_at (meets_all args conditions) (get nat_cmp rows p)) (places_in c.column (operand args c.operand) slots.keys) ≡ places_where (meets_all args conditions) rows.entries
+pub found_by : (columns : List ℕ) (rows : List (ℕ × List Value)) (slots : BTreeSet Slot) (args : List Value) (conditions : List Condition) (c : Condition) → IsIndex columns rows slots → IsStrictlySortedBy nat_cmp (keys_of rows) → sorted.IsOrdered slot_cmp slots → leading columns conditions ≡ Some c
+    → filter (λ (p : ℕ). passes_at (meets_all args conditions) (row_at rows p)) (places_in c.column (operand args c.operand) slots.keys) ≡ places_where (meets_all args conditions) rows
 found_by columns rows slots args conditions c index up rise h =
-    ap (filter (λ (p : ℕ). passes_at (meets_all args conditions) (get nat_cmp rows p))) (candidates_are columns rows slots args conditions c index up rise h)
-    ∙ narrowed (λ (p : ℕ). passes_at (meets_all args conditions) (get nat_cmp rows p)) (λ (row : List Value). is_value (operand args c.operand) (Some (at_column row c.column))) (meets_all args conditions) rows.entries
-    (each_passes (get nat_cmp rows) (meets_all args conditions) rows.entries (each_found rows up))
+    ap (filter (λ (p : ℕ). passes_at (meets_all args conditions) (row_at rows p))) (candidates_are columns rows slots args conditions c index up rise h)
+    ∙ narrowed (λ (p : ℕ). passes_at (meets_all args conditions) (row_at rows p)) (λ (row : List Value). is_value (operand args c.operand) (Some (at_column row c.column))) (meets_all args conditions) rows
+    (each_passes (row_at rows) (meets_all args conditions) rows (each_here rows up))
     (met_leading columns args conditions c h)
 
 -- There are as many candidates as rows are tested.
-pub counted_by : (columns : List ℕ) (rows : BTreeMap ℕ (List Value)) (slots : BTreeSet Slot) (args : List Value) (conditions : List Condition) (c : Condition) → IsIndex columns rows slots → tree.IsOrdered nat_cmp rows → sorted.IsOrdered slot_cmp slots → leading columns conditions ≡ Some c
-    → length (places_in c.column (operand args c.operand) slots.keys) ≡ tests columns args conditions (rows_of rows.entries)
+pub counted_by : (columns : List ℕ) (rows : List (ℕ × List Value)) (slots : BTreeSet Slot) (args : List Value) (conditions : List Condition) (c : Condition) → IsIndex columns rows slots → IsStrictlySortedBy nat_cmp (keys_of rows) → sorted.IsOrdered slot_cmp slots → leading columns conditions ≡ Some c
+    → length (places_in c.column (operand args c.operand) slots.keys) ≡ tests columns args conditions (rows_of rows)
 counted_by columns rows slots args conditions c index up rise h =
     ap length (candidates_are columns rows slots args conditions c index up rise h)
-    ∙ count_where (λ (row : List Value). is_value (operand args c.operand) (Some (at_column row c.column))) rows.entries
-    ∙ ap length (filter_alike (λ (row : List Value). is_value (operand args c.operand) (Some (at_column row c.column))) (λ (row : List Value). meets_all args (c ∷ []) row) (rows_of rows.entries)
+    ∙ count_where (λ (row : List Value). is_value (operand args c.operand) (Some (at_column row c.column))) rows
+    ∙ ap length (filter_alike (λ (row : List Value). is_value (operand args c.operand) (Some (at_column row c.column))) (λ (row : List Value). meets_all args (c ∷ []) row) (rows_of rows)
     (λ row. sym (leading_holds columns args conditions c row h) ∙ sym (and_true (meets args c row))))
-    ∙ ap (λ (o : Option Condition). tests_by o args (rows_of rows.entries)) (sym h)
+    ∙ ap (λ (o : Option Condition). tests_by o args (rows_of rows)) (sym h)
 
 find_any : {X : Type 0} (p : X → Bool) (xs : List X) (x : X) → find p xs ≡ Some x → list_any p xs ≡ true
 find_any p [] x h = let never : ⊥ = cc in absurd never

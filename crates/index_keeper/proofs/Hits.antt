@@ -2,15 +2,17 @@
 use Rattle.std.proofs.Common.{◌≡◌, ◌∙◌, ℕ, Bool, true, false, List, [], ◌∷◌, refl, ap, Some, None}
 use Rattle.std.specs.Prelude.{filter, map}
 use Rattle.std.specs.Ordering.{nat_cmp}
-use Rattle.std.specs.BTreeMap.{BTreeMap, get}
+use Rattle.std.specs.List.Sorted.{IsStrictlySortedBy}
+use Rattle.std.specs.Map.{keys_of}
 use Rattle.std.specs.BTreeSet.{BTreeSet}
 use Rattle.std.specs.BTreeSet as sorted
-use Rattle.std.specs.BTreeMap as tree
 use Rattle.std.specs.declared.option.Option.{Option}
 use Rattle.okws_base.specs.Runs.{Each}
 use Rattle.okws_base.specs.declared.value.Value.{Value}
 use Rattle.okws_plan.specs.Meaning.{at_column, operand, meets_all}
 use Rattle.okws_plan.specs.declared.statement.Condition.{Condition}
+use Rattle.placed_rows.specs.Places.{row_at}
+use Rattle.placed_rows.proofs.Stood.{each_here}
 use Rattle.index_keeper.specs.Slots.{slot_cmp, places_in}
 use Rattle.index_keeper.specs.Places.{places_where, rows_of, is_value, leading, IsIndex}
 use Rattle.index_keeper.specs.Changes.{changes_to}
@@ -18,7 +20,7 @@ use Rattle.index_keeper.specs.Hits.{lent, entries_of, entries_at}
 use Rattle.index_keeper.specs.declared.changing.Change.{Change}
 use Rattle.index_keeper.specs.declared.finding.Hit.{Hit}
 use Rattle.index_keeper.specs.declared.slot.Slot.{Slot}
-use Rattle.index_keeper.proofs.Found.{candidates_are, each_found, met_leading}
+use Rattle.index_keeper.proofs.Found.{candidates_are, met_leading}
 
 -- Of the places that pass one test those whose rows pass a narrower one, with their rows, are the entries that pass this.
 narrowed_entries : (at : ℕ → Option (List Value)) (holds meets : List Value → Bool) (es : List (ℕ × List Value)) → Each (λ (e : ℕ × List Value). at e.0 ≡ Some e.1) es → ((row : List Value) → meets row ≡ true → holds row ≡ true)
@@ -34,12 +36,12 @@ narrowed_entries at holds meets (e ∷ es) all only = by (meets e.1) (holds e.1)
     by false false is has rest = rw (is, has) rest
 
 -- The candidates that meet all conditions, with their rows, are all entries that do.
-pub found_entries : (columns : List ℕ) (rows : BTreeMap ℕ (List Value)) (slots : BTreeSet Slot) (args : List Value) (conditions : List Condition) (c : Condition) → IsIndex columns rows slots → tree.IsOrdered nat_cmp rows → sorted.IsOrdered slot_cmp slots → leading columns conditions ≡ Some c
-    → entries_at (meets_all args conditions) (λ (p : ℕ). get nat_cmp rows p) (places_in c.column (operand args c.operand) slots.keys) ≡ filter (λ (e : ℕ × List Value). meets_all args conditions e.1) rows.entries
+pub found_entries : (columns : List ℕ) (rows : List (ℕ × List Value)) (slots : BTreeSet Slot) (args : List Value) (conditions : List Condition) (c : Condition) → IsIndex columns rows slots → IsStrictlySortedBy nat_cmp (keys_of rows) → sorted.IsOrdered slot_cmp slots → leading columns conditions ≡ Some c
+    → entries_at (meets_all args conditions) (λ (p : ℕ). row_at rows p) (places_in c.column (operand args c.operand) slots.keys) ≡ filter (λ (e : ℕ × List Value). meets_all args conditions e.1) rows
 found_entries columns rows slots args conditions c index up rise h =
-    ap (entries_at (meets_all args conditions) (λ (p : ℕ). get nat_cmp rows p)) (candidates_are columns rows slots args conditions c index up rise h)
-    ∙ narrowed_entries (λ (p : ℕ). get nat_cmp rows p) (λ (row : List Value). is_value (operand args c.operand) (Some (at_column row c.column))) (meets_all args conditions) rows.entries
-    (each_found rows up)
+    ap (entries_at (meets_all args conditions) (λ (p : ℕ). row_at rows p)) (candidates_are columns rows slots args conditions c index up rise h)
+    ∙ narrowed_entries (λ (p : ℕ). row_at rows p) (λ (row : List Value). is_value (operand args c.operand) (Some (at_column row c.column))) (meets_all args conditions) rows
+    (each_here rows up)
     (met_leading columns args conditions c h)
 
 -- The rows of hits are those of their entries.

@@ -6,5 +6,6 @@ pub mod Entries
 pub mod Counted
 pub mod Ran
 pub mod Pins
+pub mod Scanned
 pub mod Unstable
 mod Hits

@@ -12,10 +12,11 @@ use Rattle.std.proofs.lemmas.Map.Keys.{sorted_head, sorted_tail}
 use Rattle.std.proofs.lemmas.Map.Lookups.{exact_unsigned}
 use Rattle.okws_base.specs.Value.{value_cmp}
 use Rattle.okws_base.specs.declared.value.Value.{Value}
+use Rattle.placed_rows.specs.Places.{merged}
 use Rattle.index_keeper.specs.Order.{exact_values, values_total}
 use Rattle.index_keeper.specs.Slots.{slot_cmp}
 use Rattle.index_keeper.specs.Places.{is_indexed, cell, is_value}
-use Rattle.index_keeper.specs.Changes.{same_cell, stands, comes, goes, comes_with, goes_with, merged, after_change, changed}
+use Rattle.index_keeper.specs.Changes.{same_cell, stands, comes, goes, comes_with, goes_with, after_change, changed}
 use Rattle.index_keeper.specs.declared.slot.Slot.{Slot}
 use Rattle.index_keeper.specs.declared.changing.Change.{Change}
 
@@ -27,24 +28,22 @@ equal_of Greater e = let never : ⊥ = cc in absurd never
 nat_same : (a b : ℕ) → (a == b) ≡ true → a ≡ b
 nat_same a b h = exact_unsigned a b (equal_of (nat_cmp a b) (unsigned_tied a b ∙ h))
 
-shuffled : (d v p : Bool) → ((d && v) && p) ≡ ((d && p) && v)
-shuffled true v p = swapped v p
-  where
-    swapped : (v p : Bool) → (v && p) ≡ (p && v)
-    swapped true true = refl
-    swapped true false = refl
-    swapped false true = refl
-    swapped false false = refl
-shuffled false v p = refl
+shuffled : (v d p : Bool) → ((v && d) && p) ≡ ((d && p) && v)
+shuffled true true true = refl
+shuffled true true false = refl
+shuffled true false p = refl
+shuffled false true true = refl
+shuffled false true false = refl
+shuffled false false p = refl
 
 -- When a slot is one of a column, a value and a place.
 pub slot_is : (d p : ℕ) (x : Value) (q : Slot) → is_eq (slot_cmp (record { column = d; value = x; place = p }) q) ≡ (stands d p q && is_eq (value_cmp x q.value))
 slot_is d p x q =
-    sym (tied_then (ordering_then (nat_cmp d q.column) (value_cmp x q.value)) (nat_cmp p q.place))
-    ∙ ap (λ (b : Bool). b && is_eq (nat_cmp p q.place)) (sym (tied_then (nat_cmp d q.column) (value_cmp x q.value)))
-    ∙ ap (λ (b : Bool). (b && is_eq (value_cmp x q.value)) && is_eq (nat_cmp p q.place)) (unsigned_tied d q.column)
-    ∙ ap (λ (b : Bool). ((d == q.column) && is_eq (value_cmp x q.value)) && b) (unsigned_tied p q.place)
-    ∙ shuffled (d == q.column) (is_eq (value_cmp x q.value)) (p == q.place)
+    sym (tied_then (ordering_then (value_cmp x q.value) (nat_cmp d q.column)) (nat_cmp p q.place))
+    ∙ ap (λ (b : Bool). b && is_eq (nat_cmp p q.place)) (sym (tied_then (value_cmp x q.value) (nat_cmp d q.column)))
+    ∙ ap (λ (b : Bool). (is_eq (value_cmp x q.value) && b) && is_eq (nat_cmp p q.place)) (unsigned_tied d q.column)
+    ∙ ap (λ (b : Bool). (is_eq (value_cmp x q.value) && (d == q.column)) && b) (unsigned_tied p q.place)
+    ∙ shuffled (is_eq (value_cmp x q.value)) (d == q.column) (p == q.place)
 
 absorbed : (i x : Bool) → (x || (i && x)) ≡ x
 absorbed true true = refl

@@ -33,12 +33,12 @@ any_in_front p (x ∷ xs) (suc i) h = by (p x) (any_in_front p xs i) h
 pub any_with_next : {X : Type 0} (p : X → Bool) (xs : List X) (i : ℕ) (x : X) → i < length xs → x ≡ get_or xs i x → list_any p (take (i + 1) xs) ≡ (list_any p (take i xs) || p x)
 any_with_next p xs i x h at = list_any_more p xs i x h ∙ ap (λ (b : Bool). list_any p (take i xs) || b) (ap p (sym at))
 
--- Slots by column and value alone.
+-- Slots by value and column alone.
 abbrev pub group_cmp : Slot → Slot → Ordering
-group_cmp a b = ordering_then (nat_cmp a.column b.column) (value_cmp a.value b.value)
+group_cmp a b = ordering_then (value_cmp a.value b.value) (nat_cmp a.column b.column)
 
 pub groups_total : IsTotalOrder group_cmp
-groups_total = then_total (on_total (λ (s : Slot). s.column) nat_cmp_total) (on_total (λ (s : Slot). s.value) values_total)
+groups_total = then_total (on_total (λ (s : Slot). s.value) values_total) (on_total (λ (s : Slot). s.column) nat_cmp_total)
 
 -- What is behind a slot of a later group is of a later group.
 behind : (f q r : Slot) → group_cmp f q ≡ Less → slot_cmp q r ≡ Less → group_cmp f r ≡ Less

@@ -1,11 +1,10 @@
 -- Changes of rows at their places, and the slots that come and go with them.
 use Rattle.std.specs.Prelude.{ℕ, Bool, true, false, not, ◌&&◌, ◌==◌, List, [], fold, map, if◌then◌else◌, Option, Some, None}
 use Rattle.std.specs.List.{list_any}
-use Rattle.std.specs.Ordering.{nat_cmp, is_eq}
-use Rattle.std.specs.Map.{lookup}
-use Rattle.std.specs.BTreeMap.{is_at}
+use Rattle.std.specs.Ordering.{is_eq}
 use Rattle.okws_base.specs.Value.{value_cmp}
 use Rattle.okws_base.specs.declared.value.Value.{Value}
+use Rattle.placed_rows.specs.Places.{row_at, merged}
 use Rattle.index_keeper.specs.Places.{cell, is_value}
 use Rattle.index_keeper.specs.declared.slot.Slot.{Slot}
 use Rattle.index_keeper.specs.declared.changing.Change.{Change}
@@ -47,11 +46,6 @@ abbrev pub goes_with : List ℕ → Option (List Value) → Change → Slot → 
 goes_with columns None ch q = false
 goes_with columns (Some o) ch q = goes columns ch.place (Some o) ch.row q
 
--- What is to stand where a row was; nothing where none was.
-abbrev pub merged : Option (List Value) → Option (List Value) → Option (List Value)
-merged None n = None
-merged (Some o) n = n
-
 -- What stands at a place after one change, from what stood there.
 abbrev pub after_change : ℕ → Option (List Value) → Change → Option (List Value)
 after_change p o ch = if ch.place == p then merged o ch.row else o
@@ -59,10 +53,6 @@ after_change p o ch = if ch.place == p then merged o ch.row else o
 -- What stands at a place after each change in turn, from what stood there.
 abbrev pub changed : List Change → Option (List Value) → ℕ → Option (List Value)
 changed changes o p = fold (after_change p) o changes
-
--- The row at a place, if there is one.
-abbrev pub row_at : List (ℕ × List Value) → ℕ → Option (List Value)
-row_at entries p = lookup (is_at (nat_cmp p)) entries
 
 -- A row, or one of no values.
 abbrev pub or_empty : Option (List Value) → List Value

@@ -70,5 +70,5 @@ values_total = record { antisymm = antisymm; trans = trans; congr = λ x y z h. 
 pub slots_total : IsTotalOrder slot_cmp
 slots_total =
     then_total
-    (then_total (on_total (λ (s : Slot). s.column) nat_cmp_total) (on_total (λ (s : Slot). s.value) values_total))
+    (then_total (on_total (λ (s : Slot). s.value) values_total) (on_total (λ (s : Slot). s.column) nat_cmp_total))
     (on_total (λ (s : Slot). s.place) nat_cmp_total)

@@ -2,7 +2,8 @@
 use Rattle.std.specs.Prelude.{◌≡◌, ℕ, ◌≤◌, Bool, true, false, ◌&&◌, ◌==◌, List, [], ◌∷◌, length, map, filter, find, Option, Some, None}
 use Rattle.std.specs.List.{list_any}
 use Rattle.std.specs.Ordering.{nat_cmp, is_eq}
-use Rattle.std.specs.BTreeMap.{BTreeMap, get, IsOrdered}
+use Rattle.std.specs.Map.{keys_of}
+use Rattle.std.specs.List.Sorted.{IsStrictlySortedBy}
 use Rattle.std.specs.BTreeSet.{BTreeSet, contains}
 use Rattle.okws_base.specs.Value.{value_cmp}
 use Rattle.okws_base.specs.declared.value.Value.{Value}
@@ -10,6 +11,7 @@ use Rattle.okws_plan.specs.Meaning.{at_column, hits}
 use Rattle.okws_plan.specs.declared.statement.Condition.{Condition}
 use Rattle.okws_plan.specs.declared.statement.Comparison.{Comparison}
 use Rattle.okws_plan.specs.declared.statement.Comparison.TheVariants as comparison
+use Rattle.placed_rows.specs.Places.{row_at}
 use Rattle.index_keeper.specs.Slots.{slot_cmp}
 use Rattle.index_keeper.specs.declared.slot.Slot.{Slot}
 
@@ -41,14 +43,14 @@ is_value v None = false
 is_value v (Some x) = is_eq (value_cmp x v)
 
 -- The slots are an index of the rows by these columns: there is a slot for a column, a value and a place exactly where the column has an index and the row of that place has the value there.
-pub record IsIndex (columns : List ℕ) (rows : BTreeMap ℕ (List Value)) (slots : BTreeSet Slot) : Type 0 where
-  pub exact : (q : Slot) → contains slot_cmp slots q ≡ (is_indexed columns q.column && is_value q.value (cell q.column (get nat_cmp rows q.place)))
+pub record IsIndex (columns : List ℕ) (rows : List (ℕ × List Value)) (slots : BTreeSet Slot) : Type 0 where
+  pub exact : (q : Slot) → contains slot_cmp slots q ≡ (is_indexed columns q.column && is_value q.value (cell q.column (row_at rows q.place)))
 
 -- What always holds of a table's rows: their places rise, the slots are an index of them, and no row has the next place or a later one.
-pub record IsSound (columns : List ℕ) (rows : BTreeMap ℕ (List Value)) (next : ℕ) (slots : BTreeSet Slot) : Type 0 where
-  pub rising : IsOrdered nat_cmp rows
+pub record IsSound (columns : List ℕ) (rows : List (ℕ × List Value)) (next : ℕ) (slots : BTreeSet Slot) : Type 0 where
+  pub rising : IsStrictlySortedBy nat_cmp (keys_of rows)
   pub index : IsIndex columns rows slots
-  pub free : (p : ℕ) → next ≤ p → get nat_cmp rows p ≡ None
+  pub free : (p : ℕ) → next ≤ p → row_at rows p ≡ None
 
 -- The comparison is `=`.
 abbrev pub is_equality : Comparison → Bool

@@ -7,9 +7,9 @@ use Rattle.okws_base.specs.Value.{value_cmp}
 use Rattle.okws_base.specs.declared.value.Value.{Value}
 use Rattle.index_keeper.specs.declared.slot.Slot.{Slot}
 
--- Slots are ordered by column, then by value, then by place.
+-- Slots are ordered by value, then by column, then by place.
 abbrev pub slot_cmp : Slot → Slot → Ordering
-slot_cmp a b = ordering_then (ordering_then (nat_cmp a.column b.column) (value_cmp a.value b.value)) (nat_cmp a.place b.place)
+slot_cmp a b = ordering_then (ordering_then (value_cmp a.value b.value) (nat_cmp a.column b.column)) (nat_cmp a.place b.place)
 
 -- A list of slots has this one.
 abbrev pub has_slot : List Slot → Slot → Bool
@@ -17,7 +17,7 @@ has_slot slots q = list_any (λ (s : Slot). is_eq (slot_cmp s q)) slots
 
 -- A slot is of this column and this value.
 abbrev pub is_of : ℕ → Value → Slot → Bool
-is_of c v s = is_eq (ordering_then (nat_cmp c s.column) (value_cmp v s.value))
+is_of c v s = is_eq (ordering_then (value_cmp v s.value) (nat_cmp c s.column))
 
 -- The places in the slots of a column that have this value, in their order.
 abbrev pub places_in : ℕ → Value → List Slot → List ℕ

@@ -1,15 +1,16 @@
 //! Changes of rows at their places, and the slots that come and go with them.
 
-ghost use Rattle.std.specs.Prelude.{◌≡◌, ◌||◌, ◌&&◌, ℕ, [], cond, true, false, IfOk, OnOk, OnErr, map, if◌then◌else◌, ◌==◌, None, Some};
+ghost use Rattle.std.specs.Prelude.{◌≡◌, ◌≤◌, ◌||◌, ◌&&◌, ℕ, [], ◌∷◌, ◌++◌, false, IfOk, OnOk, OnErr, map, ◌==◌, None, Some};
 ghost use Rattle.std.specs.Option.{option_copied};
 ghost use Rattle.std.specs.List.{list_any};
 ghost use Rattle.std.specs.List.Sorted.{IsStrictlySortedBy};
-ghost use Rattle.std.specs.Ordering.{nat_cmp, is_eq};
-ghost use Rattle.std.specs.BTreeMap.{get, insert_entry, IsOrdered};
+ghost use Rattle.std.specs.Ordering.{nat_cmp};
+ghost use Rattle.std.specs.Map.{keys_of};
 ghost use Rattle.okws_plan.specs.Meaning.{nothing};
+ghost use Rattle.placed_rows.specs.Places.{row_at};
 ghost use Rattle.index_keeper.specs.Slots.{has_slot};
 ghost use Rattle.index_keeper.specs.Places.{cell, is_value, IsIndex};
-ghost use Rattle.index_keeper.specs.Changes.{same_cell, stands, arrives, departs, comes, goes, comes_with, goes_with, merged, changed};
+ghost use Rattle.index_keeper.specs.Changes.{same_cell, stands, arrives, departs, comes, goes, comes_with, goes_with, changed};
 ghost use Rattle.index_keeper.specs.declared.slot.Slot.{Slot};
 
 use crate::finding::at;
@@ -17,9 +18,10 @@ use crate::slot::Slot;
 use crate::slots::{put_all, take_all};
 use okws_base::items::Exact;
 use okws_base::value::{Row, Value};
+use placed_rows::PlacedRows;
 use std::alloc::{AllocError, Global};
 use std::cmp::Ordering;
-use std::collections::{BTreeMap, BTreeSet};
+use std::collections::BTreeSet;
 
 /// What is to stand at a place that has a row: another row, or none.
 #[derive(Drop)]
@@ -155,17 +157,17 @@ impl Moves {
 fn moves_of(
     alloc: Global,
     columns: &[u8],
-    rows: &BTreeMap<u64, Row>,
+    rows: &PlacedRows,
     changes: &[Change],
     other: &Value,
 ) -> Result<Moves, AllocError>
     requires { other.now ≡ nothing }
-    ensures coming { IfOk result (λ m. (q : Slot) → has_slot m.coming.items q ≡ list_any (λ ch. comes_with columns.now (get nat_cmp rows.now ch.place) ch q) changes.now) }
-    ensures going { IfOk result (λ m. (q : Slot) → has_slot m.going.items q ≡ list_any (λ ch. goes_with columns.now (get nat_cmp rows.now ch.place) ch q) changes.now) }
+    ensures coming { IfOk result (λ m. (q : Slot) → has_slot m.coming.items q ≡ list_any (λ ch. comes_with columns.now (row_at rows.now.entries ch.place) ch q) changes.now) }
+    ensures going { IfOk result (λ m. (q : Slot) → has_slot m.going.items q ≡ list_any (λ ch. goes_with columns.now (row_at rows.now.entries ch.place) ch q) changes.now) }
 {
     let mut moves = Moves::none(alloc);
     for change in changes {
-        let old = rows.get(&change.place);
+        let old = rows.get(change.place);
         moves.note_change(alloc, columns, old, change, other)?;
     }
     Ok(moves)
@@ -176,17 +178,18 @@ fn moves_of(
 pub fn apply(
     alloc: Global,
     columns: &[u8],
-    rows: &mut BTreeMap<u64, Row>,
+    rows: &mut PlacedRows,
     slots: &mut BTreeSet<Slot>,
     changes: Vec<Change>,
 ) -> Result<(), AllocError>
-    requires index { IsIndex columns.now rows.old slots.old }
+    requires index { IsIndex columns.now rows.old.entries slots.old }
     requires apart { IsStrictlySortedBy nat_cmp (map (λ ch. ch.place) changes.items) }
-    ensures index { IsIndex columns.now rows.new slots.new }
-    ensures ok { OnOk result ((p : ℕ) → get nat_cmp rows.new p ≡ changed changes.items (get nat_cmp rows.old p) p) }
+    ensures index { IsIndex columns.now rows.new.entries slots.new }
+    ensures ok { OnOk result ((p : ℕ) → row_at rows.new.entries p ≡ changed changes.items (row_at rows.old.entries p) p) }
     ensures err { OnErr result (rows.new ≡ rows.old) }
-    ensures none { (p : ℕ) → get nat_cmp rows.old p ≡ None → get nat_cmp rows.new p ≡ None }
-    ensures rising { IsOrdered nat_cmp rows.old → IsOrdered nat_cmp rows.new }
+    ensures none { (p : ℕ) → row_at rows.old.entries p ≡ None → row_at rows.new.entries p ≡ None }
+    ensures rising { IsStrictlySortedBy nat_cmp (keys_of rows.old.entries) → IsStrictlySortedBy nat_cmp (keys_of rows.new.entries) }
+    ensures next { rows.new.next ≡ rows.old.next }
 {
     let other = Value::Int(0);
     let moves = moves_of(alloc, columns, rows, &changes, &other)?;
@@ -196,56 +199,43 @@ pub fn apply(
     Ok(())
 }
 
-/// Puts a row at a place that has none, with its slots, or neither where memory is refused.
+/// Puts a row behind the others, with its slots, or neither where memory is refused.
 pub fn append(
     alloc: Global,
     columns: &[u8],
-    rows: &mut BTreeMap<u64, Row>,
+    rows: &mut PlacedRows,
     slots: &mut BTreeSet<Slot>,
-    place: u64,
     row: Row,
 ) -> Result<(), AllocError>
-    requires index { IsIndex columns.now rows.old slots.old }
-    requires free { get nat_cmp rows.old place ≡ None }
-    ensures index { IsIndex columns.now rows.new slots.new }
-    ensures entries { OnOk result (rows.new.entries ≡ insert_entry nat_cmp rows.old.entries place row) }
-    ensures rows { OnOk result ((p : ℕ) → get nat_cmp rows.new p ≡ cond (is_eq (nat_cmp place p)) (Some row) (get nat_cmp rows.old p)) }
-    ensures err { OnErr result (rows.new.entries ≡ rows.old.entries) }
-    ensures rising { IsOrdered nat_cmp rows.old → IsOrdered nat_cmp rows.new }
+    requires index { IsIndex columns.now rows.old.entries slots.old }
+    requires free { row_at rows.old.entries rows.old.next ≡ None }
+    requires rising { IsStrictlySortedBy nat_cmp (keys_of rows.old.entries) }
+    ensures index { IsIndex columns.now rows.new.entries slots.new }
+    ensures entries { OnOk result (rows.new.entries ≡ rows.old.entries ++ (rows.old.next, row) ∷ []) }
+    ensures err { OnErr result (rows.new ≡ rows.old) }
+    ensures rising { IsStrictlySortedBy nat_cmp (keys_of rows.new.entries) }
+    ensures free { OnOk result ((p : ℕ) → rows.new.next ≤ p → row_at rows.new.entries p ≡ None) }
 {
+    let place = rows.next();
     let other = Value::Int(0);
     let mut moves = Moves::none(alloc);
     moves.note(alloc, columns, place, (None, Some(&row)), &other)?;
     put_all(alloc, slots, &moves.coming)?;
-    if let Err(refused) = rows.insert(place, row) {
+    if let Err(refused) = rows.push(row) {
         take_all(slots, &moves.coming);
-        return Err(AllocError::from(refused));
+        return Err(refused);
     }
     Ok(())
 }
 
-fn carry_out(rows: &mut BTreeMap<u64, Row>, changes: Vec<Change>)
-    ensures rows { (p : ℕ) → get nat_cmp rows.new p ≡ changed changes.items (get nat_cmp rows.old p) p }
-    ensures rising { IsOrdered nat_cmp rows.old → IsOrdered nat_cmp rows.new }
+fn carry_out(rows: &mut PlacedRows, changes: Vec<Change>)
+    ensures rows { (p : ℕ) → row_at rows.new.entries p ≡ changed changes.items (row_at rows.old.entries p) p }
+    ensures rising { IsStrictlySortedBy nat_cmp (keys_of rows.old.entries) → IsStrictlySortedBy nat_cmp (keys_of rows.new.entries) }
+    ensures next { rows.new.next ≡ rows.old.next }
 {
     for change in changes {
         let Change { place, row } = change;
-        put_at(rows, place, row);
+        rows.put(place, row);
     }
-}
-
-fn put_at(rows: &mut BTreeMap<u64, Row>, place: u64, row: Option<Row>)
-    ensures rows { (p : ℕ) → get nat_cmp rows.new p ≡ (if place == p then merged (get nat_cmp rows.old p) row else get nat_cmp rows.old p) }
-    ensures rising { IsOrdered nat_cmp rows.new }
-{
-    match row {
-        None => {
-            rows.remove(&place);
-        }
-        Some(row) => {
-            if let Some(kept) = rows.get_mut(&place) {
-                *kept = row;
-            }
-        }
-    }
+    rows.tidy();
 }

@@ -2,10 +2,10 @@
 
 ghost use Rattle.std.specs.Prelude.{◌≡◌, ◌+◌, ◌≤◌, ℕ, IfOk, OnOk, length, filter, ◌&&◌, slice_index_or};
 ghost use Rattle.std.specs.Option.{option_copied};
-ghost use Rattle.std.specs.Ordering.{nat_cmp};
-ghost use Rattle.std.specs.BTreeMap.{get};
 ghost use Rattle.std.specs.BTreeSet.{IsOrdered};
 ghost use Rattle.okws_plan.specs.Meaning.{meets_all, operand, nothing};
+ghost use Rattle.placed_rows.specs.Places.{row_at};
+ghost use Rattle.placed_rows.specs.Stands.{standing};
 ghost use Rattle.index_keeper.specs.Slots.{slot_cmp, places_in};
 ghost use Rattle.index_keeper.specs.Places.{leading, passes_at, is_indexed, is_equality};
 ghost use Rattle.index_keeper.specs.Hits.{entries_of, entries_at, passing};
@@ -16,8 +16,9 @@ use crate::steps::Steps;
 use okws_base::value::{Row, Value};
 use okws_plan::meaning::meets_every;
 use okws_plan::statement::{Comparison, Condition, Operand};
+use placed_rows::{PlacedRows, Stand};
 use std::alloc::{AllocError, Global};
-use std::collections::{BTreeMap, BTreeSet};
+use std::collections::BTreeSet;
 use std::sync::ledger::Ledger;
 
 /// A place, and the row that stands there.
@@ -79,23 +80,29 @@ pub fn candidates(
     places_at(alloc, slots, condition.column, value)
 }
 
-/// The rows that meet the conditions, at their places; all rows are tested.
+/// The rows that stand and meet the conditions, at their places; all that stand are tested.
 pub fn scanned<'a, L: Ledger>(
     alloc: Global,
     args: &[Value],
     conditions: &[Condition],
-    rows: &'a BTreeMap<u64, Row>,
+    stands: &'a [Stand],
     steps: &mut Steps<L>,
 ) -> Result<Vec<Hit<'a>>, AllocError>
-    ensures entries { IfOk result (λ v. entries_of v.items ≡ filter (λ e. meets_all args.now conditions.now e.1) rows.now.entries) }
-    ensures tested { OnOk result (steps.new ≡ steps.old + length rows.now.entries) }
-    ensures most { steps.new ≤ steps.old + length rows.now.entries }
+    ensures entries { IfOk result (λ v. entries_of v.items ≡ filter (λ e. meets_all args.now conditions.now e.1) (standing stands.now)) }
+    ensures tested { OnOk result (steps.new ≡ steps.old + length (standing stands.now)) }
+    ensures most { steps.new ≤ steps.old + length (standing stands.now) }
 {
     let mut hits = Vec::new(alloc);
-    for (place, row) in rows {
-        steps.tick();
-        if meets_every(args, conditions, row.as_slice()) {
-            hits.push(Hit { place: *place, row })?;
+    for stand in stands {
+        match stand.row.as_ref() {
+            None => {}
+            Some(row) => {
+                steps.tick();
+                let place = stand.place;
+                if meets_every(args, conditions, row.as_slice()) {
+                    hits.push(Hit { place, row })?;
+                }
+            }
         }
     }
     Ok(hits)
@@ -106,18 +113,18 @@ pub fn met_among<'a, L: Ledger>(
     alloc: Global,
     args: &[Value],
     conditions: &[Condition],
-    rows: &'a BTreeMap<u64, Row>,
+    rows: &'a PlacedRows,
     places: &[u64],
     steps: &mut Steps<L>,
 ) -> Result<Vec<Hit<'a>>, AllocError>
-    ensures entries { IfOk result (λ v. entries_of v.items ≡ entries_at (meets_all args.now conditions.now) (λ (p : ℕ). get nat_cmp rows.now p) places.now) }
+    ensures entries { IfOk result (λ v. entries_of v.items ≡ entries_at (meets_all args.now conditions.now) (λ (p : ℕ). row_at rows.now.entries p) places.now) }
     ensures tested { OnOk result (steps.new ≡ steps.old + length places.now) }
     ensures most { steps.new ≤ steps.old + length places.now }
 {
     let mut hits = Vec::with_capacity(alloc, places.len())?;
     for place in places {
         steps.tick();
-        match row_met(args, conditions, rows, *place) {
+        match row_met(args, conditions, rows.get(*place)) {
             None => {}
             Some(row) => hits.push(Hit { place: *place, row })?,
         }
@@ -125,16 +132,11 @@ pub fn met_among<'a, L: Ledger>(
     Ok(hits)
 }
 
-// The row at the place, if there is one and it meets the conditions.
-fn row_met<'a>(
-    args: &[Value],
-    conditions: &[Condition],
-    rows: &'a BTreeMap<u64, Row>,
-    place: u64,
-) -> Option<&'a Row>
-    ensures { option_copied result ≡ passing (meets_all args.now conditions.now) (get nat_cmp rows.now place) }
+// The row, if there is one and it meets the conditions.
+fn row_met<'a>(args: &[Value], conditions: &[Condition], row: Option<&'a Row>) -> Option<&'a Row>
+    ensures { option_copied result ≡ passing (meets_all args.now conditions.now) (option_copied row.entry) }
 {
-    match rows.get(&place) {
+    match row {
         None => None,
         Some(row) => {
             if meets_every(args, conditions, row.as_slice()) {
@@ -147,15 +149,10 @@ fn row_met<'a>(
 }
 
 /// Whether there is a row at the place, and it meets the conditions.
-pub fn meets_at(
-    args: &[Value],
-    conditions: &[Condition],
-    rows: &BTreeMap<u64, Row>,
-    place: u64,
-) -> bool
-    ensures { result ≡ passes_at (meets_all args.now conditions.now) (get nat_cmp rows.now place) }
+pub fn meets_at(args: &[Value], conditions: &[Condition], rows: &PlacedRows, place: u64) -> bool
+    ensures { result ≡ passes_at (meets_all args.now conditions.now) (row_at rows.now.entries place) }
 {
-    match rows.get(&place) {
+    match rows.get(place) {
         None => false,
         Some(row) => meets_every(args, conditions, row.as_slice()),
     }

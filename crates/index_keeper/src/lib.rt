@@ -11,6 +11,7 @@ mod finding;
 mod keeper;
 mod pinning;
 mod rows;
+mod scanning;
 mod shared;
 mod slot;
 mod slots;

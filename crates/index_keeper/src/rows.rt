@@ -2,16 +2,17 @@
 
 ghost use Rattle.std.specs.Prelude.{◌≡◌, ◌+◌, ◌≤◌, ◌++◌, ◌∷◌, [], ◌==◌, true, ℕ, IfOk, OnOk, OnErr, length, map, filter, not, Some, None};
 ghost use Rattle.std.specs.List.{list_any, filter_map, find};
-ghost use Rattle.std.specs.BTreeMap.{values};
 ghost use Rattle.std.specs.List.Sorted.{IsStrictlySortedBy};
 ghost use Rattle.std.specs.Ordering.{nat_cmp};
 ghost use Rattle.std.specs.Map.{keys_of};
 ghost use Rattle.okws_base.specs.Value.{value_eq};
 ghost use Rattle.okws_plan.specs.Meaning.{nothing, mean_on, meets_all, at_column, selection_answer, is_taken};
 ghost use Rattle.okws_plan.specs.Meaning.{hits, misses, updated, assigned, inserted, row_of};
+ghost use Rattle.placed_rows.specs.Places.{row_at};
+ghost use Rattle.placed_rows.specs.Stands.{standing};
 ghost use Rattle.index_keeper.specs.Places.{places_where, passes_at, rows_of, tests, is_indexed};
 ghost use Rattle.index_keeper.specs.Pinning.{AreTested};
-ghost use Rattle.index_keeper.specs.Changes.{row_at, row_or, changed, changes_to};
+ghost use Rattle.index_keeper.specs.Changes.{row_or, changed, changes_to};
 ghost use Rattle.index_keeper.specs.Hits.{entries_of};
 
 use crate::answering::answer;
@@ -19,6 +20,7 @@ use crate::changing::{Change, append, apply};
 use crate::declared::key_column;
 use crate::editing::{removals, replacements};
 use crate::finding::{Hit, at, candidates, leading_of, meets_at, met_among, scanned};
+use crate::scanning::{all_places, any_has};
 use crate::slot::Slot;
 use crate::slots::places_at;
 use crate::steps::Steps;
@@ -27,18 +29,17 @@ use okws_base::value::{Row, Value};
 use okws_plan::configuration::Column;
 use okws_plan::meaning::new_row;
 use okws_plan::statement::{Action, Answer, Assignment, Condition, Operand, Selection};
+use placed_rows::{PlacedRows, Stand};
 use std::alloc::{AllocError, Global};
-use std::collections::{BTreeMap, BTreeSet};
+use std::collections::BTreeSet;
 use std::marker::Model;
 use std::sync::ledger::Ledger;
 
-/// The rows of one table at their places, the next place, and the slots of the columns that have an
-/// index. Contracts see the columns, and the rows with their places.
+/// The rows of one table at their places, and the slots of the columns that have an index. Contracts see the columns, and the rows with their places.
 #[derive(Drop)]
 pub struct TableRows {
     columns: Vec<u8>,
-    rows: BTreeMap<u64, Row>,
-    next: u64,
+    rows: PlacedRows,
     slots: BTreeSet<Slot>,
 }
 
@@ -49,7 +50,7 @@ impl Model for TableRows {
 
     ghost view = { λ a. record { columns = a.columns.items; entries = a.rows.entries } };
 
-    ghost invariant = { λ a. IsSound a.columns.items a.rows a.next a.slots };
+    ghost invariant = { λ a. IsSound a.columns.items a.rows.entries a.rows.next a.slots };
 }
 
 impl TableRows {
@@ -85,7 +86,7 @@ impl TableRows {
         ensures rise { IsStrictlySortedBy nat_cmp (keys_of self.now.entries) }
     {
         let Some(condition) = leading_of(&self.columns, conditions) else {
-            return scanned(alloc, args, conditions, &self.rows, steps);
+            return scanned(alloc, args, conditions, self.rows.stands(), steps);
         };
         let places = candidates(alloc, args, condition, &self.slots)?;
         met_among(alloc, args, conditions, &self.rows, &places, steps)
@@ -102,7 +103,7 @@ impl TableRows {
         ensures { IfOk result (λ v. AreTested args.now conditions.now self.now.entries v.items) }
     {
         let Some(condition) = leading_of(&self.columns, conditions) else {
-            let all = all_places(alloc, &self.rows)?;
+            let all = all_places(alloc, self.rows.stands())?;
             return Ok(all);
         };
         let some = candidates(alloc, args, condition, &self.slots)?;
@@ -122,8 +123,7 @@ impl TableRows {
     {
         TableRows {
             columns,
-            rows: BTreeMap::new(alloc),
-            next: 0,
+            rows: PlacedRows::new(alloc),
             slots: BTreeSet::new(alloc),
         }
     }
@@ -134,14 +134,7 @@ impl TableRows {
         ensures rows { OnOk result (rows_of self.new.entries ≡ rows_of self.old.entries ++ row ∷ []) }
         ensures err { OnErr result (self.new ≡ self.old) }
     {
-        let place = self.next;
-        let Some(next) = place.checked_add(1) else {
-            return Err(AllocError);
-        };
-        let columns = &self.columns;
-        append(alloc, columns, &mut self.rows, &mut self.slots, place, row)?;
-        self.next = next;
-        Ok(())
+        append(alloc, &self.columns, &mut self.rows, &mut self.slots, row)
     }
 
     /// Does what the action means, and counts a step for each row that is tested to find its hits;
@@ -179,7 +172,7 @@ impl TableRows {
         requires { other.now ≡ nothing }
         ensures { result.now ≡ at_column (row_or self.now.entries place) column }
     {
-        match self.rows.get(&place) {
+        match self.rows.get(place) {
             None => other,
             Some(row) => at(row.as_slice(), column as usize, other),
         }
@@ -191,17 +184,20 @@ impl TableRows {
         ensures rows { IfOk result (λ r. rows_of r.entries ≡ rows_of self.now.entries) }
     {
         let mut copy = TableRows::new(alloc, copies(alloc, &self.columns)?);
-        copy.push_all(alloc, &self.rows)?;
+        copy.push_all(alloc, self.rows.stands())?;
         Ok(copy)
     }
 
-    // Puts copies of these rows behind the others.
-    fn push_all(&mut self, alloc: Global, rows: &BTreeMap<u64, Row>) -> Result<(), AllocError>
+    // Puts copies of the rows that stand behind the others.
+    fn push_all(&mut self, alloc: Global, stands: &[Stand]) -> Result<(), AllocError>
         ensures columns { OnOk result (self.new.columns ≡ self.old.columns) }
-        ensures rows { OnOk result (rows_of self.new.entries ≡ rows_of self.old.entries ++ rows_of rows.now.entries) }
+        ensures rows { OnOk result (rows_of self.new.entries ≡ rows_of self.old.entries ++ rows_of (standing stands.now)) }
     {
-        for (_, row) in rows {
-            self.push(alloc, row.copy(alloc)?)?;
+        for stand in stands {
+            match stand.row.as_ref() {
+                None => {}
+                Some(row) => self.push(alloc, row.copy(alloc)?)?,
+            }
         }
         Ok(())
     }
@@ -293,7 +289,7 @@ impl TableRows {
         let other = Value::Int(0);
         let value = at(new, column, &other);
         match own_column(&self.columns, column) {
-            None => Ok(any_has(&self.rows, column, value, &other)),
+            None => Ok(any_has(self.rows.stands(), column, value, &other)),
             Some(own) => self.has_indexed(alloc, own, value),
         }
     }
@@ -358,12 +354,6 @@ impl TableRows {
     }
 }
 
-fn all_places(alloc: Global, rows: &BTreeMap<u64, Row>) -> Result<Vec<u64>, AllocError>
-    ensures { IfOk result (λ v. v.items ≡ keys_of rows.now.entries) }
-{
-    rows.keys().copied().collect(alloc)
-}
-
 fn places_of(alloc: Global, hits: &[Hit]) -> Result<Vec<u64>, AllocError>
     ensures { IfOk result (λ v. v.items ≡ map (λ h. h.place) hits.now) }
 {
@@ -387,12 +377,4 @@ fn own_column(columns: &[u8], column: usize) -> Option<u8>
     ensures { result ≡ find (λ d. d == column) columns.now }
 {
     columns.iter().copied().find(|own| *own as usize == column)
-}
-
-fn any_has(rows: &BTreeMap<u64, Row>, column: usize, value: &Value, other: &Value) -> bool
-    requires { other.now ≡ nothing }
-    ensures { result ≡ list_any (λ row. value_eq (at_column row column) value.now) (values rows.now) }
-{
-    rows.values()
-        .any(|row| at(row.as_slice(), column, other).same(value))
 }

@@ -21,7 +21,7 @@ impl Slot {
     pub fn is_of(&self, column: u8, value: &Value) -> bool
         ensures { result ≡ is_of column value.now self.now }
     {
-        column == self.column && value.compare(&self.value) == Ordering::Equal
+        value.compare(&self.value) == Ordering::Equal && column == self.column
     }
 }
 
@@ -49,12 +49,12 @@ impl Ord for Slot {
     ghost matches_eq = { λ _ _. refl };
 
     fn cmp(&self, other: &Slot) -> Ordering {
-        match self.column.cmp(&other.column) {
-            Ordering::Equal => match self.value.compare(&other.value) {
+        match self.value.compare(&other.value) {
+            Ordering::Equal => match self.column.cmp(&other.column) {
                 Ordering::Equal => self.place.cmp(&other.place),
-                by_value => by_value,
+                by_column => by_column,
             },
-            by_column => by_column,
+            by_value => by_value,
         }
     }
 }

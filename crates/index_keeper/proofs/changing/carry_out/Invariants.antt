@@ -1,11 +1,14 @@
 use Rattle.std.proofs.Common.{◌≡◌, ℕ}
+use Rattle.std.specs.List.Sorted.{IsStrictlySortedBy}
+use Rattle.std.specs.Map.{keys_of}
 use Rattle.std.specs.Ordering.{nat_cmp}
-use Rattle.std.specs.BTreeMap.{get, IsOrdered}
+use Rattle.placed_rows.specs.Places.{row_at}
 use Rattle.index_keeper.specs.Changes.{changed}
 use Rattle.index_keeper.proofs.changing.carry_out.Given as goal
 
 abbrev pub invariant-loop-change : goal.invariant-loop-change
 invariant-loop-change l = record {
-  rows : (p : ℕ) → get nat_cmp l.rows p ≡ changed l.yielded (get nat_cmp l.initial.rows p) p;
-  rising : IsOrdered nat_cmp l.initial.rows → IsOrdered nat_cmp l.rows;
+  rows : (p : ℕ) → row_at l.rows.entries p ≡ changed l.yielded (row_at l.initial.rows.entries p) p;
+  rising : IsStrictlySortedBy nat_cmp (keys_of l.initial.rows.entries) → IsStrictlySortedBy nat_cmp (keys_of l.rows.entries);
+  next : l.rows.next ≡ l.initial.rows.next;
 }

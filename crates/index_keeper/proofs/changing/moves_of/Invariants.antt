@@ -1,7 +1,6 @@
 use Rattle.std.proofs.Common.{◌≡◌, take}
 use Rattle.std.specs.List.{list_any}
-use Rattle.std.specs.Ordering.{nat_cmp}
-use Rattle.std.specs.BTreeMap.{get}
+use Rattle.placed_rows.specs.Places.{row_at}
 use Rattle.index_keeper.specs.Slots.{has_slot}
 use Rattle.index_keeper.specs.Changes.{comes_with, goes_with}
 use Rattle.index_keeper.specs.declared.slot.Slot.{Slot}
@@ -10,6 +9,6 @@ use Rattle.index_keeper.proofs.changing.moves_of.Given as goal
 
 abbrev pub invariant-loop-change : goal.invariant-loop-change
 invariant-loop-change l = record {
-  coming : (q : Slot) → has_slot l.moves.coming.items q ≡ list_any (λ (ch : Change). comes_with l.columns (get nat_cmp l.rows ch.place) ch q) (take l.change-index l.changes);
-  going : (q : Slot) → has_slot l.moves.going.items q ≡ list_any (λ (ch : Change). goes_with l.columns (get nat_cmp l.rows ch.place) ch q) (take l.change-index l.changes);
+  coming : (q : Slot) → has_slot l.moves.coming.items q ≡ list_any (λ (ch : Change). comes_with l.columns (row_at l.rows.entries ch.place) ch q) (take l.change-index l.changes);
+  going : (q : Slot) → has_slot l.moves.going.items q ≡ list_any (λ (ch : Change). goes_with l.columns (row_at l.rows.entries ch.place) ch q) (take l.change-index l.changes);
 }

@@ -1,11 +1,10 @@
 use Rattle.std.proofs.Common.{◌≡◌, ◌∙◌, ◌∷◌, ◌++◌, [], ℕ, List, Option, Some, None, get_or, ap, sym, arith}
 use Rattle.std.specs.Prelude.{option_map}
-use Rattle.std.specs.Ordering.{nat_cmp}
-use Rattle.std.specs.BTreeMap.{get}
 use Rattle.std.proofs.lemmas.List.{map-append}
 use Rattle.okws_base.specs.declared.value.Value.{Value}
 use Rattle.okws_plan.specs.Meaning.{meets_all}
-use Rattle.index_keeper.specs.Hits.{entry_at}
+use Rattle.placed_rows.specs.Places.{row_at}
+use Rattle.index_keeper.specs.Hits.{entry_at, passing}
 use Rattle.index_keeper.specs.declared.finding.Hit.{Hit}
 use Rattle.index_keeper.proofs.Entries.{filter_map_some, filter_map_none}
 use Rattle.index_keeper.proofs.finding.met_among.Goals as goal
@@ -14,11 +13,11 @@ use Rattle.index_keeper.proofs.finding.met_among.Goals.{in-Some+in_ok-push-in-So
 pub loop-place-preserved : goal.loop-place-preserved
 loop-place-preserved g c =
     let place : ℕ = get_or c.args.places.now c.loop-place.place-index 0 in
-    let found : ℕ → Option (ℕ × List Value) = λ (p : ℕ). entry_at (meets_all c.args.args.now c.args.conditions.now) p (get nat_cmp c.args.rows.now p) in
+    let found : ℕ → Option (ℕ × List Value) = λ (p : ℕ). entry_at (meets_all c.args.args.now c.args.conditions.now) p (row_at c.args.rows.now.entries p) in
     elim c.match-row_met.branch [
       | in-Some+in_ok-push-in-Some w ↦
           let row = w.in-Some.row in
-          let here : found place ≡ Some (place, row.now) = ap (option_map (λ (r : List Value). (place, r))) (sym w.in-Some.ensures) in
+          let here : found place ≡ Some (place, row.now) = ap (option_map (λ (r : List Value). (place, r))) (ap (passing (meets_all c.args.args.now c.args.conditions.now)) (sym c.get.ensures) ∙ sym w.in-Some.ensures) in
           record {
             entries =
                 rw (w.hits-is, w.in_ok-push-in-Some.ensures.items)
@@ -28,7 +27,7 @@ loop-place-preserved g c =
             counted = omega (arith, c.tick.ensures, c.loop-place.invariant.counted);
           }
       | in-None w ↦
-          let here : found place ≡ None = ap (option_map (λ (r : List Value). (place, r))) (sym w.in-None.ensures) in
+          let here : found place ≡ None = ap (option_map (λ (r : List Value). (place, r))) (ap (passing (meets_all c.args.args.now c.args.conditions.now)) (sym c.get.ensures) ∙ sym w.in-None.ensures) in
           record {
             entries =
                 rw w.hits-is

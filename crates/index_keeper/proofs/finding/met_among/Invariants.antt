@@ -1,12 +1,11 @@
 use Rattle.std.proofs.Common.{◌≡◌, ◌+◌, ℕ, take}
-use Rattle.std.specs.Ordering.{nat_cmp}
-use Rattle.std.specs.BTreeMap.{get}
 use Rattle.okws_plan.specs.Meaning.{meets_all}
+use Rattle.placed_rows.specs.Places.{row_at}
 use Rattle.index_keeper.specs.Hits.{entries_of, entries_at}
 use Rattle.index_keeper.proofs.finding.met_among.Given as goal
 
 abbrev pub invariant-loop-place : goal.invariant-loop-place
 invariant-loop-place g l = record {
-  entries : entries_of l.hits.items ≡ entries_at (meets_all l.args l.conditions) (λ (p : ℕ). get nat_cmp l.rows p) (take l.place-index l.places);
+  entries : entries_of l.hits.items ≡ entries_at (meets_all l.args l.conditions) (λ (p : ℕ). row_at l.rows.entries p) (take l.place-index l.places);
   counted : l.steps ≡ l.initial.steps + l.place-index;
 }

@@ -1,11 +1,10 @@
 use Rattle.std.proofs.Common.{◌≡◌, ◌∙◌, ℕ, List, Some, ap, sym}
 use Rattle.std.specs.Prelude.{filter}
-use Rattle.std.specs.Ordering.{nat_cmp}
-use Rattle.std.specs.BTreeMap.{get}
+use Rattle.std.specs.Map.{keys_of}
 use Rattle.okws_plan.specs.Meaning.{meets_all}
+use Rattle.placed_rows.specs.Places.{row_at}
+use Rattle.placed_rows.proofs.Stood.{each_here}
 use Rattle.index_keeper.specs.Places.{passes_at, leading}
-use Rattle.index_keeper.specs.Changes.{row_at}
-use Rattle.index_keeper.proofs.Entries.{each_here}
 use Rattle.index_keeper.proofs.Found.{found_by}
 use Rattle.index_keeper.proofs.Unstable.{all_tested}
 use Rattle.index_keeper.proofs.rows.TableRows.tested.Goals as goal
@@ -16,18 +15,18 @@ returns-in_default c =
     let test = meets_all c.args.args.now c.args.conditions.now in
     rw (← c.self.view_is) (record {
       rising = c.self.invariant.rising;
-      met = ap (filter (λ (p : ℕ). passes_at test (row_at entries p))) c.in_ok-all.ensures ∙ all_tested (row_at entries) test entries (each_here entries c.self.invariant.rising);
+      met = ap (filter (λ (p : ℕ). passes_at test (row_at entries p))) (c.in_ok-all.ensures ∙ ap keys_of c.stands.ensures) ∙ all_tested (row_at entries) test entries (each_here entries c.self.invariant.rising);
     })
 
 pub returns : goal.returns
 returns c =
-    let rows = c.self.inside.rows in
+    let rows = c.self.inside.rows.entries in
     let test = meets_all c.args.args.now c.args.conditions.now in
     let led : leading c.self.inside.columns.items c.args.conditions.now ≡ Some c.in-Some.condition.now =
     sym (c.in-Some.ensures ∙ ap (λ (cs : List ℕ). leading cs c.args.conditions.now) c.deref.ensures.value) in
     rw (← c.self.view_is) (record {
       rising = c.self.invariant.rising;
       met =
-          ap (filter (λ (p : ℕ). passes_at test (get nat_cmp rows p))) c.in_ok-some.ensures.places
+          ap (filter (λ (p : ℕ). passes_at test (row_at rows p))) c.in_ok-some.ensures.places
           ∙ found_by c.self.inside.columns.items rows c.self.inside.slots c.args.args.now c.args.conditions.now c.in-Some.condition.now c.self.invariant.index c.self.invariant.rising c.in_ok-some.ensures.ordered led;
     })

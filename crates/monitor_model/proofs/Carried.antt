@@ -3,6 +3,7 @@ use Rattle.std.proofs.Common.{◌≡◌, ℕ, List, [], ◌∷◌, ◌++◌, ref
 use Rattle.std.specs.Prelude.{◌⊎◌}
 use Rattle.okws_base.specs.Runs.{Each}
 use Rattle.okws_plan.specs.declared.configuration.Config.{Config}
+use Rattle.frame_codec.specs.Spelling.{server_spelling}
 use Rattle.frame_codec.specs.declared.frame.ServiceFrame.{ServiceFrame}
 use Rattle.frame_codec.specs.declared.frame.ServiceFrame.TheVariants.{Open, Call, Get, Log, Reply}
 use Rattle.frame_codec.specs.declared.frame.ServerFrame.{ServerFrame}
@@ -19,7 +20,7 @@ use Rattle.monitor_model.specs.declared.verdict.Push.{Push}
 use Rattle.monitor_model.specs.declared.verdict.Verdict.{Verdict}
 use Rattle.monitor_model.specs.declared.verdict.Verdict.TheVariants as verdict
 use Rattle.monitor_model.specs.Connections.{Carries}
-use Rattle.monitor_model.specs.Course.{Speaker, Answers, Ends, IsAnswered, IsDialog, IsOpening, Unanswered, got_frame, noted_frame, opening, push_frame, verdict_frame}
+use Rattle.monitor_model.specs.Course.{Speaker, Answers, Ends, IsAnswered, IsDialog, IsNextOf, IsOpening, Unanswered, got_frame, noted_frame, opening, push_frame, verdict_frame}
 use Rattle.monitor_model.specs.Logd.{log_verdict}
 use Rattle.monitor_model.specs.Proxy.{open_verdict}
 use Rattle.monitor_model.specs.Pubd.{drain_verdict, get_verdict}
@@ -85,24 +86,25 @@ answered_carries head content C who opened J (Said said ∷ items) now begun h =
 said_carries : (head content : List ℕ) (said : ServiceFrame) (before items : List Item) → items ≡ Said said ∷ before → Each (Carries head content) before → Each (Carries head content) items
 said_carries head content said before items is all = subst (Each (Carries head content)) (sym is) (tt, all)
 
-ends_carry : (head content : List ℕ) (C : Config) (who : Speaker) (since left : List ℕ) (opened : List Item) (J : Seen) (items : List Item) (how : End) (now : Seen) → Each (Carries head content) opened
-    → Ends C who since left opened J items how now → Each (Carries head content) items
-ends_carry head content C who since left opened J items end.Reply now begun h =
+ends_carry : (head content : List ℕ) (C : Config) (who : Speaker) (since left due : List ℕ) (opened : List Item) (J : Seen) (items : List Item) (how : End) (now : Seen) → Each (Carries head content) opened
+    → Ends C who since left due opened J items how now → Each (Carries head content) items
+ends_carry head content C who since left due opened J items end.Reply now begun h =
     said_carries head content (Reply h.1.0 h.1.1 h.1.2 h.1.3) h.0 items h.1.4 (answered_carries head content C who opened J h.0 now begun h.2)
-ends_carry head content C who since left opened J items (end.Superseded shown) now begun h = answered_carries head content C who opened J items now begun h.1
-ends_carry head content C who since left opened J items end.BadFrame now begun h = answered_carries head content C who opened J items now begun h.0
-ends_carry head content C who since left opened J items end.Ended now begun h = answered_carries head content C who opened J items now begun h.0
-ends_carry head content C who since left opened J items end.FrameLimit now begun h =
+ends_carry head content C who since left due opened J items (end.Superseded shown) now begun h = answered_carries head content C who opened J items now begun h.1
+ends_carry head content C who since left due opened J items end.BadFrame now begun h = answered_carries head content C who opened J items now begun h.0
+ends_carry head content C who since left due opened J items end.Ended now begun h = answered_carries head content C who opened J items now begun h.0
+ends_carry head content C who since left due opened J items end.FrameLimit now begun h =
     said_carries head content h.0 h.1 items h.2 (answered_carries head content C who opened J h.1 now begun h.3)
-ends_carry head content C who since left opened J items end.LinkFault now begun h = by h.1
+ends_carry head content C who since left due opened J items end.LinkFault now begun h = by h.1
   where
-    by : (IsOpening opened J items now ⊎ IsAnswered C who opened J items now
-        ⊎ ((said : ServiceFrame) × (heard : ServerFrame) × (before : List Item) × (mid : Seen) × (items ≡ Said said ∷ before) × IsAnswered C who opened J before mid × Answers C who said mid heard now))
+    by : ((IsOpening opened J items now × IsNextOf opened items due) ⊎ (IsAnswered C who opened J items now × (due ≡ []))
+        ⊎ ((said : ServiceFrame) × (heard : ServerFrame) × (before : List Item) × (mid : Seen) × (items ≡ Said said ∷ before) × IsAnswered C who opened J before mid
+        × Answers C who said mid heard now × (due ≡ server_spelling heard)))
         → Each (Carries head content) items
-    by (inl k) = rest_carries (Carries head content) k.0 items (subst (Each (Carries head content)) k.1 begun)
-    by (inr (inl k)) = answered_carries head content C who opened J items now begun k
+    by (inl k) = rest_carries (Carries head content) k.0.0 items (subst (Each (Carries head content)) k.0.1 begun)
+    by (inr (inl k)) = answered_carries head content C who opened J items now begun k.0
     by (inr (inr k)) = said_carries head content k.0 k.2 items k.4 (answered_carries head content C who opened J k.2 k.3 begun k.5)
-ends_carry head content C who since left opened J items end.Starved now begun h = by h.1
+ends_carry head content C who since left due opened J items end.Starved now begun h = by h.1
   where
     by : (IsOpening opened J items now ⊎ IsAnswered C who opened J items now
         ⊎ ((said : ServiceFrame) × (before : List Item) × (mid : Seen) × (items ≡ Said said ∷ before) × IsAnswered C who opened J before mid × Unanswered C who said mid now))
@@ -111,7 +113,7 @@ ends_carry head content C who since left opened J items end.Starved now begun h 
     by (inr (inl k)) = answered_carries head content C who opened J items now begun k
     by (inr (inr k)) = said_carries head content k.0 k.1 items k.3 (answered_carries head content C who opened J k.1 k.2 begun k.4)
 
-pub dialogs_carry_requests : (C : Config) (who : Speaker) (since left head content : List ℕ) (J now : Seen) (items : List Item) (how : End)
-    → IsDialog C who since left head content J items how now → Each (Carries head content) items
-dialogs_carry_requests C who since left head content J now items how (inl h) = subst (Each (Carries head content)) (sym h.3) tt
-dialogs_carry_requests C who since left head content J now items how (inr h) = ends_carry head content C who since left (opening (drain_verdict C h.0 who.service who.incarnation) (frame.Request head content)) h.1 items how now (opening_carries head content (drain_verdict C h.0 who.service who.incarnation)) h.3
+pub dialogs_carry_requests : (C : Config) (who : Speaker) (since left due head content : List ℕ) (J now : Seen) (items : List Item) (how : End)
+    → IsDialog C who since left due head content J items how now → Each (Carries head content) items
+dialogs_carry_requests C who since left due head content J now items how (inl h) = subst (Each (Carries head content)) (sym h.3) tt
+dialogs_carry_requests C who since left due head content J now items how (inr h) = ends_carry head content C who since left due (opening (drain_verdict C h.0 who.service who.incarnation) (frame.Request head content)) h.1 items how now (opening_carries head content (drain_verdict C h.0 who.service who.incarnation)) h.3

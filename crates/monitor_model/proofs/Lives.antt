@@ -69,12 +69,12 @@ pub begun_steps : (n w s : ℕ) (S : Seen) → Steps n w S (noted S (own.Dialog 
 begun_steps n w s S = noted_steps n w S (noted S (own.Dialog s)) (own.Dialog s) refl (same_owns n w S (own.Dialog s) refl (λ p. refl) refl refl refl)
 
 -- a dialog of the worker's, from the item that begins it
-pub went_of : (C : Config) (w s k : ℕ) (since left head content : List ℕ) (S now : Seen) (d : Dialog) → OwnsEntries (length C.proxies) w S
-    → IsDialog C (record { worker = w; service = s; incarnation = k }) since left head content (noted S (own.Dialog s)) d.items d.end now
+pub went_of : (C : Config) (w s k : ℕ) (since left due head content : List ℕ) (S now : Seen) (d : Dialog) → OwnsEntries (length C.proxies) w S
+    → IsDialog C (record { worker = w; service = s; incarnation = k }) since left due head content (noted S (own.Dialog s)) d.items d.end now
     → Went C (record { worker = w; service = s; incarnation = k }) (noted S (own.Dialog s)) now
-went_of C w s k since left head content S now d o is =
+went_of C w s k since left due head content S now d o is =
     let who : Speaker = record { worker = w; service = s; incarnation = k } in
-    dialog_went C who (noted S (own.Dialog s)) since left head content (noted S (own.Dialog s)) now d.items d.end is
+    dialog_went C who (noted S (own.Dialog s)) since left due head content (noted S (own.Dialog s)) now d.items d.end is
     (begins C who (noted S (own.Dialog s)) ((begun_steps (length C.proxies) w s S).owns o))
 
 went_steps : (C : Config) (who : Speaker) (I now : Seen) → Went C who I now → Steps (length C.proxies) who.worker I now
@@ -88,7 +88,7 @@ to_steps C R w s k head content S IsMissed now o f = missed_steps (length C.prox
 to_steps C R w s k head content S WantsMemory now o f = wants_steps (length C.proxies) w S now f
 to_steps C R w s k head content S (Spoke t j d) now o f =
     then_steps (length C.proxies) w S (noted S (own.Dialog s)) now (begun_steps (length C.proxies) w s S)
-    (went_steps C (record { worker = w; service = s; incarnation = k }) (noted S (own.Dialog s)) now (went_of C w s k f.3 f.4 head content S now d o f.5))
+    (went_steps C (record { worker = w; service = s; incarnation = k }) (noted S (own.Dialog s)) now (went_of C w s k f.3 f.4 f.5 head content S now d o f.6))
 
 pub follows_steps : (C : Config) (R : Record) (w : ℕ) (v : Way) (head content : List ℕ) (S : Seen) (outcome : Outcome) (now : Seen) → OwnsEntries (length C.proxies) w S → Follows C R w v head content S outcome now
     → Steps (length C.proxies) w S now

@@ -22,6 +22,7 @@ use Rattle.okws_plan.specs.declared.event.ProxyEvent.{ProxyEvent}
 use Rattle.okws_plan.specs.declared.event.ProxyEvent.TheVariants as proxy
 use Rattle.okws_plan.specs.declared.event.PubdEvent.{PubdEvent}
 use Rattle.okws_plan.specs.declared.event.PubdEvent.TheVariants as pubd
+use Rattle.frame_codec.specs.Spelling.{server_spelling}
 use Rattle.frame_codec.specs.declared.frame.ServiceFrame.{ServiceFrame}
 use Rattle.frame_codec.specs.declared.frame.ServiceFrame.TheVariants.{Open, Call, Get, Log, Reply}
 use Rattle.frame_codec.specs.declared.frame.ServerFrame.{ServerFrame}
@@ -31,7 +32,7 @@ use Rattle.monitor_model.specs.declared.record.Item.{Item}
 use Rattle.monitor_model.specs.declared.record.Item.TheVariants.{Heard, Said}
 use Rattle.monitor_model.specs.declared.record.Own.{Own}
 use Rattle.monitor_model.specs.declared.record.Own.TheVariants as own
-use Rattle.monitor_model.specs.Course.{Speaker, Answers, Ends, IsAnswered, IsDialog, IsOpening, Unanswered, called}
+use Rattle.monitor_model.specs.Course.{Speaker, Answers, Ends, IsAnswered, IsDialog, IsNextOf, IsOpening, Unanswered, called}
 use Rattle.monitor_model.specs.Pieces.{is_entry_of, is_proxy_entry_of, is_pubd_entry_of, is_log_entry_of}
 use Rattle.monitor_model.specs.Proxy.{allowed, granted, opened, query_denial}
 use Rattle.monitor_model.specs.Seen.{Seen, AtOkd, AtProxy, AtPubd, AtLog, AtLauncher, proxy_past}
@@ -286,22 +287,23 @@ unanswered_went C who I (Get name) J now h o = same_went C who I J now h o
 unanswered_went C who I (Log text) J now h o = same_went C who I J now h o
 unanswered_went C who I (Reply status content_type location content) J now h o = same_went C who I J now h o
 
-ends_went : (C : Config) (who : Speaker) (I : Seen) (since left : List ℕ) (opened : List Item) (J : Seen) (items : List Item) (how : End) (now : Seen) → Ends C who since left opened J items how now
+ends_went : (C : Config) (who : Speaker) (I : Seen) (since left due : List ℕ) (opened : List Item) (J : Seen) (items : List Item) (how : End) (now : Seen) → Ends C who since left due opened J items how now
     → Went C who I J → Went C who I now
-ends_went C who I since left opened J items end.Reply now h o = answered_went C who I opened J h.0 now h.2 o
-ends_went C who I since left opened J items (end.Superseded shown) now h o = answered_went C who I opened J items now h.1 o
-ends_went C who I since left opened J items end.BadFrame now h o = answered_went C who I opened J items now h.0 o
-ends_went C who I since left opened J items end.Ended now h o = answered_went C who I opened J items now h.0 o
-ends_went C who I since left opened J items end.FrameLimit now h o = answered_went C who I opened J h.1 now h.3 o
-ends_went C who I since left opened J items end.LinkFault now h o = by h.1
+ends_went C who I since left due opened J items end.Reply now h o = answered_went C who I opened J h.0 now h.2 o
+ends_went C who I since left due opened J items (end.Superseded shown) now h o = answered_went C who I opened J items now h.1 o
+ends_went C who I since left due opened J items end.BadFrame now h o = answered_went C who I opened J items now h.0 o
+ends_went C who I since left due opened J items end.Ended now h o = answered_went C who I opened J items now h.0 o
+ends_went C who I since left due opened J items end.FrameLimit now h o = answered_went C who I opened J h.1 now h.3 o
+ends_went C who I since left due opened J items end.LinkFault now h o = by h.1
   where
-    by : (IsOpening opened J items now ⊎ IsAnswered C who opened J items now
-        ⊎ ((said : ServiceFrame) × (heard : ServerFrame) × (before : List Item) × (mid : Seen) × (items ≡ Said said ∷ before) × IsAnswered C who opened J before mid × Answers C who said mid heard now))
+    by : ((IsOpening opened J items now × IsNextOf opened items due) ⊎ (IsAnswered C who opened J items now × (due ≡ []))
+        ⊎ ((said : ServiceFrame) × (heard : ServerFrame) × (before : List Item) × (mid : Seen) × (items ≡ Said said ∷ before) × IsAnswered C who opened J before mid
+        × Answers C who said mid heard now × (due ≡ server_spelling heard)))
         → Went C who I now
-    by (inl k) = same_went C who I J now k.2 o
-    by (inr (inl k)) = answered_went C who I opened J items now k o
+    by (inl k) = same_went C who I J now k.0.2 o
+    by (inr (inl k)) = answered_went C who I opened J items now k.0 o
     by (inr (inr k)) = answers_went C who I k.0 k.3 k.1 now k.6 (answered_went C who I opened J k.2 k.3 k.5 o)
-ends_went C who I since left opened J items end.Starved now h o = by h.1
+ends_went C who I since left due opened J items end.Starved now h o = by h.1
   where
     by : (IsOpening opened J items now ⊎ IsAnswered C who opened J items now
         ⊎ ((said : ServiceFrame) × (before : List Item) × (mid : Seen) × (items ≡ Said said ∷ before) × IsAnswered C who opened J before mid × Unanswered C who said mid now))
@@ -310,16 +312,16 @@ ends_went C who I since left opened J items end.Starved now h o = by h.1
     by (inr (inl k)) = answered_went C who I opened J items now k o
     by (inr (inr k)) = unanswered_went C who I k.0 k.2 now k.5 (answered_went C who I opened J k.1 k.2 k.4 o)
 
-pub dialog_went : (C : Config) (who : Speaker) (I : Seen) (since left head content : List ℕ) (J now : Seen) (items : List Item) (how : End)
-    → IsDialog C who since left head content J items how now → Went C who I J → Went C who I now
-dialog_went C who I since left head content J now items how (inl h) o = same_went C who I J now h.4 o
-dialog_went C who I since left head content J now items how (inr h) o =
-    ends_went C who I since left _ h.1 items how now h.3 (pubd_went C who I (pubd.Drain who.service who.incarnation) J h.0 h.1 (eq-eqb who.service who.service refl) h.2 o)
+pub dialog_went : (C : Config) (who : Speaker) (I : Seen) (since left due head content : List ℕ) (J now : Seen) (items : List Item) (how : End)
+    → IsDialog C who since left due head content J items how now → Went C who I J → Went C who I now
+dialog_went C who I since left due head content J now items how (inl h) o = same_went C who I J now h.4 o
+dialog_went C who I since left due head content J now items how (inr h) o =
+    ends_went C who I since left due _ h.1 items how now h.3 (pubd_went C who I (pubd.Drain who.service who.incarnation) J h.0 h.1 (eq-eqb who.service who.service refl) h.2 o)
 
 -- where it begins
 pub begins : (C : Config) (who : Speaker) (I : Seen) → OwnsEntries (length C.proxies) who.worker I → Went C who I I
 begins C who I o = record { owns = o; trimmed = λ t. t; since = since_itself I; taken = []; taken_is = refl; entries = refl }
 
-pub dialogs_keep_entries : (C : Config) (who : Speaker) (since left head content : List ℕ) (J now : Seen) (items : List Item) (how : End)
-    → IsDialog C who since left head content J items how now → OwnsEntries (length C.proxies) who.worker J → OwnsEntries (length C.proxies) who.worker now
-dialogs_keep_entries C who since left head content J now items how is o = (dialog_went C who J since left head content J now items how is (begins C who J o)).owns
+pub dialogs_keep_entries : (C : Config) (who : Speaker) (since left due head content : List ℕ) (J now : Seen) (items : List Item) (how : End)
+    → IsDialog C who since left due head content J items how now → OwnsEntries (length C.proxies) who.worker J → OwnsEntries (length C.proxies) who.worker now
+dialogs_keep_entries C who since left due head content J now items how is o = (dialog_went C who J since left due head content J now items how is (begins C who J o)).owns

@@ -120,6 +120,10 @@ said_count (Said frame ∷ items) = said_count items + 1
 abbrev pub IsOpening : List Item → Seen → List Item → Seen → Type 0
 IsOpening opened J items now = (rest : List Item) × (opened ≡ rest ++ items) × (now ≡ J)
 
+-- These bytes are the next frame of the opening.
+abbrev pub IsNextOf : List Item → List Item → List ℕ → Type 0
+IsNextOf opened items due = (rest : List Item) × (next : ServerFrame) × (opened ≡ rest ++ Heard next ∷ items) × (due ≡ server_spelling next)
+
 -- The action is a SELECT.
 abbrev pub is_select_action : Action → Bool
 is_select_action (action.Select selection) = true
@@ -147,23 +151,23 @@ Unanswered C w (Reply status content_type location content) J now = now ≡ J
 abbrev pub EndsInReply : List Item → List Item → Type 0
 EndsInReply items before = (status : ℕ) × (content_type location content : List ℕ) × (items ≡ Said (Reply status content_type location content) ∷ before)
 
--- How a dialog ends whose opening is due: its items, the newest first, are a front of the full course, and its end fits. `since` are the bytes taken since the last frame, `left` those that are left on the link.
-abbrev pub Ends : Config → Speaker → List ℕ → List ℕ → List Item → Seen → List Item → End → Seen → Type 0
-Ends C w since left opened J items end.Reply now =
+-- How a dialog ends whose opening is due: its items, the newest first, are a front of the full course, and its end fits. `since` are the bytes taken since the last frame, `left` those that are left on the link, `due` those that were due on it as it failed.
+abbrev pub Ends : Config → Speaker → List ℕ → List ℕ → List ℕ → List Item → Seen → List Item → End → Seen → Type 0
+Ends C w since left due opened J items end.Reply now =
     (before : List Item) × EndsInReply items before × IsAnswered C w opened J before now × (said_count items ≤ MOST_FRAMES)
-Ends C w since left opened J items (end.Superseded shown) now =
+Ends C w since left due opened J items (end.Superseded shown) now =
     (w.incarnation < shown) × IsAnswered C w opened J items now × (said_count items ≤ MOST_FRAMES)
-Ends C w since left opened J items end.BadFrame now =
+Ends C w since left due opened J items end.BadFrame now =
     IsAnswered C w opened J items now × (said_count items ≤ MOST_FRAMES) × IsBadStop since left
-Ends C w since left opened J items end.Ended now =
+Ends C w since left due opened J items end.Ended now =
     IsAnswered C w opened J items now × (said_count items ≤ MOST_FRAMES) × IsEndStop since left
-Ends C w since left opened J items end.FrameLimit now =
+Ends C w since left due opened J items end.FrameLimit now =
     (said : ServiceFrame) × (before : List Item) × (items ≡ Said said ∷ before) × IsAnswered C w opened J before now × (said_count before ≡ MOST_FRAMES)
-Ends C w since left opened J items end.LinkFault now =
-    (said_count items ≤ MOST_FRAMES) × (IsOpening opened J items now ⊎ IsAnswered C w opened J items now
+Ends C w since left due opened J items end.LinkFault now =
+    (said_count items ≤ MOST_FRAMES) × ((IsOpening opened J items now × IsNextOf opened items due) ⊎ (IsAnswered C w opened J items now × (due ≡ []))
     ⊎ ((said : ServiceFrame) × (heard : ServerFrame) × (before : List Item) × (mid : Seen) × (items ≡ Said said ∷ before)
-    × IsAnswered C w opened J before mid × Answers C w said mid heard now))
-Ends C w since left opened J items end.Starved now =
+    × IsAnswered C w opened J before mid × Answers C w said mid heard now × (due ≡ server_spelling heard)))
+Ends C w since left due opened J items end.Starved now =
     (said_count items ≤ MOST_FRAMES) × (IsOpening opened J items now ⊎ IsAnswered C w opened J items now
     ⊎ ((said : ServiceFrame) × (before : List Item) × (mid : Seen) × (items ≡ Said said ∷ before)
     × IsAnswered C w opened J before mid × Unanswered C w said mid now))
@@ -173,15 +177,15 @@ abbrev pub IsSupersededAtOnce : Speaker → Seen → List Item → End → Seen 
 IsSupersededAtOnce w J items how now = (shown : ℕ) × (how ≡ end.Superseded shown) × (w.incarnation < shown) × (items ≡ []) × (now ≡ J)
 
 -- Its Drain was entered, and what it heard and said follows.
-abbrev pub IsCourse : Config → Speaker → List ℕ → List ℕ → ServerFrame → Seen → List Item → End → Seen → Type 0
-IsCourse C w since left request J items end now =
+abbrev pub IsCourse : Config → Speaker → List ℕ → List ℕ → List ℕ → ServerFrame → Seen → List Item → End → Seen → Type 0
+IsCourse C w since left due request J items end now =
     (before : List (Entry PubdEvent)) × (mid : Seen) × AtPubd w.worker (pubd.Drain w.service w.incarnation) J before mid
-    × Ends C w since left (opening (drain_verdict C before w.service w.incarnation) request) mid items end now
+    × Ends C w since left due (opening (drain_verdict C before w.service w.incarnation) request) mid items end now
 
 -- A whole dialog, from what its worker had seen to what it has seen then.
-abbrev pub IsDialog : Config → Speaker → List ℕ → List ℕ → List ℕ → List ℕ → Seen → List Item → End → Seen → Type 0
-IsDialog C w since left head content J items end now =
-    IsSupersededAtOnce w J items end now ⊎ IsCourse C w since left (frame.Request head content) J items end now
+abbrev pub IsDialog : Config → Speaker → List ℕ → List ℕ → List ℕ → List ℕ → List ℕ → Seen → List Item → End → Seen → Type 0
+IsDialog C w since left due head content J items end now =
+    IsSupersededAtOnce w J items end now ⊎ IsCourse C w since left due (frame.Request head content) J items end now
 
 -- What was put on the link, and what was taken, by the items, the newest first.
 abbrev pub heard_text : List Item → List ℕ

@@ -35,8 +35,8 @@ pub record OwnsEntries (proxies w : ℕ) (J : Seen) : Type 0 where
 
 -- What holds of a worker's entries and items before a dialog holds behind it.
 abbrev pub DialogsKeepEntries : Type 0
-DialogsKeepEntries = (C : Config) (who : Speaker) (since left head content : List ℕ) (J now : Seen) (items : List Item) (how : End)
-    → IsDialog C who since left head content J items how now → OwnsEntries (length C.proxies) who.worker J → OwnsEntries (length C.proxies) who.worker now
+DialogsKeepEntries = (C : Config) (who : Speaker) (since left due head content : List ℕ) (J now : Seen) (items : List Item) (how : End)
+    → IsDialog C who since left due head content J items how now → OwnsEntries (length C.proxies) who.worker J → OwnsEntries (length C.proxies) who.worker now
 
 -- The last of these entries, if there is one, is w's own.
 abbrev pub EndsInOwn : {E : Type 0} → ℕ → List (Entry E) → Type 0
@@ -111,8 +111,8 @@ LivesAreVisits = (C : Config) (R : Record) (w : ℕ) (pieces : List Piece) (item
 
 -- The Request of a dialog, where it was put, carries the head and the content with which the dialog was begun.
 abbrev pub DialogsCarryRequests : Type 0
-DialogsCarryRequests = (C : Config) (who : Speaker) (since left head content : List ℕ) (J now : Seen) (items : List Item) (how : End)
-    → IsDialog C who since left head content J items how now → Each (Carries head content) items
+DialogsCarryRequests = (C : Config) (who : Speaker) (since left due head content : List ℕ) (J now : Seen) (items : List Item) (how : End)
+    → IsDialog C who since left due head content J items how now → Each (Carries head content) items
 
 -- The event is no dialog that lacks its end.
 abbrev pub IsEnded : CellEvent → Type 0

@@ -49,7 +49,7 @@ pub fn nothing_at_first()
 
 /// A dialog that is superseded before its Drain has no items, and its worker saw nothing new.
 pub fn superseded_at_once()
-    ensures { (C : Config) (w : Speaker) (since left head content : List ℕ) (J : Seen) → w.incarnation < w.incarnation + 1 → IsDialog C w since left head content J [] (end.Superseded (w.incarnation + 1)) J }
+    ensures { (C : Config) (w : Speaker) (since left due head content : List ℕ) (J : Seen) → w.incarnation < w.incarnation + 1 → IsDialog C w since left due head content J [] (end.Superseded (w.incarnation + 1)) J }
 {}
 
 /// After its Boot, and before it was retired or spoke, an incarnation heard its Boot frame, and said nothing.

@@ -1,6 +1,6 @@
 -- Of a cell's whole journal: each link was given what its incarnation heard.
-use Rattle.std.proofs.Common.{◌≡◌, ◌≢◌, ◌∙◌, ℕ, ◌<◌, ◌≤◌, Bool, false, List, [], ◌∷◌, ◌++◌, map, refl, sym, ap, subst, arith, eq-eqb, ne_eqb, append-nil}
-use Rattle.std.specs.Prelude.{◌||◌}
+use Rattle.std.proofs.Common.{◌≡◌, ◌≢◌, ◌∙◌, ℕ, ◌<◌, ◌≤◌, List, [], ◌∷◌, ◌++◌, map, refl, sym, ap, subst, arith, eq-eqb, ne_eqb, append-nil}
+use Rattle.std.specs.Prelude.{Option, None}
 use Rattle.okws_base.specs.Runs.{Each}
 use Rattle.okws_plan.specs.declared.configuration.Config.{Config}
 use Rattle.frame_codec.specs.Spelling.{server_spelling}
@@ -8,10 +8,11 @@ use Rattle.monitor_model.specs.declared.record.CellEvent.{CellEvent}
 use Rattle.monitor_model.specs.declared.record.CellEvent.TheVariants as cell
 use Rattle.monitor_model.specs.declared.record.End.{End}
 use Rattle.monitor_model.specs.declared.record.End.TheVariants as end
+use Rattle.monitor_model.specs.declared.record.Item.{Item}
 use Rattle.monitor_model.specs.declared.sent.Sent.{Sent}
 use Rattle.monitor_model.specs.Cell.{CellLaw, incarnation, last_booted, after_end, boot_frame, heard}
 use Rattle.monitor_model.specs.Course.{heard_text}
-use Rattle.monitor_model.specs.Sent.{is_link_fault, is_broken, all_booted, IsGiven, IsSent, AreSent}
+use Rattle.monitor_model.specs.Sent.{or_else, cut_items, broken_in, all_booted, IsGiven, IsSent, AreSent}
 use Rattle.service_cell.specs.Hearing.{Hearing, heard_more, hearings, AreGiven}
 use Rattle.service_cell.proofs.Hearing.{was_there}
 
@@ -53,7 +54,7 @@ unheard C seed s k (cell.Missed worker wanted is ∷ J) below = rw (unheard C se
 unheard C seed s k (cell.Dialog d ∷ J) below = rw (unheard C seed s k J below, ne_eqb (incarnation J) k (omega (arith, below, low J))) refl
 unheard C seed s k (cell.Speaking worker items ∷ J) below = rw (unheard C seed s k J below, ne_eqb (incarnation J) k (omega (arith, below, low J))) refl
 
-unbroken : (k : ℕ) (J : List CellEvent) → last_booted J < k → is_broken k J ≡ false
+unbroken : (k : ℕ) (J : List CellEvent) → last_booted J < k → broken_in k J ≡ None
 unbroken k [] below = refl
 unbroken k (cell.Boot j ∷ J) below = unbroken k J (omega (arith, below))
 unbroken k (cell.Retired ∷ J) below = unbroken k J below
@@ -66,7 +67,7 @@ unbroken k (cell.Speaking worker items ∷ J) below = unbroken k J below
 -- What an incarnation heard, and whether its link failed, is what the journal says of it.
 record IsTold (C : Config) (seed : List ℕ) (s : ℕ) (J : List CellEvent) (h : Hearing) : Type 0 where
   text : h.text ≡ heard C seed s h.incarnation J
-  broken : h.broken ≡ is_broken h.incarnation J
+  broken : h.broken ≡ broken_in h.incarnation J
 
 -- An incarnation below the last one.
 record IsBefore (C : Config) (seed : List ℕ) (s : ℕ) (J : List CellEvent) (h : Hearing) : Type 0 where
@@ -99,7 +100,7 @@ all_before_boot C seed s k J (last ∷ before) above t = (
   each_then (IsBefore C seed s J) (IsBefore C seed s (cell.Boot k ∷ J)) (λ (h : Hearing) (b : IsBefore C seed s J h). before_boot C seed s k J h (omega (arith, b.below)) above b.told) before t.2,
 )
 
-boot_told : (C : Config) (seed : List ℕ) (s k : ℕ) (J : List CellEvent) → last_booted J < k → IsTold C seed s (cell.Boot k ∷ J) (record { incarnation = k; text = server_spelling (boot_frame C seed s k); broken = false })
+boot_told : (C : Config) (seed : List ℕ) (s k : ℕ) (J : List CellEvent) → last_booted J < k → IsTold C seed s (cell.Boot k ∷ J) (record { incarnation = k; text = server_spelling (boot_frame C seed s k); broken = None })
 boot_told C seed s k J above = record {
   text = rw (unheard C seed s k J above, eq-eqb k k refl) refl;
   broken = sym (unbroken k J above);
@@ -107,7 +108,7 @@ boot_told C seed s k J above = record {
 
 -- after what adds nothing
 quiet_before : (C : Config) (seed : List ℕ) (s : ℕ) (e : CellEvent) (J : List CellEvent) (h : Hearing) → last_booted (e ∷ J) ≡ last_booted J → heard C seed s h.incarnation (e ∷ J) ≡ heard C seed s h.incarnation J
-    → is_broken h.incarnation (e ∷ J) ≡ is_broken h.incarnation J → IsBefore C seed s J h → IsBefore C seed s (e ∷ J) h
+    → broken_in h.incarnation (e ∷ J) ≡ broken_in h.incarnation J → IsBefore C seed s J h → IsBefore C seed s (e ∷ J) h
 quiet_before C seed s e J h booted text broken b = record {
   below = omega (arith, booted, b.below);
   told = record { text = b.told.text ∙ sym text; broken = b.told.broken ∙ sym broken };
@@ -115,7 +116,7 @@ quiet_before C seed s e J h booted text broken b = record {
 
 -- after a dialog of the last incarnation, of which these before it heard nothing
 spoken_before : (C : Config) (seed : List ℕ) (s : ℕ) (e : CellEvent) (J : List CellEvent) → last_booted (e ∷ J) ≡ last_booted J
-    → ((k : ℕ) → k < last_booted J → (heard C seed s k (e ∷ J) ≡ heard C seed s k J) × (is_broken k (e ∷ J) ≡ is_broken k J))
+    → ((k : ℕ) → k < last_booted J → (heard C seed s k (e ∷ J) ≡ heard C seed s k J) × (broken_in k (e ∷ J) ≡ broken_in k J))
     → (hs : List Hearing) → Each (IsBefore C seed s J) hs → Each (IsBefore C seed s (e ∷ J)) hs
 spoken_before C seed s e J booted same hs each =
     each_then (IsBefore C seed s J) (IsBefore C seed s (e ∷ J)) (λ (h : Hearing) (b : IsBefore C seed s J h). quiet_before C seed s e J h booted (same h.incarnation b.below).0 (same h.incarnation b.below).1 b) hs each
@@ -142,9 +143,9 @@ missed_told C seed s worker wanted is J (last ∷ before) t = (
   spoken_before C seed s (cell.Missed worker wanted is) J refl (λ (k : ℕ) (below : k < last_booted J). (missed_same C seed s k worker wanted is J, refl)) before t.2,
 )
 
-dialog_told : (C : Config) (seed : List ℕ) (s : ℕ) (e : CellEvent) (text : List ℕ) (failed : Bool) (J : List CellEvent) (hs : List Hearing) → last_booted (e ∷ J) ≡ last_booted J
-    → ((h : Hearing) → h.incarnation ≡ last_booted J → IsTold C seed s J h → IsTold C seed s (e ∷ J) (record h { text = h.text ++ text; broken = failed || h.broken }))
-    → ((k : ℕ) → k < last_booted J → (heard C seed s k (e ∷ J) ≡ heard C seed s k J) × (is_broken k (e ∷ J) ≡ is_broken k J))
+dialog_told : (C : Config) (seed : List ℕ) (s : ℕ) (e : CellEvent) (text : List ℕ) (failed : Option (List Item)) (J : List CellEvent) (hs : List Hearing) → last_booted (e ∷ J) ≡ last_booted J
+    → ((h : Hearing) → h.incarnation ≡ last_booted J → IsTold C seed s J h → IsTold C seed s (e ∷ J) (record h { text = h.text ++ text; broken = or_else failed h.broken }))
+    → ((k : ℕ) → k < last_booted J → (heard C seed s k (e ∷ J) ≡ heard C seed s k J) × (broken_in k (e ∷ J) ≡ broken_in k J))
     → AreTold C seed s J hs → AreTold C seed s (e ∷ J) (heard_more text failed hs)
 dialog_told C seed s e text failed J [] booted more same t = tt
 dialog_told C seed s e text failed J (last ∷ before) booted more same t = (t.0 ∙ sym booted, more last t.0 t.1, spoken_before C seed s e J booted same before t.2)
@@ -158,10 +159,10 @@ told C seed s (cell.Retired ∷ J) law = retired_told C seed s J (hearings C see
 told C seed s (cell.Missed worker wanted is ∷ J) law = missed_told C seed s worker wanted is J (hearings C seed s J) (told C seed s J law.0)
 told C seed s (cell.Dialog d ∷ J) law =
     let last : incarnation J ≡ last_booted J = is_last J law.0 law.2.0 in
-    dialog_told C seed s (cell.Dialog d) (heard_text d.items) (is_link_fault d.end) J (hearings C seed s J) refl
+    dialog_told C seed s (cell.Dialog d) (heard_text d.items) (cut_items d.end d.items) J (hearings C seed s J) refl
     (λ (h : Hearing) (at : h.incarnation ≡ last_booted J) (t : IsTold C seed s J h). record {
       text = rw (eq-eqb (incarnation J) h.incarnation (last ∙ sym at)) (ap (λ (x : List ℕ). x ++ heard_text d.items) t.text);
-      broken = rw (eq-eqb (incarnation J) h.incarnation (last ∙ sym at)) (ap (λ (b : Bool). is_link_fault d.end || b) t.broken);
+      broken = rw (eq-eqb (incarnation J) h.incarnation (last ∙ sym at)) (ap (λ (b : Option (List Item)). or_else (cut_items d.end d.items) b) t.broken);
     })
     (λ (k : ℕ) (below : k < last_booted J). (
       rw (ne_eqb (incarnation J) k (omega (arith, last, below))) (append-nil (heard C seed s k J)),
@@ -170,7 +171,7 @@ told C seed s (cell.Dialog d ∷ J) law =
     (told C seed s J law.0)
 told C seed s (cell.Speaking worker items ∷ J) law =
     let last : incarnation J ≡ last_booted J = is_last J law.0 law.2 in
-    dialog_told C seed s (cell.Speaking worker items) (heard_text items) false J (hearings C seed s J) refl
+    dialog_told C seed s (cell.Speaking worker items) (heard_text items) None J (hearings C seed s J) refl
     (λ (h : Hearing) (at : h.incarnation ≡ last_booted J) (t : IsTold C seed s J h). record {
       text = rw (eq-eqb (incarnation J) h.incarnation (last ∙ sym at)) (ap (λ (x : List ℕ). x ++ heard_text items) t.text);
       broken = t.broken;
@@ -186,7 +187,7 @@ given_numbers [] (x ∷ sent) g = absurd g
 given_numbers (h ∷ heard) [] g = absurd g
 given_numbers (h ∷ heard) (x ∷ sent) g = rw (g.0, given_numbers heard sent g.2) refl
 
-more_numbers : (text : List ℕ) (failed : Bool) (heard : List Hearing) → map (λ (h : Hearing). h.incarnation) (heard_more text failed heard) ≡ map (λ (h : Hearing). h.incarnation) heard
+more_numbers : (text : List ℕ) (failed : Option (List Item)) (heard : List Hearing) → map (λ (h : Hearing). h.incarnation) (heard_more text failed heard) ≡ map (λ (h : Hearing). h.incarnation) heard
 more_numbers text failed [] = refl
 more_numbers text failed (h ∷ heard) = refl
 
@@ -195,13 +196,13 @@ all_numbers C seed s [] = refl
 all_numbers C seed s (cell.Boot k ∷ J) = ap (λ (ks : List ℕ). k ∷ ks) (all_numbers C seed s J)
 all_numbers C seed s (cell.Retired ∷ J) = all_numbers C seed s J
 all_numbers C seed s (cell.Missed worker wanted is ∷ J) = all_numbers C seed s J
-all_numbers C seed s (cell.Dialog d ∷ J) = more_numbers (heard_text d.items) (is_link_fault d.end) (hearings C seed s J) ∙ all_numbers C seed s J
-all_numbers C seed s (cell.Speaking worker items ∷ J) = more_numbers (heard_text items) false (hearings C seed s J) ∙ all_numbers C seed s J
+all_numbers C seed s (cell.Dialog d ∷ J) = more_numbers (heard_text d.items) (cut_items d.end d.items) (hearings C seed s J) ∙ all_numbers C seed s J
+all_numbers C seed s (cell.Speaking worker items ∷ J) = more_numbers (heard_text items) None (hearings C seed s J) ∙ all_numbers C seed s J
 
 given_one : (C : Config) (seed : List ℕ) (s : ℕ) (J : List CellEvent) (h : Hearing) (x : Sent) → IsTold C seed s J h → h.incarnation ≡ x.incarnation → IsGiven h.text h.broken x.given → IsSent C seed s J x
 given_one C seed s J h x t same g =
-    subst (λ (k : ℕ). IsGiven (heard C seed s k J) (is_broken k J) x.given) same
-    (subst (λ (b : Bool). IsGiven (heard C seed s h.incarnation J) b x.given) t.broken (subst (λ (text : List ℕ). IsGiven text h.broken x.given) t.text g))
+    subst (λ (k : ℕ). IsGiven (heard C seed s k J) (broken_in k J) x.given) same
+    (subst (λ (b : Option (List Item)). IsGiven (heard C seed s h.incarnation J) b x.given) t.broken (subst (λ (text : List ℕ). IsGiven text h.broken x.given) t.text g))
 
 given_before : (C : Config) (seed : List ℕ) (s : ℕ) (J : List CellEvent) (heard : List Hearing) (sent : List Sent) → Each (IsBefore C seed s J) heard → AreGiven heard sent → Each (IsSent C seed s J) sent
 given_before C seed s J [] [] t g = tt

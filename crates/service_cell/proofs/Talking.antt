@@ -117,13 +117,14 @@ module _ (who : Asker) (n : ℕ) (head content : List ℕ) (c : Standing) (J : S
       }
 
   -- a dialog whose Drain was entered, by how it ends
-  course_of : (pushes : List Push) (mid : Seen) (d : Standing) (now : Seen) (since left : List ℕ) (items : List Item) (how : End) → Drains who c.service (incarnation c.past) J pushes mid
-      → Ends who.config (speaker c who.worker) since left (opening pushes request) mid items how now
-      → d ≡ finished c who.worker items how d.link → GoesOver c.link d.link since left items how → HasDialog who head content c J items how d now
-  course_of pushes mid d now since left items how drains ends entered link = record {
+  course_of : (pushes : List Push) (mid : Seen) (d : Standing) (now : Seen) (since left due : List ℕ) (items : List Item) (how : End) → Drains who c.service (incarnation c.past) J pushes mid
+      → Ends who.config (speaker c who.worker) since left due (opening pushes request) mid items how now
+      → d ≡ finished c who.worker items how d.link → GoesOver c.link d.link since left due items how → HasDialog who head content c J items how d now
+  course_of pushes mid d now since left due items how drains ends entered link = record {
     since = since;
     left = left;
-    follows = inr (drains.0, mid, drains.1, subst (λ (p : List Push). Ends who.config (speaker c who.worker) since left (opening p request) mid items how now) drains.3 ends);
+    due = due;
+    follows = inr (drains.0, mid, drains.1, subst (λ (p : List Push). Ends who.config (speaker c who.worker) since left due (opening p request) mid items how now) drains.3 ends);
     entered = entered;
     link = link;
   }
@@ -133,12 +134,12 @@ module _ (who : Asker) (n : ℕ) (head content : List ℕ) (c : Standing) (J : S
   opening_ended cause.LinkFault pushes d now items drains h is =
       let before : opening pushes request ≡ (h.0 ++ Heard h.1 ∷ []) ++ items = h.2 ∙ sym (append_assoc h.0 (Heard h.1 ∷ []) items) in
       let all = front_heard pushes request (h.0 ++ Heard h.1 ∷ []) items before in
-      course_of pushes now d now [] [] items end.LinkFault drains
-      (omega (arith, none_said items all), inl (h.0 ++ Heard h.1 ∷ [], before, refl)) is
-      ([], server_spelling h.1, inr (h.1, refl), rw (unsaid items all) h.3)
+      course_of pushes now d now [] [] (server_spelling h.1) items end.LinkFault drains
+      (omega (arith, none_said items all), inl ((h.0 ++ Heard h.1 ∷ [], before, refl), (h.0, h.1, h.2, refl))) is
+      ([], rw (unsaid items all) h.3)
   opening_ended cause.Starved pushes d now items drains h is =
       let all = front_heard pushes request h.0 items h.1 in
-      course_of pushes now d now [] [] items end.Starved drains
+      course_of pushes now d now [] [] [] items end.Starved drains
       (omega (arith, none_said items all), inl (h.0, h.1, refl)) is
       ([], rw (unsaid items all) h.2)
   opening_ended cause.BadFrame pushes d now items drains h is = absurd h
@@ -164,6 +165,7 @@ module _ (who : Asker) (n : ℕ) (head content : List ℕ) (c : Standing) (J : S
           record {
             since = [];
             left = [];
+            due = [];
             follows = inl (shown, refl, subst (λ (x : ℕ). x < shown) (h.1 ∙ h.0) h.2, refl, h.5);
             entered = subst (λ (l : Option Wire). d ≡ finished c who.worker [] (end.Superseded shown) l) (sym last) h.4;
             link = inl (refl, last);
@@ -207,47 +209,45 @@ module _ (who : Asker) (n : ℕ) (head content : List ℕ) (c : Standing) (J : S
           link = subst (λ (bytes : List ℕ). Passes c.link y.link bytes (heard_text t.items ++ server_spelling h.1)) (taken_is h.0 h.2 h.3.0.spelled) both;
         }
 
-    ended : (y : Standing) (now : Seen) (since left : List ℕ) (items : List Item) (how : End)
-        → Ends who.config (speaker c who.worker) since left (opening t.pushes request) t.mid items how now
-        → y ≡ finished x who.worker items how y.link → GoesOver c.link y.link since left items how → HasDialog who head content c J items how y now
-    ended y now since left items how ends is link =
-        course_of t.pushes t.mid y now since left items how t.drains ends (is ∙ ap (λ (s : Standing). finished s who.worker items how y.link) t.is_open) link
+    ended : (y : Standing) (now : Seen) (since left due : List ℕ) (items : List Item) (how : End)
+        → Ends who.config (speaker c who.worker) since left due (opening t.pushes request) t.mid items how now
+        → y ≡ finished x who.worker items how y.link → GoesOver c.link y.link since left due items how → HasDialog who head content c J items how y now
+    ended y now since left due items how ends is link =
+        course_of t.pushes t.mid y now since left due items how t.drains ends (is ∙ ap (λ (s : Standing). finished s who.worker items how y.link) t.is_open) link
 
     crashed_so : (why : Cause) (y : Standing) (now : Seen) (items : List Item) → Crashes who.config (speaker x who.worker) x.link y.link t.items seen why items now
         → y ≡ finished x who.worker items (crash_end why) y.link → HasDialog who head content c J items (crash_end why) y now
     crashed_so cause.BadFrame y now items h is =
-        ended y now h.0 h.1 items end.BadFrame
+        ended y now h.0 h.1 [] items end.BadFrame
         (rw (h.6, h.7) t.answered, rw h.6 t.few, h.4) is
         (rw h.6 (took_more c.link x.link y.link (said_text t.items) h.0 (heard_text t.items) t.link h.2), h.3)
     crashed_so cause.Ended y now items h is =
-        ended y now [] [] items end.Ended
+        ended y now [] [] [] items end.Ended
         (rw (h.2, h.3) t.answered, rw h.2 t.few, (refl, refl)) is
         (rw h.2 (took_none c.link x.link y.link (said_text t.items) (heard_text t.items) t.link h.0), h.1)
     crashed_so cause.LinkFault y now items (inl h) is =
-        ended y now [] [] items end.LinkFault
-        (rw h.2 t.few, inr (inl (rw (h.2, h.3) t.answered))) is
-        (h.0, [], inl refl, rw h.2 (fails_then c.link x.link y.link (said_text t.items) h.0 (heard_text t.items) [] t.link h.1))
+        ended y now [] [] [] items end.LinkFault
+        (rw h.2 t.few, inr (inl (rw (h.2, h.3) t.answered, refl))) is
+        (h.0, rw h.2 (fails_then c.link x.link y.link (said_text t.items) h.0 (heard_text t.items) [] t.link h.1))
     crashed_so cause.LinkFault y now items (inr h) is =
         let one = fails_then c.link x.link y.link (said_text t.items) h.2 (heard_text t.items) (server_spelling h.1) t.link h.4 in
-        ended y now [] [] items end.LinkFault
-        (rw h.6 (omega (arith, h.3.1)), inr (inr (h.0, h.1, t.items, seen, h.6, t.answered, answers_of h.0 h.1 now h.5))) is (
+        ended y now [] [] (server_spelling h.1) items end.LinkFault
+        (rw h.6 (omega (arith, h.3.1)), inr (inr (h.0, h.1, t.items, seen, h.6, t.answered, answers_of h.0 h.1 now h.5, refl))) is (
           [],
-          server_spelling h.1,
-          inr (h.1, refl),
           rw h.6 (subst (λ (bytes : List ℕ). Fails c.link y.link bytes (heard_text t.items) (server_spelling h.1)) (taken_is h.0 h.2 h.3.0.spelled ∙ sym (append-nil (said_text (Said h.0 ∷ t.items)))) one),
         )
     crashed_so cause.FrameLimit y now items h is =
-        ended y now [] [] items end.FrameLimit
+        ended y now [] [] [] items end.FrameLimit
         (h.0, t.items, h.5, rw h.6 t.answered, h.3) is
         (rw h.5 (subst (λ (bytes : List ℕ). Passes c.link y.link bytes (heard_text t.items)) (taken_is h.0 h.1 h.2.spelled)
         (took_more c.link x.link y.link (said_text t.items) h.1 (heard_text t.items) t.link h.4)))
     crashed_so cause.Starved y now items (inl h) is =
-        ended y now [] [] items end.Starved
+        ended y now [] [] [] items end.Starved
         (rw h.2 t.few, inr (inl (rw (h.2, h.3) t.answered))) is
         (h.0, rw h.2 (took_more c.link x.link y.link (said_text t.items) h.0 (heard_text t.items) t.link h.1))
     crashed_so cause.Starved y now items (inr h) is =
         let took = took_more c.link x.link y.link (said_text t.items) h.1 (heard_text t.items) t.link h.3 in
-        ended y now [] [] items end.Starved
+        ended y now [] [] [] items end.Starved
         (rw h.5 (omega (arith, h.2.1)), inr (inr (h.0, t.items, seen, h.5, t.answered, subst (λ (w : Speaker). Unanswered who.config w h.0 seen now) speaks (unanswered who.config (speaker x who.worker) h.0 seen now h.4)))) is
         ([], rw h.5 (subst (λ (bytes : List ℕ). Passes c.link y.link bytes (heard_text t.items)) (taken_is h.0 h.1 h.2.0.spelled ∙ sym (append-nil (said_text (Said h.0 ∷ t.items)))) took))
 
@@ -267,7 +267,7 @@ module _ (who : Asker) (n : ℕ) (head content : List ℕ) (c : Standing) (J : S
           h.2,
           h.3,
           t.items,
-          ended y now [] [] (Said reply ∷ t.items) end.Reply
+          ended y now [] [] [] (Said reply ∷ t.items) end.Reply
               (t.items, (h.0, h.1, h.2, h.3, refl), rw h.6 t.answered, omega (arith, h.5.1)) h.7
               (subst (λ (bytes : List ℕ). Passes c.link y.link bytes (heard_text t.items)) (taken_is reply h.4 h.5.0.spelled)
               (took_more c.link x.link y.link (said_text t.items) h.4 (heard_text t.items) t.link h.8)),
@@ -288,7 +288,7 @@ module _ (who : Asker) (n : ℕ) (head content : List ℕ) (c : Standing) (J : S
           h.1,
           h.2,
           t.items,
-          ended y now [] [] t.items (end.Superseded shown)
+          ended y now [] [] [] t.items (end.Superseded shown)
               (subst (λ (k' : ℕ). k' < shown) (h.0 ∙ stands) h.1, rw h.3 t.answered, t.few)
               (subst (λ (l : Option Wire). y ≡ finished x who.worker t.items (end.Superseded shown) l) (sym last) h.4)
               (inr (rw last t.link)),

@@ -2,9 +2,7 @@
 use Rattle.std.specs.Prelude.{◌≡◌, ◌≢◌, ◌≤◌, ◌<◌, ℕ, ◌-◌, List, [], ◌∷◌, ◌++◌, Option, Some, None, ◌⊎◌, suc}
 use Rattle.std.specs.Io.KnownBytes.{IsAtEnd}
 use Rattle.okws_base.specs.declared.limit.TheConstants.{MOST_FRAMES}
-use Rattle.frame_codec.specs.Spelling.{server_spelling}
 use Rattle.frame_codec.specs.declared.frame.ServiceFrame.TheVariants as said
-use Rattle.frame_codec.specs.declared.frame.ServerFrame.{ServerFrame}
 use Rattle.frame_codec.specs.declared.frame.ServerFrame.TheVariants as frame
 use Rattle.okws_outer.specs.Wire.{Wire}
 use Rattle.frame_link.specs.Next.{AreLeft}
@@ -24,30 +22,26 @@ use Rattle.service_cell.specs.Steps.{crash_end, IsCurrent}
 use Rattle.service_cell.specs.declared.answer.Spoken.{Spoken}
 use Rattle.service_cell.specs.declared.answer.Spoken.TheVariants as spoken
 
--- Nothing, or a frame that a service hears.
-abbrev pub IsDue : List ℕ → Type 0
-IsDue due = (due ≡ []) ⊎ ((next : ServerFrame) × (due ≡ server_spelling next))
-
 -- How a cell's link goes in a dialog with these items that ends so: all that was said was taken, and all that was heard was put.
 -- Superseded: before anything, or so. BadFrame: these bytes were taken behind it, and those are left; Ended: none are left.
--- LinkFault: the link failed; some bytes were taken behind it, and a prefix of at most one frame more was put. Starved: some bytes were taken behind it.
-abbrev pub GoesOver : Option Wire → Option Wire → List ℕ → List ℕ → List Item → End → Type 0
-GoesOver old new since left items end.Reply = Passes old new (said_text items) (heard_text items)
-GoesOver old new since left items (end.Superseded shown) = ((items ≡ []) × (new ≡ old)) ⊎ Passes old new (said_text items) (heard_text items)
-GoesOver old new since left items end.BadFrame = Passes old new (said_text items ++ since) (heard_text items) × AreLeft (left_of new) left
-GoesOver old new since left items end.Ended = Passes old new (said_text items) (heard_text items) × IsAtEnd (left_of new)
-GoesOver old new since left items end.LinkFault =
-    (taken due : List ℕ) × IsDue due × Fails old new (said_text items ++ taken) (heard_text items) due
-GoesOver old new since left items end.FrameLimit = Passes old new (said_text items) (heard_text items)
-GoesOver old new since left items end.Starved = (taken : List ℕ) × Passes old new (said_text items ++ taken) (heard_text items)
+-- LinkFault: the link failed; some bytes were taken behind it, and a prefix of what was due was put. Starved: some bytes were taken behind it.
+abbrev pub GoesOver : Option Wire → Option Wire → List ℕ → List ℕ → List ℕ → List Item → End → Type 0
+GoesOver old new since left due items end.Reply = Passes old new (said_text items) (heard_text items)
+GoesOver old new since left due items (end.Superseded shown) = ((items ≡ []) × (new ≡ old)) ⊎ Passes old new (said_text items) (heard_text items)
+GoesOver old new since left due items end.BadFrame = Passes old new (said_text items ++ since) (heard_text items) × AreLeft (left_of new) left
+GoesOver old new since left due items end.Ended = Passes old new (said_text items) (heard_text items) × IsAtEnd (left_of new)
+GoesOver old new since left due items end.LinkFault = (taken : List ℕ) × Fails old new (said_text items ++ taken) (heard_text items) due
+GoesOver old new since left due items end.FrameLimit = Passes old new (said_text items) (heard_text items)
+GoesOver old new since left due items end.Starved = (taken : List ℕ) × Passes old new (said_text items ++ taken) (heard_text items)
 
 -- The cell has one dialog more, with these items and this end: a whole dialog of the incarnation that was there with this request, from what its worker had seen, J, to what it has seen then.
 pub record HasDialog (who : Asker) (head content : List ℕ) (c : Standing) (J : Seen) (items : List Item) (how : End) (d : Standing) (now : Seen) : Type 0 where
   pub since : List ℕ
   pub left : List ℕ
-  pub follows : IsDialog who.config (speaker c who.worker) since left head content (noted J (own.Dialog c.service)) items how now
+  pub due : List ℕ
+  pub follows : IsDialog who.config (speaker c who.worker) since left due head content (noted J (own.Dialog c.service)) items how now
   pub entered : d ≡ finished c who.worker items how d.link
-  pub link : GoesOver c.link d.link since left items how
+  pub link : GoesOver c.link d.link since left due items how
 
 -- How the dialog of the incarnation that was there ends: its answer is its end. The board showed no greater incarnation, or one that superseded it.
 abbrev pub EndsAs : Asker → (ℕ → Type 0) → List ℕ → List ℕ → Standing → Seen → Spoken → Standing → Seen → Type 0

@@ -11,6 +11,7 @@ use Rattle.okws_plan.specs.declared.event.PubdEvent.{PubdEvent}
 use Rattle.okws_plan.specs.declared.event.PubdEvent.TheVariants as pubd
 use Rattle.okws_plan.specs.declared.event.LogEvent.{LogEvent}
 use Rattle.okws_plan.specs.declared.event.LogEvent.TheVariants as oklogd
+use Rattle.frame_codec.specs.Spelling.{server_spelling}
 use Rattle.frame_codec.specs.declared.frame.ServerFrame.{ServerFrame}
 use Rattle.frame_codec.specs.declared.frame.ServerFrame.TheVariants as frame
 use Rattle.frame_codec.specs.declared.frame.ServiceFrame.{ServiceFrame}
@@ -23,7 +24,7 @@ use Rattle.monitor_model.specs.declared.record.Own.{Own}
 use Rattle.monitor_model.specs.declared.record.Own.TheVariants as own
 use Rattle.monitor_model.specs.declared.record.Record.{Record}
 use Rattle.monitor_model.specs.Answered.{StandsIn, AnswersIn, AreAnsweredIn, EndsIn, IsDialogIn}
-use Rattle.monitor_model.specs.Course.{Speaker, Answers, IsAnswered, Unanswered, IsOpening, Ends, IsDialog, opening, called}
+use Rattle.monitor_model.specs.Course.{Speaker, Answers, IsAnswered, Unanswered, IsNextOf, IsOpening, Ends, IsDialog, opening, called}
 use Rattle.monitor_model.specs.Pubd.{drain_verdict}
 use Rattle.monitor_model.specs.Seen.{Seen, AtOkd, AtProxy, AtPubd, AtLog, AtLauncher, noted, proxy_past}
 use Rattle.okws_plan.specs.declared.event.OkdEvent.{OkdEvent}
@@ -197,20 +198,21 @@ unanswered_fits C R w (Log text) J now h x = ext_same R J now h x
 unanswered_fits C R w (Reply status content_type location content) J now h x = ext_same R J now h x
 
 -- a dialog's end
-quiet_ends : (C : Config) (w : Speaker) (since left : List ℕ) (opened : List Item) (J : Seen) (items : List Item) (how : End) (now : Seen) → Ends C w since left opened J items how now → Quiet J now
-quiet_ends C w since left opened J items end.Reply now h = quiet_answered C w opened J h.0 now h.2
-quiet_ends C w since left opened J items (end.Superseded shown) now h = quiet_answered C w opened J items now h.1
-quiet_ends C w since left opened J items end.BadFrame now h = quiet_answered C w opened J items now h.0
-quiet_ends C w since left opened J items end.Ended now h = quiet_answered C w opened J items now h.0
-quiet_ends C w since left opened J items end.FrameLimit now h = quiet_answered C w opened J h.1 now h.3
-quiet_ends C w since left opened J items end.LinkFault now h = by h.1
+quiet_ends : (C : Config) (w : Speaker) (since left due : List ℕ) (opened : List Item) (J : Seen) (items : List Item) (how : End) (now : Seen) → Ends C w since left due opened J items how now → Quiet J now
+quiet_ends C w since left due opened J items end.Reply now h = quiet_answered C w opened J h.0 now h.2
+quiet_ends C w since left due opened J items (end.Superseded shown) now h = quiet_answered C w opened J items now h.1
+quiet_ends C w since left due opened J items end.BadFrame now h = quiet_answered C w opened J items now h.0
+quiet_ends C w since left due opened J items end.Ended now h = quiet_answered C w opened J items now h.0
+quiet_ends C w since left due opened J items end.FrameLimit now h = quiet_answered C w opened J h.1 now h.3
+quiet_ends C w since left due opened J items end.LinkFault now h = by h.1
   where
-    by : IsOpening opened J items now ⊎ IsAnswered C w opened J items now ⊎ ((said : ServiceFrame) × (heard : ServerFrame) × (before : List Item) × (mid : Seen) × (items ≡ Said said ∷ before)
-        × IsAnswered C w opened J before mid × Answers C w said mid heard now) → Quiet J now
-    by (inl f) = quiet_same J now f.2
-    by (inr (inl a)) = quiet_answered C w opened J items now a
+    by : (IsOpening opened J items now × IsNextOf opened items due) ⊎ (IsAnswered C w opened J items now × (due ≡ []))
+        ⊎ ((said : ServiceFrame) × (heard : ServerFrame) × (before : List Item) × (mid : Seen) × (items ≡ Said said ∷ before)
+        × IsAnswered C w opened J before mid × Answers C w said mid heard now × (due ≡ server_spelling heard)) → Quiet J now
+    by (inl f) = quiet_same J now f.0.2
+    by (inr (inl a)) = quiet_answered C w opened J items now a.0
     by (inr (inr b)) = quiet_then J b.3 now (quiet_answered C w opened J b.2 b.3 b.5) (quiet_answer C w b.0 b.3 b.1 now b.6)
-quiet_ends C w since left opened J items end.Starved now h = by h.1
+quiet_ends C w since left due opened J items end.Starved now h = by h.1
   where
     by : IsOpening opened J items now ⊎ IsAnswered C w opened J items now ⊎ ((said : ServiceFrame) × (before : List Item) × (mid : Seen) × (items ≡ Said said ∷ before)
         × IsAnswered C w opened J before mid × Unanswered C w said mid now) → Quiet J now
@@ -218,30 +220,31 @@ quiet_ends C w since left opened J items end.Starved now h = by h.1
     by (inr (inl a)) = quiet_answered C w opened J items now a
     by (inr (inr b)) = quiet_then J b.2 now (quiet_answered C w opened J b.1 b.2 b.4) (quiet_unanswered C w b.0 b.2 now b.5)
 
-pub quiet_dialog : (C : Config) (w : Speaker) (since left head content : List ℕ) (J : Seen) (items : List Item) (how : End) (now : Seen) → IsDialog C w since left head content J items how now → Quiet J now
-quiet_dialog C w since left head content J items how now (inl h) = quiet_same J now h.4
-quiet_dialog C w since left head content J items how now (inr h) =
+pub quiet_dialog : (C : Config) (w : Speaker) (since left due head content : List ℕ) (J : Seen) (items : List Item) (how : End) (now : Seen) → IsDialog C w since left due head content J items how now → Quiet J now
+quiet_dialog C w since left due head content J items how now (inl h) = quiet_same J now h.4
+quiet_dialog C w since left due head content J items how now (inr h) =
     quiet_then J h.1 now (quiet_pubd w.worker (pubd.Drain w.service w.incarnation) J h.0 h.1 h.2)
-    (quiet_ends C w since left (opening (drain_verdict C h.0 w.service w.incarnation) (frame.Request head content)) h.1 items how now h.3)
+    (quiet_ends C w since left due (opening (drain_verdict C h.0 w.service w.incarnation) (frame.Request head content)) h.1 items how now h.3)
 
-ends_fit : (C : Config) (R : Record) (w : Speaker) (since left : List ℕ) (opened : List Item) (J : Seen) (items : List Item) (how : End) (now : Seen) → length R.proxies ≡ length C.proxies
-    → Ends C w since left opened J items how now → Ext R now → EndsIn C R w opened items how × Ext R J
-ends_fit C R w since left opened J items end.Reply now many h x = let a = answered_fit C R w opened J h.0 now many h.2 x in ((h.0, h.1, a.0, h.3), a.1)
-ends_fit C R w since left opened J items (end.Superseded shown) now many h x = let a = answered_fit C R w opened J items now many h.1 x in ((h.0, a.0, h.2), a.1)
-ends_fit C R w since left opened J items end.BadFrame now many h x = let a = answered_fit C R w opened J items now many h.0 x in ((a.0, h.1), a.1)
-ends_fit C R w since left opened J items end.Ended now many h x = let a = answered_fit C R w opened J items now many h.0 x in ((a.0, h.1), a.1)
-ends_fit C R w since left opened J items end.FrameLimit now many h x = let a = answered_fit C R w opened J h.1 now many h.3 x in ((h.0, h.1, h.2, a.0, h.4), a.1)
-ends_fit C R w since left opened J items end.LinkFault now many h x = by h.1
+ends_fit : (C : Config) (R : Record) (w : Speaker) (since left due : List ℕ) (opened : List Item) (J : Seen) (items : List Item) (how : End) (now : Seen) → length R.proxies ≡ length C.proxies
+    → Ends C w since left due opened J items how now → Ext R now → EndsIn C R w opened items how × Ext R J
+ends_fit C R w since left due opened J items end.Reply now many h x = let a = answered_fit C R w opened J h.0 now many h.2 x in ((h.0, h.1, a.0, h.3), a.1)
+ends_fit C R w since left due opened J items (end.Superseded shown) now many h x = let a = answered_fit C R w opened J items now many h.1 x in ((h.0, a.0, h.2), a.1)
+ends_fit C R w since left due opened J items end.BadFrame now many h x = let a = answered_fit C R w opened J items now many h.0 x in ((a.0, h.1), a.1)
+ends_fit C R w since left due opened J items end.Ended now many h x = let a = answered_fit C R w opened J items now many h.0 x in ((a.0, h.1), a.1)
+ends_fit C R w since left due opened J items end.FrameLimit now many h x = let a = answered_fit C R w opened J h.1 now many h.3 x in ((h.0, h.1, h.2, a.0, h.4), a.1)
+ends_fit C R w since left due opened J items end.LinkFault now many h x = by h.1
   where
-    by : IsOpening opened J items now ⊎ IsAnswered C w opened J items now ⊎ ((said : ServiceFrame) × (heard : ServerFrame) × (before : List Item) × (mid : Seen) × (items ≡ Said said ∷ before)
-        × IsAnswered C w opened J before mid × Answers C w said mid heard now) → EndsIn C R w opened items end.LinkFault × Ext R J
-    by (inl f) = ((h.0, inl (f.0, f.1)), ext_same R J now f.2 x)
-    by (inr (inl a)) = let b = answered_fit C R w opened J items now many a x in ((h.0, inr (inl b.0)), b.1)
+    by : (IsOpening opened J items now × IsNextOf opened items due) ⊎ (IsAnswered C w opened J items now × (due ≡ []))
+        ⊎ ((said : ServiceFrame) × (heard : ServerFrame) × (before : List Item) × (mid : Seen) × (items ≡ Said said ∷ before)
+        × IsAnswered C w opened J before mid × Answers C w said mid heard now × (due ≡ server_spelling heard)) → EndsIn C R w opened items end.LinkFault × Ext R J
+    by (inl f) = ((h.0, inl (f.0.0, f.0.1)), ext_same R J now f.0.2 x)
+    by (inr (inl a)) = let b = answered_fit C R w opened J items now many a.0 x in ((h.0, inr (inl b.0)), b.1)
     by (inr (inr b)) =
         let last = answer_fits C R w b.0 b.3 b.1 now many b.6 x in
         let rest = answered_fit C R w opened J b.2 b.3 many b.5 last.1 in
         ((h.0, inr (inr (b.0, b.1, b.2, b.4, rest.0, last.0))), rest.1)
-ends_fit C R w since left opened J items end.Starved now many h x = by h.1
+ends_fit C R w since left due opened J items end.Starved now many h x = by h.1
   where
     by : IsOpening opened J items now ⊎ IsAnswered C w opened J items now ⊎ ((said : ServiceFrame) × (before : List Item) × (mid : Seen) × (items ≡ Said said ∷ before)
         × IsAnswered C w opened J before mid × Unanswered C w said mid now) → EndsIn C R w opened items end.Starved × Ext R J
@@ -251,12 +254,12 @@ ends_fit C R w since left opened J items end.Starved now many h x = by h.1
         let rest = answered_fit C R w opened J b.1 b.2 many b.4 (unanswered_fits C R w b.0 b.2 now b.5 x) in
         ((h.0, inr (inr (b.0, b.1, b.3, rest.0))), rest.1)
 
-pub dialog_fits : (C : Config) (R : Record) (w : Speaker) (since left head content : List ℕ) (J : Seen) (items : List Item) (how : End) (now : Seen) → length R.proxies ≡ length C.proxies
-    → IsDialog C w since left head content J items how now → Ext R now → IsDialogIn C R w items how × Ext R J
-dialog_fits C R w since left head content J items how now many (inl h) x = (inl (h.0, h.1, h.2, h.3), ext_same R J now h.4 x)
-dialog_fits C R w since left head content J items how now many (inr h) x =
+pub dialog_fits : (C : Config) (R : Record) (w : Speaker) (since left due head content : List ℕ) (J : Seen) (items : List Item) (how : End) (now : Seen) → length R.proxies ≡ length C.proxies
+    → IsDialog C w since left due head content J items how now → Ext R now → IsDialogIn C R w items how × Ext R J
+dialog_fits C R w since left due head content J items how now many (inl h) x = (inl (h.0, h.1, h.2, h.3), ext_same R J now h.4 x)
+dialog_fits C R w since left due head content J items how now many (inr h) x =
     let opened : List Item = opening (drain_verdict C h.0 w.service w.incarnation) (frame.Request head content) in
-    let ends = ends_fit C R w since left opened h.1 items how now many h.3 x in
+    let ends = ends_fit C R w since left due opened h.1 items how now many h.3 x in
     let drain = ext_pubd R w.worker (pubd.Drain w.service w.incarnation) J h.0 h.1 h.2 ends.1 in
     (inr (opened, (h.0, head, content, drain.1, refl), ends.0), drain.0)
 

@@ -93,10 +93,10 @@ walk_went C R w s k head content J (Spoke t j d) now many h = record {
 }
   where
     quiet : Quiet (noted J (own.Dialog s)) now
-    quiet = quiet_dialog C (record { worker = w; service = s; incarnation = k }) h.3 h.4 head content (noted J (own.Dialog s)) d.items d.end now h.5
+    quiet = quiet_dialog C (record { worker = w; service = s; incarnation = k }) h.3 h.4 h.5 head content (noted J (own.Dialog s)) d.items d.end now h.6
 
     dialog : Ext R now → IsDialogIn C R (record { worker = w; service = s; incarnation = k }) d.items d.end × Ext R (noted J (own.Dialog s))
-    dialog x = dialog_fits C R (record { worker = w; service = s; incarnation = k }) h.3 h.4 head content (noted J (own.Dialog s)) d.items d.end now many h.5 x
+    dialog x = dialog_fits C R (record { worker = w; service = s; incarnation = k }) h.3 h.4 h.5 head content (noted J (own.Dialog s)) d.items d.end now many h.6 x
 
 walk_follows : (C : Config) (R : Record) (w : ℕ) (to : Way) (head content : List ℕ) (J : Seen) (outcome : Outcome) (now : Seen) → length R.proxies ≡ length C.proxies → Follows C R w to head content J outcome now → Walk C R w J now
 walk_follows C R w way.NotOwned head content J outcome now many h = walk_quiet C R w J now (quiet_same J now h.1) (ext_same R J now h.1)

@@ -123,7 +123,7 @@ open_is_answered seed = rw (same_itself (token_one seed)) refl
 call_is_answered : (seed : List ℕ) → heard.Changed 1 ≡ verdict_frame (call_verdict one 0 (opened_past seed) deletion Done)
 call_is_answered seed = rw (same_itself (token_one seed)) refl
 
-first_is_dialog : (seed : List ℕ) → IsDialog one (record { worker = 0; service = 0; incarnation = 1 }) [] [] guest_request []
+first_is_dialog : (seed : List ℕ) → IsDialog one (record { worker = 0; service = 0; incarnation = 1 }) [] [] [] guest_request []
     (seen_after (short_run seed) 0 begun_list) (first_dialog seed 0).items end.Reply (seen_after (short_run seed) 0 (called_list seed))
 first_is_dialog seed = inr (
   published,
@@ -153,7 +153,7 @@ again_list seed = own.Dialog 0 ∷ own.Okd (okd.Accept (codes "/guest")) ∷ cal
 abbrev again_drained : List ℕ → List Own
 again_drained seed = own.Pubd (pubd.Drain 0 1) ∷ again_list seed
 
-second_is_dialog : (seed : List ℕ) → IsDialog one (record { worker = 0; service = 0; incarnation = 1 }) [] [] guest_request []
+second_is_dialog : (seed : List ℕ) → IsDialog one (record { worker = 0; service = 0; incarnation = 1 }) [] [] [] guest_request []
     (seen_after (short_run seed) 0 (again_list seed)) second_dialog.items end.Ended (seen_after (short_run seed) 0 (again_drained seed))
 second_is_dialog seed = inr (
   by 0 (pubd.Drain 0 1) ∷ published,
@@ -167,7 +167,7 @@ short_run_is_lawful seed = record {
   proxies_are = refl;
   cells_are = refl;
   cells = ((((((tt, (refl, below_one)), (one_is_some, tt)), (one_is_some, tt)), (refl, below_two)), two_is_some), tt);
-  dialogs = ((([], [], guest_request, [], second_is_dialog seed), (([], [], guest_request, [], first_is_dialog seed), tt)), (tt, tt));
+  dialogs = ((([], [], [], guest_request, [], second_is_dialog seed), (([], [], [], guest_request, [], first_is_dialog seed), tt)), (tt, tt));
   launcher = (((tt, refl), refl), refl);
   okd = (((((tt, below_one), tt), tt), refl), some_below_two);
   proxies = ((((((tt, (below_one, refl)), tt), tt), refl), (below_two, refl)), tt);

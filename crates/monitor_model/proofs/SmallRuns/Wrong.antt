@@ -90,21 +90,21 @@ by_call seed before now first (inr (inr h)) =
     = grown_to (by 0 (proxy.Open 0 1 (token_one seed))) (installed seed) h.4.0.0 (proxy_past now.proxies 0) refl h.4.0.1 (sym rest ∙ h.4.0.2) in
     by_open seed before now past first
 
-by_end : (seed since left : List ℕ) (opened : List Item) (mid : Seen) → Ends one guest since left opened mid (first_dialog seed 7).items end.Reply (afterwards seed) → ⊥
-by_end seed since left opened mid ends =
+by_end : (seed since left due : List ℕ) (opened : List Item) (mid : Seen) → Ends one guest since left due opened mid (first_dialog seed 7).items end.Reply (afterwards seed) → ⊥
+by_end seed since left due opened mid ends =
     let whole : (first_dialog seed 7).items ≡ Said (said.Reply ends.1.0 ends.1.1 ends.1.2 ends.1.3) ∷ ends.0 = ends.1.4 in
     let rest : ends.0 ≡ answered_items seed = cc in
     let answered : IsAnswered one guest opened mid (answered_items seed) (afterwards seed)
     = subst (λ (items : List Item). IsAnswered one guest opened mid items (afterwards seed)) rest ends.2 in
     by_call seed answered.1.0 answered.0 answered.1.2 answered.2
 
-not_answered : (seed since left head content : List ℕ)
-    → IsDialog one guest since left head content (seen_after (wrong_answer seed) 0 begun_list) (first_dialog seed 7).items end.Reply (afterwards seed) → ⊥
-not_answered seed since left head content (inl h) = let bad : end.Reply ≡ end.Superseded h.0 = h.1 in cc
-not_answered seed since left head content (inr h) = by_end seed since left _ h.1 h.3
+not_answered : (seed since left due head content : List ℕ)
+    → IsDialog one guest since left due head content (seen_after (wrong_answer seed) 0 begun_list) (first_dialog seed 7).items end.Reply (afterwards seed) → ⊥
+not_answered seed since left due head content (inl h) = let bad : end.Reply ≡ end.Superseded h.0 = h.1 in cc
+not_answered seed since left due head content (inr h) = by_end seed since left due _ h.1 h.3
 
 wrong_answer_is_wrong : (seed : List ℕ) → JournalsAreLawful one seed one_order (wrong_answer seed) → ⊥
-wrong_answer_is_wrong seed h = let fit = h.dialogs.0.1.0 in not_answered seed fit.0 fit.1 fit.2 fit.3 fit.4
+wrong_answer_is_wrong seed h = let fit = h.dialogs.0.1.0 in not_answered seed fit.0 fit.1 fit.2 fit.3 fit.4 fit.5
 
 wrong_answer_has : (seed : List ℕ) (other : Part) → (other ≡ part.Lawful → ⊥) → Holds other one seed one_order (wrong_answer seed)
 wrong_answer_has seed part.Made differs = run_is_made seed 7

@@ -3,7 +3,6 @@ use Rattle.monitor_model.specs.Cell.{incarnation}
 use Rattle.std.specs.Arc.{arc_value}
 use Rattle.std.specs.declared.result.Result.TheVariants.{Ok, Err}
 use Rattle.frame_codec.specs.declared.frame.ServerFrame.TheVariants as frame
-use Rattle.monitor_model.specs.Course.{opening}
 use Rattle.service_cell.specs.Steps.{crash_end}
 use Rattle.service_cell.specs.Standing.{Standing}
 use Rattle.service_cell.specs.Tied.{opened}
@@ -18,7 +17,7 @@ invariant_of-self-in-Ok-hear_opening g c =
     record {
       tied = search rules;
       heard = rw c.make_room.ensures.past (opening_is_heard g.L.Link.wire (arc_value c.self.inside.config) c.self.inside.seed c.self.inside.service c.self.inside.events.past (opened c.self.inside.speaking) c.self.inside.wire c.in-Some.link (g.L.Link.wire c.hear_opening.new.link) c.self.inside.sent
-          (opening c.in-Ok.pushes.items (frame.Request c.args.head c.args.content)) c.hear_opening.new.items.past (Ok c.in-Ok-hear_opening.field-0) there shut c.in-Some.is c.self.invariant.heard c.in-Ok-hear_opening.ensures.opens);
+          c.in-Ok.pushes.items c.args.head c.args.content c.hear_opening.new.items.past (Ok c.in-Ok-hear_opening.field-0) there shut c.in-Some.is c.self.invariant.heard c.in-Ok-hear_opening.ensures.opens);
     }
 
 pub invariant_of-self-in-Err : goal.invariant_of-self-in-Err
@@ -29,7 +28,7 @@ invariant_of-self-in-Err g c =
       tied = search rules;
       heard = ended_heard (arc_value c.self.inside.config) c.self.inside.seed c.self.inside.service c.self.inside.events.past c.finish.new.events.past c.worker-worker.result c.hear_opening.new.items.past c.end_of.result (crash_end c.in-Err.cause) (opened c.self.inside.speaking) (Some (g.L.Link.wire c.hear_opening.new.link)) c.self.inside.sent (rw c.make_room.ensures.past at c.finish.ensures.past) c.end_of.ensures.end shut
           (opening_is_heard g.L.Link.wire (arc_value c.self.inside.config) c.self.inside.seed c.self.inside.service c.self.inside.events.past (opened c.self.inside.speaking) c.self.inside.wire c.in-Some.link (g.L.Link.wire c.hear_opening.new.link) c.self.inside.sent
-          (opening c.in-Ok.pushes.items (frame.Request c.args.head c.args.content)) c.hear_opening.new.items.past (Err c.in-Err.cause) there shut c.in-Some.is c.self.invariant.heard c.in-Err.ensures.opens);
+          c.in-Ok.pushes.items c.args.head c.args.content c.hear_opening.new.items.past (Err c.in-Err.cause) there shut c.in-Some.is c.self.invariant.heard c.in-Err.ensures.opens);
     }
 
 pub returns-in-Err-clause-opens : goal.returns-in-Err-clause-opens

@@ -1,5 +1,5 @@
 -- How what was taken, done and told becomes a step.
-use Rattle.std.proofs.Common.{◌≡◌, ◌≤◌, ℕ, List, [], ◌∷◌, ◌++◌, None, refl, sym, ap, ◌∙◌, subst, arith, append_assoc, inl}
+use Rattle.std.proofs.Common.{◌≡◌, ◌≤◌, ◌<◌, ℕ, List, [], ◌∷◌, ◌++◌, None, length, refl, sym, ap, ◌∙◌, subst, arith, append_assoc, inl, inr}
 use Rattle.std.specs.declared.option.Option.{Option}
 use Rattle.std.specs.Io.KnownBytes.{Appends, Consumes}
 use Rattle.std.specs.Str.Lines.{strip_carriage_return}
@@ -10,7 +10,7 @@ use Rattle.okws_outer.specs.Conns.{ConnWire}
 use Rattle.admin_console.specs.Orders.{order_of}
 use Rattle.admin_console.specs.Answers.{answer_text}
 use Rattle.admin_console.specs.Reading.{TakesCommand, ended}
-use Rattle.admin_console.specs.Steps.{CarriesOut, Command, Does, Tells, Steps, IsDone}
+use Rattle.admin_console.specs.Steps.{CarriesOut, Command, Does, Tells, Steps, IsCut, IsDone, size_said}
 use Rattle.admin_console.specs.declared.reader.Taken.TheVariants as taken
 use Rattle.admin_console.specs.declared.order.Order.{Order}
 use Rattle.admin_console.specs.declared.answer.Answer.{Answer}
@@ -83,8 +83,15 @@ module _ (S : Type 0) (publishes : S → ℕ → List ℕ → Publishing → S �
       let order_is = sym (said C start mid before after held command t is) ∙ carried.is.0 in
       (inl (strip_carriage_return t.text, command_is, order_is), carried.given ∙ t.given, carried.is.2)
 
-  pub fails : (start mid new : ConnWire) (before after : ℕ) (held : List ℕ) (command : Order) (J now : S) → TakesCommand start mid before after held taken.Line
+  pub fails : (start mid new : ConnWire) (before after : ℕ) (held : List ℕ) (command : Order) (J now : S) → TakesCommand start mid before after held taken.Line → command ≡ order_of C (strip_carriage_return held)
       → CarriesOut publishes relaunches mid new after command J now done.Failed → Steps publishes relaunches C start new before after J now (ConsoleFault None)
-  fails start mid new before after held command J now t carried =
-      let rose : Rose mid.faults new.faults = carried.is.1 in
-      (_, Consumes-trans start.left mid.left new.left _ carried.bytes t.ends.0 carried.taken_are, carried.given ∙ t.given, carried.is.0, rose_later start.faults mid.faults new.faults t.later rose)
+  fails start mid new before after held command J now t is carried =
+      let rose : Rose mid.faults new.faults = carried.is.2 in
+      let taken : List ℕ = ended t.blanks ++ (t.text ++ 10 ∷ carried.bytes) in
+      let all : Consumes start.left new.left taken =
+      subst (λ (b : List ℕ). Consumes start.left new.left b) (joined (ended t.blanks) t.text carried.bytes)
+      (Consumes-trans start.left mid.left new.left (ended t.blanks ++ (t.text ++ 10 ∷ [])) carried.bytes t.ends.0 carried.taken_are) in
+      let fewer : length carried.bytes < size_said (order_of C (strip_carriage_return t.text))
+      = subst (λ (o : Order). length carried.bytes < size_said o) (said C start mid before after held command t is) carried.is.1 in
+      let cut : IsCut C taken = record { blanks = t.blanks; text = t.text; are_blank = t.are_blank; plain = t.plain; cut = inr (carried.bytes, refl, fewer) } in
+      (taken, all, carried.given ∙ t.given, carried.is.0, rose_later start.faults mid.faults new.faults t.later rose, cut)

@@ -26,6 +26,13 @@ use Rattle.admin_console.specs.declared.step.Done.TheVariants as done
 abbrev pub AreFollowing : ℕ → List ℕ → Option (List ℕ) → Type 0
 AreFollowing size bytes left = (length bytes ≡ size) ⊎ ((length bytes < size) × IsAtEnd left)
 
+-- How many bytes are to follow a line that says this.
+abbrev pub size_said : Order → ℕ
+size_said (order.Publish t size) = size
+size_said (order.Relaunch s) = 0
+size_said order.End = 0
+size_said (order.Refused broken size) = size
+
 -- What became of a publication of these bytes, of which so many were to follow, where these are left: it was carried out; or the input ended before, which is refused; or memory was refused, and nothing was done.
 abbrev pub IsPublished : {S : Type 0} → (S → ℕ → List ℕ → Publishing → S → Type 0) → ℕ → ℕ → ℕ → List ℕ → Option (List ℕ) → S → Answer → S → Type 0
 IsPublished publishes line t size bytes left J a now =
@@ -45,7 +52,7 @@ IsDone publishes relaunches line (order.Refused broken size) bytes left J a now 
 abbrev pub Carries : {S : Type 0} → (S → ℕ → List ℕ → Publishing → S → Type 0) → (S → ℕ → Relaunching → S → Type 0) → ConnWire → ConnWire → ℕ → Order → S → S → List ℕ → Done → Type 0
 Carries publishes relaunches old new line command J now bytes (done.Answered a) = IsDone publishes relaunches line command bytes new.left J a now
 Carries publishes relaunches old new line command J now bytes done.Ends = (command ≡ order.End) × (bytes ≡ []) × (now ≡ J)
-Carries publishes relaunches old new line command J now bytes done.Failed = (now ≡ J) × Rose old.faults new.faults
+Carries publishes relaunches old new line command J now bytes done.Failed = (now ≡ J) × (length bytes < size_said command) × Rose old.faults new.faults
 
 -- The same, with the bytes that are taken behind the line.
 pub record CarriesOut {S : Type 0} (publishes : S → ℕ → List ℕ → Publishing → S → Type 0) (relaunches : S → ℕ → Relaunching → S → Type 0) (old new : ConnWire) (line : ℕ) (command : Order) (J now : S) (what : Done) : Type 0 where
@@ -59,7 +66,7 @@ pub record CarriesOut {S : Type 0} (publishes : S → ℕ → List ℕ → Publi
 abbrev pub IsRefused : ConnWire → ConnWire → ℕ → Rule → ℕ → List ℕ → Done → Type 0
 IsRefused old new line broken size bytes (done.Answered a) = AreFollowing size bytes new.left × (a ≡ answer.Refused line broken)
 IsRefused old new line broken size bytes done.Ends = ⊥
-IsRefused old new line broken size bytes done.Failed = Rose old.faults new.faults
+IsRefused old new line broken size bytes done.Failed = (length bytes < size) × Rose old.faults new.faults
 
 -- A refused command's bytes are dropped.
 pub record Refuses (old new : ConnWire) (line : ℕ) (broken : Rule) (size : ℕ) (what : Done) : Type 0 where
@@ -113,9 +120,18 @@ pub record RunsOut (old new : ConnWire) (before after : ℕ) : Type 0 where
   pub none_left : IsAtEnd new.left
   pub count : after ≡ counted before (length blanks)
 
+-- These bytes are no whole command: behind empty lines they are a front of a line, or a line with fewer bytes behind it than it says.
+pub record IsCut (C : Config) (taken : List ℕ) : Type 0 where
+  pub blanks : List (List ℕ)
+  pub text : List ℕ
+  pub are_blank : Each IsBlank blanks
+  pub plain : IsPlain text
+  pub cut : (taken ≡ ended blanks ++ text)
+      ⊎ ((bytes : List ℕ) × (taken ≡ ended blanks ++ (text ++ 10 ∷ bytes)) × (length bytes < size_said (order_of C (strip_carriage_return text))))
+
 -- What a step answers.
 -- Answered: the next command was carried out, and its answer was given. Finished: it is `end`, or the input ended before one was whole; nothing was done.
--- ConsoleFault: the count rose, and a command was carried out of whose answer just a front was given; or some bytes were taken, and nothing was done.
+-- ConsoleFault: the count rose, and a command was carried out of whose answer just a front was given; or the bytes that were taken are no whole command, and nothing was done.
 abbrev pub Steps : {S : Type 0} → (S → ℕ → List ℕ → Publishing → S → Type 0) → (S → ℕ → Relaunching → S → Type 0) → Config → ConnWire → ConnWire → ℕ → ℕ → S → S → Stepped → Type 0
 Steps publishes relaunches C old new before after J now (Answered a) =
     Does publishes relaunches C old new before after J now a × Appends old.given new.given (answer_text a)
@@ -124,4 +140,4 @@ Steps publishes relaunches C old new before after J now Finished =
 Steps publishes relaunches C old new before after J now (ConsoleFault (Some a)) =
     Does publishes relaunches C old new before after J now a × AppendsPrefix old.given new.given (answer_text a) × Rose old.faults new.faults
 Steps publishes relaunches C old new before after J now (ConsoleFault None) =
-    (taken : List ℕ) × Consumes old.left new.left taken × (new.given ≡ old.given) × (now ≡ J) × Rose old.faults new.faults
+    (taken : List ℕ) × Consumes old.left new.left taken × (new.given ≡ old.given) × (now ≡ J) × Rose old.faults new.faults × IsCut C taken

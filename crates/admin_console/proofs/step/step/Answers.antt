@@ -24,4 +24,6 @@ pub returns-in-Failed-carry_out-clause-step : goal.returns-in-Failed-carry_out-c
 returns-in-Failed-carry_out-clause-step g c =
     let o = g.O.Controls in
     let line = rw c.in-Line.is at c.take_command-taken.ensures.line in
-    fails o.State o.publishes o.relaunches c.args.config.now _ _ _ _ _ _ _ _ _ line c.in-Failed-carry_out.ensures.done
+    let shown = c.without_carriage_return.ensures ∙ ap strip_carriage_return c.deref.ensures.value in
+    let order_is = c.order_of-order.ensures.is ∙ ap (order_of c.args.config.now) shown in
+    fails o.State o.publishes o.relaunches c.args.config.now _ _ _ _ _ _ _ _ _ line order_is c.in-Failed-carry_out.ensures.done

@@ -5,3 +5,4 @@ pub mod Places
 pub mod Emptying
 pub mod Children
 pub mod Starting
+pub mod Coming

@@ -48,10 +48,10 @@ module _ {E : Type 0} (n : ℕ) where
       ap (λ (b : Bool). map (λ (x : Entry E). x.event) (if b then e ∷ filter (λ (x : Entry E). x.worker == n) (more ++ J) else filter (λ (x : Entry E). x.worker == n) (more ++ J))) t
       ∙ others more J (subst (λ (b : Bool). (if b then e ∷ of by_entry n more else of by_entry n more) ≡ []) t none))
 
-  sees : (J K : List (Entry E)) (items : List E) → GrowsBy by_entry n J K → events_of n J ≡ items → events_of n K ≡ items
+  pub sees : (J K : List (Entry E)) (items : List E) → GrowsBy by_entry n J K → events_of n J ≡ items → events_of n K ≡ items
   sees J K items g is = ap (events_of n) g.2 ∙ (others g.0 J g.1 ∙ is)
 
-  enters : (w : ℕ) (e : E) (J K : List (Entry E)) (items : List E) → w ≡ n → GrowsBy by_entry n J K → events_of n J ≡ items → events_of n (record { worker = w; event = e } ∷ K) ≡ e ∷ items
+  pub enters : (w : ℕ) (e : E) (J K : List (Entry E)) (items : List E) → w ≡ n → GrowsBy by_entry n J K → events_of n J ≡ items → events_of n (record { worker = w; event = e } ∷ K) ≡ e ∷ items
   enters w e J K items here g is = own_event w e K here ∙ ap (λ (es : List E). e ∷ es) (sees J K items g is)
 
 -- an item more, if it is a launch

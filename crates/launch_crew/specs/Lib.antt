@@ -3,3 +3,4 @@ pub mod Pasts
 pub mod Crews
 pub mod Told
 pub mod Steps
+pub mod Coming

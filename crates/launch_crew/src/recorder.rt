@@ -4,6 +4,7 @@ ghost use Rattle.std.specs.Prelude.{◌≡◌, ◌<◌, ◌≤◌, ◌+◌, leng
 ghost use Rattle.okws_base.specs.declared.limit.TheConstants.{MOST_PROXIES, MOST_SERVICES};
 ghost use Rattle.cell_locks.specs.Row.{IsNew};
 ghost use Rattle.site_locks.specs.Made.{fresh};
+ghost use Rattle.launch_crew.specs.Coming.{Came, NoneCame};
 ghost use Rattle.launch_crew.specs.Crews.{up_of};
 ghost use Rattle.launch_crew.specs.Recorded.{AreOwn, IsUnused};
 ghost use Rattle.launch_crew.specs.Steps.{Downs, Ups, Looks};
@@ -106,6 +107,7 @@ impl<N: Backed, J: Site, C: CellNames, K: Keeper, S: Sink, L: Link> Recorder<N, 
         requires room { 0 < self.old.room }
         ensures cells { self.new.watch ≡ self.old.watch }
         ensures downs { Downs service self.old.sat self.new.sat }
+        ensures came { NoneCame self.old.sat self.new.sat }
         ensures room { self.old.room ≤ self.new.room + 1 }
     {
         if let Some(incarnation) = self.seats.down(rt, locks, service) {
@@ -130,6 +132,8 @@ impl<N: Backed, J: Site, C: CellNames, K: Keeper, S: Sink, L: Link> Recorder<N, 
         ensures cells { self.new.watch ≡ self.old.watch }
         ensures ok { OnOk result (Ups service incarnation self.old.sat self.new.sat) }
         ensures err { OnErr result (Looks self.old.sat self.new.sat) }
+        ensures came { OnOk result (Came service incarnation self.old.sat self.new.sat) }
+        ensures none { OnErr result (NoneCame self.old.sat self.new.sat) }
         ensures room { self.old.room ≤ self.new.room + 1 }
     {
         self.seats.up(rt, locks, service, incarnation)?;

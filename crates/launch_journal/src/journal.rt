@@ -256,6 +256,13 @@ impl LaunchJournal {
         tries
     }
 
+    /// What the journal's type tells of its entries: each fits those before it.
+    pub fn keeps(&self)
+        ensures { LauncherLaw self.now.config self.now.past }
+    {
+        let _tallies = &self.tallies;
+    }
+
     /// What was entered: each entry fits those before it.
     pub fn close(self) -> Past<Entry<LauncherEvent>>
         ensures past { result ≡ self.past }

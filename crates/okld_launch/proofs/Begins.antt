@@ -217,7 +217,7 @@ asked s answer r a b h = record {
 
 -- ---- nothing was launched
 
-no_ups : (n s : ℕ) → slice_index (replicate n 0) s ≡ 0
+pub no_ups : (n s : ℕ) → slice_index (replicate n 0) s ≡ 0
 no_ups zero s = refl
 no_ups (suc n) zero = refl
 no_ups (suc n) (suc s) = no_ups n s

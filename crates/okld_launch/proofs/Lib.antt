@@ -9,3 +9,7 @@ pub mod Opening
 pub mod Told
 pub mod Adds
 pub mod Failing
+pub mod Causing
+pub mod Caused
+pub mod Opened
+pub mod Again

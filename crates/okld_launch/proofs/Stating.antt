@@ -8,8 +8,10 @@ use Rattle.okws_plan.specs.declared.event.LauncherEvent.TheVariants as event
 use Rattle.monitor_model.specs.Launcher.{begun}
 use Rattle.launch_journal.specs.Launches.{Launches, Allows, entered}
 use Rattle.launch_journal.specs.declared.next.Next.TheVariants as next
+use Rattle.launch_crew.specs.Coming.{came_up}
 use Rattle.launch_crew.specs.Crews.{Under}
 use Rattle.launch_crew.specs.Told.{TellsMore}
+use Rattle.okld_launch.specs.Causing.{BrokeOff}
 use Rattle.okld_launch.specs.Launchers.{LauncherIs}
 use Rattle.okld_launch.specs.States.{LaunchIs, IsBegun, IsStill, GoesOn}
 use Rattle.okld_launch.proofs.Begins.{begun_here}
@@ -36,8 +38,9 @@ at_most : (a b c : ℕ) → a ≡ b + 1 → b < c → a ≤ c
 at_most a b c is less = omega (arith, is, less)
 
 pub still : (C : Config) (s k : ℕ) (m l : LauncherIs) → s < length C.services → Allows C m.journal.past s next.Begin → k ≡ begun m.journal.past s + 1 → l.journal ≡ entered m.journal (event.Begun s k)
-    → 2 ≤ m.journal.room → MOST_PROXIES + 4 + (MOST_PROXIES + 2 + (MOST_PROXIES + 4)) + length C.services ≤ m.crew.room → l.crew.room ≡ m.crew.room → Under s k l.crew → IsStill C (launch_of l s k)
-still C s k m l within allows is journal entries items room under = record {
+    → 2 ≤ m.journal.room → MOST_PROXIES + 4 + (MOST_PROXIES + 2 + (MOST_PROXIES + 4)) + length C.services ≤ m.crew.room → l.crew.room ≡ m.crew.room → Under s k l.crew
+    → BrokeOff (came_up l.crew.sat) l.journal.past s k → IsStill C (launch_of l s k)
+still C s k m l within allows is journal entries items room under fresh = record {
   begins = record {
     service_is = within;
     counted = one_more k (begun m.journal.past s) is;
@@ -47,6 +50,7 @@ still C s k m l within allows is journal entries items room under = record {
     room = omega (arith, items, room);
   };
   under = under;
+  fresh = fresh;
 }
 
 -- nothing more was entered, and no less is told of the children

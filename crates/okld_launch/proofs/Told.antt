@@ -1,5 +1,5 @@
 -- What the answers of a launch say.
-use Rattle.std.proofs.Common.{◌≡◌, ◌∙◌, ◌⊎◌, inl, inr, ⊎_elim, ℕ, zero, suc, ◌+◌, ◌-◌, ◌<◌, ◌≤◌, List, refl, sym, ap, subst, arith}
+use Rattle.std.proofs.Common.{◌≡◌, ◌∙◌, ◌⊎◌, inl, inr, ⊎_elim, ℕ, zero, suc, ◌+◌, ◌-◌, ◌<◌, ◌≤◌, List, None, refl, sym, ap, subst, arith}
 use Rattle.okws_base.specs.declared.journal.Entry.{Entry}
 use Rattle.okws_base.specs.declared.limit.TheConstants.{MOST_INCARNATIONS}
 use Rattle.okws_plan.specs.declared.configuration.Config.{Config}
@@ -8,7 +8,7 @@ use Rattle.okws_plan.specs.declared.event.LauncherEvent.TheVariants as event
 use Rattle.okws_outer.specs.Families.{Family}
 use Rattle.okws_outer.specs.declared.child.Ended.TheVariants.{Yes}
 use Rattle.monitor_model.specs.Launcher.{begun, tries}
-use Rattle.launch_journal.specs.Launches.{Launches, Allows, entered}
+use Rattle.launch_journal.specs.Launches.{Launches, Allows, entered, given_up}
 use Rattle.launch_journal.specs.declared.next.Next.TheVariants as next
 use Rattle.okld_launch.specs.Going.{with_entry, with_begun, with_failed, Closes, Attempts, Fell, Ends, Goes, GoesCrashed, Tends, GoesTended, AsksUp, HasEnded, crashed_as, tended_as}
 use Rattle.okld_launch.specs.Launchers.{LauncherIs, IsOut, up_in}
@@ -89,11 +89,11 @@ nearer C w s M h l allows a =
 
 -- ---- crashes, and services that are tended
 
-pub crashed_of : (C : Config) (w s k : ℕ) (J : List (Entry LauncherEvent)) (f : Family) (answer : Launched) (l : LauncherIs) → k ≡ begun J s → Goes C w s (with_entry w (event.Crashed s k) J) f answer l → GoesCrashed C w s k J f (crashed_as answer) l
-crashed_of C w s k J f (launched.Up j) l is h = (is, h)
-crashed_of C w s k J f (launched.Dead n) l is h = (is, h)
-crashed_of C w s k J f launched.Spent l is h = (is, h)
-crashed_of C w s k J f launched.NoMemory l is h = inr (is, h)
+pub crashed_of : (C : Config) (w s k : ℕ) (J : List (Entry LauncherEvent)) (f : Family) (answer : Launched) (l : LauncherIs) → k ≡ begun J s → given_up J s ≡ None → Goes C w s (with_entry w (event.Crashed s k) J) f answer l → GoesCrashed C w s k J f (crashed_as answer) l
+crashed_of C w s k J f (launched.Up j) l is living h = (is, h)
+crashed_of C w s k J f (launched.Dead n) l is living h = (is, inl (living, h))
+crashed_of C w s k J f launched.Spent l is living h = (is, h)
+crashed_of C w s k J f launched.NoMemory l is living h = inr (is, h)
 
 pub tended_of : (C : Config) (w s : ℕ) (old : LauncherIs) (answer : Launched) (new : LauncherIs) → Tends C w s old answer new → GoesTended C w s old (tended_as answer) new
 tended_of C w s old (launched.Up k) new h = h
@@ -103,12 +103,12 @@ tended_of C w s old launched.NoMemory new h = inr h
 
 -- the child of s, incarnation k, had ended: room was made, its crash entered, and it was launched
 pub tends_crashed : (C : Config) (s k : ℕ) (old asked roomy opened : LauncherIs) (answer : Launched) (new : LauncherIs)
-    → k ≡ up_in old s → 0 < k → AsksUp s old Yes asked
+    → k ≡ up_in old s → 0 < k → given_up old.journal.past s ≡ None → AsksUp s old Yes asked
     → asked ≡ record old { crew = record old.crew { running = asked.crew.running } }
     → roomy ≡ record asked { journal = record asked.journal { room = roomy.journal.room } }
     → opened ≡ record roomy { journal = entered roomy.journal (event.Crashed s k) }
     → Goes C opened.journal.holder s opened.journal.past opened.crew.family answer new → Tends C old.journal.holder s old answer new
-tends_crashed C s k old asked roomy opened answer new is positive asks same rooms opens goes =
+tends_crashed C s k old asked roomy opened answer new is positive living asks same rooms opens goes =
     let number : roomy.journal.holder ≡ old.journal.holder = ap (λ (l : LauncherIs). l.journal.holder) rooms ∙ ap (λ (l : LauncherIs). l.journal.holder) same in
     let before : roomy.journal.past ≡ old.journal.past = ap (λ (l : LauncherIs). l.journal.past) rooms ∙ ap (λ (l : LauncherIs). l.journal.past) same in
     let family : opened.crew.family ≡ old.crew.family = ap (λ (l : LauncherIs). l.crew.family) opens ∙ (ap (λ (l : LauncherIs). l.crew.family) rooms ∙ ap (λ (l : LauncherIs). l.crew.family) same) in
@@ -116,6 +116,6 @@ tends_crashed C s k old asked roomy opened answer new is positive asks same room
     let past : opened.journal.past ≡ with_entry old.journal.holder (event.Crashed s (up_in old s)) old.journal.past =
     ap (λ (l : LauncherIs). l.journal.past) opens ∙ λ i. with_entry (number i) (event.Crashed s (is i)) (before i) in
     inr (
-      record { up = subst (λ (n : ℕ). 0 < n) is positive; mid = asked; asked = asks },
+      record { up = subst (λ (n : ℕ). 0 < n) is positive; living = living; mid = asked; asked = asks },
       subst (λ (x : ℕ × List (Entry LauncherEvent) × Family). Goes C x.0 s x.1 x.2 answer new) (λ i. (holder i, past i, family i)) goes,
     )

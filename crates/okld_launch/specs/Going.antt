@@ -1,5 +1,5 @@
 -- How a launch of service s goes: what worker w enters on the launcher's past J, the newest first, what is answered, and the launcher l in the end. The children told f before it.
-use Rattle.std.specs.Prelude.{◌≡◌, ◌≢◌, ◌⊎◌, ◌<◌, ℕ, zero, suc, ◌+◌, List, ◌∷◌, Some}
+use Rattle.std.specs.Prelude.{◌≡◌, ◌≢◌, ◌⊎◌, ◌<◌, ℕ, zero, suc, ◌+◌, true, List, ◌∷◌, None, Some, is_some}
 use Rattle.okws_base.specs.declared.journal.Entry.{Entry}
 use Rattle.okws_base.specs.declared.limit.TheConstants.{MOST_INCARNATIONS}
 use Rattle.okws_plan.specs.declared.configuration.Config.{Config}
@@ -10,7 +10,7 @@ use Rattle.okws_outer.specs.Lives.{Life, Asks}
 use Rattle.okws_outer.specs.declared.child.Ended.{Ended}
 use Rattle.okws_outer.specs.declared.child.Ended.TheVariants.{Yes}
 use Rattle.monitor_model.specs.Launcher.{begun, tries}
-use Rattle.launch_journal.specs.Launches.{Allows}
+use Rattle.launch_journal.specs.Launches.{Allows, given_up}
 use Rattle.launch_journal.specs.declared.next.Next.TheVariants as next
 use Rattle.launch_crew.specs.Crews.{child_of}
 use Rattle.launch_crew.specs.Told.{FailsBy}
@@ -81,10 +81,21 @@ GoesAsked C w s J f answer l =
     ((answer ≡ launched.NoMemory) × (l.journal.past ≡ J))
     ⊎ (((answer ≡ launched.Spent) × (begun J s ≡ MOST_INCARNATIONS) × (l.journal.past ≡ J)) ⊎ Goes C w s (with_entry w (event.Asked s) J) f answer l)
 
--- A crash of incarnation k of s is entered, and where k is the greatest begun, a launch follows.
+-- A service that was given up before is given up once more; or memory was refused, and nothing is entered.
+abbrev pub GivesUpAgain : ℕ → ℕ → List (Entry LauncherEvent) → Crashed → LauncherIs → Type 0
+GivesUpAgain w s J (crashed.Up j) l = ⊥
+GivesUpAgain w s J (crashed.Dead n) l = (n ≡ tries J s) × (l.journal.past ≡ with_entry w (event.Dead s n) J)
+GivesUpAgain w s J crashed.Spent l = ⊥
+GivesUpAgain w s J (crashed.Later j) l = ⊥
+GivesUpAgain w s J crashed.NoMemory l = l.journal.past ≡ J
+
+-- A crash of incarnation k of s is entered, and where k is the greatest begun, a launch follows; where s was given up before, it is given up once more.
 abbrev pub GoesCrashed : Config → ℕ → ℕ → ℕ → List (Entry LauncherEvent) → Family → Crashed → LauncherIs → Type 0
 GoesCrashed C w s k J f (crashed.Up j) l = (k ≡ begun J s) × Goes C w s (with_entry w (event.Crashed s k) J) f (launched.Up j) l
-GoesCrashed C w s k J f (crashed.Dead n) l = (k ≡ begun J s) × Goes C w s (with_entry w (event.Crashed s k) J) f (launched.Dead n) l
+GoesCrashed C w s k J f (crashed.Dead n) l =
+    (k ≡ begun J s)
+    × (((given_up J s ≡ None) × Goes C w s (with_entry w (event.Crashed s k) J) f (launched.Dead n) l)
+    ⊎ ((is_some (given_up J s) ≡ true) × GivesUpAgain w s (with_entry w (event.Crashed s k) J) (crashed.Dead n) l))
 GoesCrashed C w s k J f crashed.Spent l = (k ≡ begun J s) × Goes C w s (with_entry w (event.Crashed s k) J) f launched.Spent l
 GoesCrashed C w s k J f (crashed.Later j) l = (j ≡ begun J s) × (k < j) × (l.journal.past ≡ with_entry w (event.Crashed s k) J)
 GoesCrashed C w s k J f crashed.NoMemory l =
@@ -119,9 +130,10 @@ pub record IsAlive (s : ℕ) (old new : LauncherIs) : Type 0 where
   pub asked : AsksUp s old answer new
   pub not_ended : answer ≢ Yes
 
--- The child of s, which is up, said that it has ended.
+-- The child of s, which is up and was not given up, said that it has ended.
 pub record HasEnded (s : ℕ) (old : LauncherIs) : Type 0 where
   pub up : 0 < up_in old s
+  pub living : given_up old.journal.past s ≡ None
   pub mid : LauncherIs
   pub asked : AsksUp s old Yes mid
 

@@ -8,7 +8,9 @@ use Rattle.okws_plan.specs.declared.event.LauncherEvent.TheVariants as event
 use Rattle.okws_outer.specs.Families.{Family}
 use Rattle.monitor_model.specs.Launcher.{begun, tried}
 use Rattle.launch_journal.specs.Launches.{Launches}
+use Rattle.launch_crew.specs.Coming.{came_up}
 use Rattle.launch_crew.specs.Crews.{CrewIs, Below, IsUp, NoneStands, up_of}
+use Rattle.okld_launch.specs.Causing.{Caused, MayFollow}
 use Rattle.okld_launch.specs.Failures.{FailuresAreTold}
 
 -- Its journal, its crew, and the incarnation of each service that is up, 0 for none.
@@ -20,6 +22,14 @@ pub record LauncherIs : Type 0 where
 -- The incarnation of s that is up, 0 for none.
 abbrev pub up_in : LauncherIs → ℕ → ℕ
 up_in l s = slice_index l.ups s
+
+-- What was begun was begun for a cause, by what came up from the launcher's seats.
+abbrev pub AreCaused : LauncherIs → Type 0
+AreCaused l = Caused (came_up l.crew.sat) (up_in l) l.journal.past
+
+-- The next incarnation of s has a cause, unless it is the first one.
+abbrev pub MayLaunch : ℕ → LauncherIs → Type 0
+MayLaunch s l = MayFollow (came_up l.crew.sat) l.journal.past l.journal.past s (begun l.journal.past s)
 
 -- Each incarnation that was tried was begun.
 abbrev pub TriedAreBegun : List (Entry LauncherEvent) → Type 0
@@ -41,13 +51,14 @@ pub record IsLauncher (C : Config) (l : LauncherIs) : Type 0 where
   pub spare : length C.services ≤ l.crew.room
   pub each : (s : ℕ) → IsKept C l s
 
--- It is the launcher of a run with this site and this seed, which began when `first` was told of its children: for each Failed of its journal a fault was told since.
+-- It is the launcher of a run with this site and this seed, which began when `first` was told of its children: for each Failed of its journal a fault was told since. What was begun was begun for a cause.
 pub record IsPlaced (C : Config) (run_seed : List ℕ) (first : Family) (l : LauncherIs) (site : Config) (seed : List ℕ) : Type 0 where
   pub site_is : site ≡ C
   pub seed_is : seed ≡ run_seed
   pub few : length C.proxies ≤ MOST_PROXIES
   pub keeps : IsLauncher C l
   pub failed : FailuresAreTold first l.journal.past l.crew.family
+  pub caused : AreCaused l
 
 -- It may be entered that incarnation k of s failed: a fault was told for it too.
 abbrev pub MayFail : Family → ℕ → ℕ → LauncherIs → Type 0

@@ -1,4 +1,5 @@
 pub mod Failures
+pub mod Causing
 pub mod Launchers
 pub mod Entering
 pub mod States

@@ -5,8 +5,10 @@ use Rattle.okws_plan.specs.declared.configuration.Config.{Config}
 use Rattle.monitor_model.specs.Cell.{incarnation, last_booted}
 use Rattle.monitor_model.specs.Launcher.{begun}
 use Rattle.cell_locks.specs.Row.{seen_at}
+use Rattle.launch_crew.specs.Coming.{came_up}
 use Rattle.launch_crew.specs.Crews.{CrewIs, Under, IsQuiet, StandsAt, RunsAs, child_of}
 use Rattle.launch_crew.specs.Told.{TellsMore}
+use Rattle.okld_launch.specs.Causing.{BrokeOff}
 use Rattle.okld_launch.specs.Launchers.{LauncherIs, up_in}
 
 -- The launcher in a launch, the service, and its incarnation.
@@ -24,10 +26,11 @@ pub record IsBegun (C : Config) (items : ℕ) (a : LaunchIs) : Type 0 where
   pub entry : 0 < a.launcher.journal.room
   pub room : items + length C.services ≤ a.launcher.crew.room
 
--- Nothing was installed or booted of it.
+-- Nothing was installed or booted of it, and it neither came up nor failed.
 pub record IsStill (C : Config) (a : LaunchIs) : Type 0 where
   pub begins : IsBegun C (MOST_PROXIES + 4 + (MOST_PROXIES + 2 + (MOST_PROXIES + 4))) a
   pub under : Under a.service a.incarnation a.launcher.crew
+  pub fresh : BrokeOff (came_up a.launcher.crew.sat) a.launcher.journal.past a.service a.incarnation
 
 -- What was before it is ended everywhere.
 pub record IsRevoked (C : Config) (a : LaunchIs) : Type 0 where

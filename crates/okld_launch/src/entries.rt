@@ -1,13 +1,13 @@
 //! What the launcher enters in its journal, and what it knows by it.
 
-ghost use Rattle.std.specs.Prelude.{◌≡◌, ◌<◌, ◌≤◌, ◌+◌, ◌==◌, OnOk, OnErr, IfOk, IfNone, IfSome, Some, None, if◌then◌else◌, length};
+ghost use Rattle.std.specs.Prelude.{◌≡◌, ◌<◌, ◌≤◌, ◌+◌, ◌==◌, OnOk, OnErr, IfOk, IfNone, IfSome, Some, None, true, if◌then◌else◌, length};
 ghost use Rattle.okws_base.specs.declared.limit.TheConstants.{MOST_INCARNATIONS, MOST_PROXIES};
 ghost use Rattle.okws_plan.specs.declared.event.LauncherEvent.TheVariants as event;
 ghost use Rattle.monitor_model.specs.Cell.{last_booted};
-ghost use Rattle.monitor_model.specs.Launcher.{begun, tries};
+ghost use Rattle.monitor_model.specs.Launcher.{LauncherLaw, begun, may_give_up, tries};
 ghost use Rattle.launch_journal.specs.Launches.{Allows, entered, given_up};
 ghost use Rattle.launch_journal.specs.declared.next.Next.TheVariants as next;
-ghost use Rattle.okld_launch.specs.Launchers.{IsLauncher, MayFail, up_in};
+ghost use Rattle.okld_launch.specs.Launchers.{AreCaused, IsLauncher, MayFail, up_in};
 ghost use Rattle.okld_launch.specs.Going.{AsksUp, with_entry};
 
 use crate::launcher::Launcher;
@@ -114,7 +114,7 @@ impl<N: Staffed, J: Site, C: CellNames, K: Keeper, S: Sink, F: Children> Launche
     /// Gives the service up, and tells after how many tries.
     pub(crate) fn give_up(&mut self, service: u16) -> Result<u32, AllocError>
         requires service { service < length N.site.services }
-        requires may { Allows N.site self.old.journal.past service next.GiveUp }
+        requires may { may_give_up N.site self.old.journal.past service (tries self.old.journal.past service) ≡ true }
         ensures tries { IfOk result (λ n. n ≡ tries self.old.journal.past service) }
         ensures entered { IfOk result (λ n. self.new.journal.past ≡ with_entry self.old.journal.holder (event.Dead service n) self.old.journal.past) }
         ensures err { OnErr result (self.new.journal.past ≡ self.old.journal.past) }
@@ -172,9 +172,12 @@ impl<N: Staffed, J: Site, C: CellNames, K: Keeper, S: Sink, F: Children> Launche
 
     /// What a launcher's type tells of it.
     pub(crate) fn keeps(&self)
-        ensures { IsLauncher N.site self.now }
+        ensures is { IsLauncher N.site self.now }
+        ensures caused { AreCaused self.now }
+        ensures law { LauncherLaw N.site self.now.journal.past }
     {
         let _site = &self.site;
+        self.journal.keeps();
     }
 
     /// Takes in what another number has seen at a cell: what was booted there was begun.

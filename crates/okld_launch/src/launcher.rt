@@ -4,8 +4,10 @@ ghost use Rattle.std.specs.Prelude.{◌≡◌, ◌<◌, ◌≤◌, ℕ, [], leng
 ghost use Rattle.std.specs.Arc.{arc_value};
 ghost use Rattle.okws_base.specs.declared.limit.TheConstants.{MOST_PROXIES};
 ghost use Rattle.monitor_model.specs.Launcher.{LauncherLaw, begun};
+ghost use Rattle.launch_crew.specs.Coming.{came_up};
 ghost use Rattle.launch_crew.specs.Crews.{Below, crew_of};
 ghost use Rattle.launch_crew.specs.Recorded.{IsUnused};
+ghost use Rattle.okld_launch.specs.Causing.{AllCaused};
 ghost use Rattle.okld_launch.specs.Failures.{FailuresAreTold};
 
 use crate::named::Staffed;
@@ -27,7 +29,7 @@ use turn_lock::Journaled;
 
 /// The launcher of a site: its journal, its crew, and which incarnation of each service is up. By its type
 /// the journal keeps the launcher's law, nothing was launched that was not begun, what is up stands, and for
-/// each Failed that was entered a fault of the children was counted.
+/// each Failed that was entered a fault of the children was counted, and what was begun has its cause.
 #[derive(Drop)]
 pub struct Launcher<N: Staffed, J: Site, C: CellNames, K: Keeper, S: Sink, F: Children> {
     pub(crate) alloc: Global,
@@ -103,12 +105,13 @@ impl<N: Staffed, J: Site, C: CellNames, K: Keeper, S: Sink, F: Children> Launche
     F,
 > {
     /// What was entered, which keeps the launcher's law, and the crew, by which nothing was launched that
-    /// was not begun, and of whose children a fault was told for each Failed.
+    /// was not begun, and of whose children a fault was told for each Failed. What was begun has its cause.
     pub fn close(self) -> (Past<Entry<LauncherEvent>>, Crew<N, J, C, K, S, F>)
         ensures past { result.0 ≡ self.journal.past }
         ensures law { LauncherLaw N.site result.0 }
         ensures crew { crew_of result.1.recorder result.1.staff ≡ self.crew }
         ensures failed { FailuresAreTold N.children result.0 result.1.staff.family }
+        ensures caused { AllCaused (came_up result.1.recorder.sat) result.0 result.0 }
         ensures below { (s : ℕ) → Below s (begun result.0 s) result.1.recorder.sat result.1.recorder.watch }
         ensures shown { (s : ℕ) → s < length N.site.services → slice_index result.1.recorder.sat.board s ≡ begun result.0 s }
         ensures spare { length N.site.services ≤ result.1.recorder.room }

@@ -1,17 +1,17 @@
 //! How the launcher launches.
 
-ghost use Rattle.std.specs.Prelude.{◌≡◌, ◌≢◌, ◌<◌, ◌≤◌, ◌++◌, List, Some, None, length, option_to_list};
+ghost use Rattle.std.specs.Prelude.{◌≡◌, ◌≢◌, ◌<◌, ◌≤◌, ◌++◌, true, false, List, Some, None, is_some, length, option_to_list};
 ghost use Rattle.okws_base.specs.declared.journal.Entry.{Entry};
 ghost use Rattle.okws_plan.specs.declared.event.LauncherEvent.{LauncherEvent};
 ghost use Rattle.okws_plan.specs.declared.event.LauncherEvent.TheVariants as event;
 ghost use Rattle.okws_base.specs.Turns.{AddsBy};
-ghost use Rattle.monitor_model.specs.Launcher.{begun};
+ghost use Rattle.monitor_model.specs.Launcher.{begun, fell};
 ghost use Rattle.named_columns.specs.Launched.{by_entry};
-ghost use Rattle.launch_journal.specs.Launches.{Allows};
+ghost use Rattle.launch_journal.specs.Launches.{Allows, given_up};
 ghost use Rattle.launch_journal.specs.declared.next.Next.TheVariants as next;
-ghost use Rattle.okld_launch.specs.Launchers.{up_in};
+ghost use Rattle.okld_launch.specs.Launchers.{MayLaunch, up_in};
 ghost use Rattle.okld_launch.specs.Entering.{Enters, entries_of, most_entered};
-ghost use Rattle.okld_launch.specs.Going.{Attempts, Closes, Goes, GoesAsked, GoesCrashed, Ends, crashed_as, tended_as};
+ghost use Rattle.okld_launch.specs.Going.{Attempts, Closes, GivesUpAgain, Goes, GoesAsked, GoesCrashed, Ends, crashed_as, tended_as};
 
 use crate::answer::{Attempt, Crashed, Launched, Tended};
 use crate::entered::Entered;
@@ -110,6 +110,17 @@ impl<N: Staffed, J: Site, C: CellNames, K: Keeper, S: Sink, F: Children> Quiet<N
     }
 }
 
+// Whether the next incarnation may begin.
+fn begins(what: Next) -> bool
+    ensures yes { result ≡ true → what ≡ next.Begin }
+    ensures no { result ≡ false → what ≢ next.Begin }
+{
+    match what {
+        Next::Begin => true,
+        Next::GiveUp | Next::Dead(_) | Next::Spent => false,
+    }
+}
+
 // What is answered as a launch is.
 fn crashed_as(launched: Launched) -> Crashed
     ensures { result ≡ crashed_as launched }
@@ -152,6 +163,7 @@ impl<N: Staffed, J: Site, C: CellNames, K: Keeper, S: Sink, F: Children> Launche
     ) -> (Self, Attempt)
         requires service { service < length N.site.services }
         requires may { Allows N.site self.journal.past service next.Begin }
+        requires cause { MayLaunch service self }
         ensures attempts { Attempts N.site self.journal.holder service self.journal.past self.crew.family result.1 result.0 }
         ensures holder { result.0.journal.holder ≡ self.journal.holder }
     {
@@ -192,6 +204,31 @@ impl<N: Staffed, J: Site, C: CellNames, K: Keeper, S: Sink, F: Children> Launche
         }
     }
 
+    // Gives up a service once more that was given up before, and whose greatest incarnation has crashed since.
+    fn give_up_again(self, service: u16, crash: LauncherEvent) -> (Self, Crashed, Entered)
+        requires service { service < length N.site.services }
+        requires dead { is_some (given_up self.journal.past service) ≡ true }
+        requires fell { fell self.journal.past service ≡ true }
+        ensures again { GivesUpAgain self.journal.holder service self.journal.past result.1 result.0 }
+        ensures enters { (J : List (Entry LauncherEvent)) → Enters self.journal.holder (option_to_list (Some crash)) J self.journal.past → Enters self.journal.holder result.2 J result.0.journal.past }
+        ensures few { length result.2 ≤ most_entered N.site }
+        ensures holder { result.0.journal.holder ≡ self.journal.holder }
+    {
+        let mut launcher = self;
+        launcher.keeps();
+        match launcher.give_up(service) {
+            Ok(tries) => {
+                let dead = LauncherEvent::Dead { service, tries };
+                let entered = Entered::new(Some(crash), service, 1, 0, Some(dead));
+                (launcher, Crashed::Dead(tries), entered)
+            }
+            Err(_) => {
+                let entered = Entered::new(Some(crash), service, 1, 0, None);
+                (launcher, Crashed::NoMemory, entered)
+            }
+        }
+    }
+
     // Begins one incarnation after the other, until one is up or none may begin, and tells what was entered,
     // with the entry that opened the turn.
     pub(crate) fn go_on<R: Wait, G: Gate>(
@@ -203,7 +240,8 @@ impl<N: Staffed, J: Site, C: CellNames, K: Keeper, S: Sink, F: Children> Launche
         service: u16,
         opening: Option<LauncherEvent>,
     ) -> (Self, Launched, Entered)
-        requires { service < length N.site.services }
+        requires service { service < length N.site.services }
+        requires cause { MayLaunch service self }
         ensures goes { Goes N.site self.journal.holder service self.journal.past self.crew.family result.1 result.0 }
         ensures enters { (J : List (Entry LauncherEvent)) → Enters self.journal.holder (option_to_list opening) J self.journal.past → Enters self.journal.holder result.2 J result.0.journal.past }
         ensures few { length result.2 ≤ most_entered N.site }
@@ -214,7 +252,7 @@ impl<N: Staffed, J: Site, C: CellNames, K: Keeper, S: Sink, F: Children> Launche
         let first = launcher.greatest(service) + 1;
         let mut failed = 0;
         let mut what = launcher.next(service);
-        while what == Next::Begin {
+        while begins(what) {
             let (after, attempt) = launcher.attempt(rt, gate, locks, cells, service);
             launcher = after;
             match attempt {
@@ -256,6 +294,7 @@ impl<N: Staffed, J: Site, C: CellNames, K: Keeper, S: Sink, F: Children> Launche
         ensures few { length result.2 ≤ most_entered N.site }
         ensures holder { result.0.journal.holder ≡ self.journal.holder }
     {
+        self.keeps();
         self.go_on(rt, gate, locks, cells, service, None)
     }
 
@@ -287,7 +326,7 @@ impl<N: Staffed, J: Site, C: CellNames, K: Keeper, S: Sink, F: Children> Launche
     }
 
     /// Enters that an incarnation of a service has crashed, which was begun, and launches the service
-    /// where it was the greatest.
+    /// where it was the greatest. A service that was given up before is given up once more.
     pub fn crashed<R: Wait, G: Gate>(
         self,
         rt: &R,
@@ -314,6 +353,9 @@ impl<N: Staffed, J: Site, C: CellNames, K: Keeper, S: Sink, F: Children> Launche
         if incarnation < greatest {
             let entered = Entered::new(Some(crash), service, 1, 0, None);
             return (launcher, Crashed::Later(greatest), entered);
+        }
+        if launcher.given_up(service).is_some() {
+            return launcher.give_up_again(service, crash);
         }
         let (launcher, launched, entered) = launcher.go_on(
             rt,

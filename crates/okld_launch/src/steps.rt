@@ -8,10 +8,12 @@ ghost use Rattle.monitor_model.specs.Launcher.{begun};
 ghost use Rattle.cell_locks.specs.Row.{seen_at};
 ghost use Rattle.launch_journal.specs.Launches.{Allows, entered};
 ghost use Rattle.launch_journal.specs.declared.next.Next.TheVariants as next;
+ghost use Rattle.launch_crew.specs.Coming.{came_up};
 ghost use Rattle.launch_crew.specs.Crews.{Under, IsQuiet, StandsAt, RunsAs, NoneStands, child_of};
 ghost use Rattle.launch_crew.specs.Steps.{SameHands};
 ghost use Rattle.launch_crew.specs.Told.{FailsBy, TellsMore};
-ghost use Rattle.okld_launch.specs.Launchers.{MayFail, up_in};
+ghost use Rattle.okld_launch.specs.Causing.{BrokeOff};
+ghost use Rattle.okld_launch.specs.Launchers.{MayFail, MayLaunch, up_in};
 
 use crate::launcher::Launcher;
 use crate::named::Staffed;
@@ -47,10 +49,12 @@ impl<N: Staffed, J: Site, C: CellNames, K: Keeper, S: Sink, F: Children> Launche
     ) -> u32
         requires service { service < length N.site.services }
         requires may { Allows N.site self.old.journal.past service next.Begin }
+        requires cause { MayLaunch service self.old }
         requires room { 0 < self.old.journal.room }
         ensures is { result ≡ begun self.old.journal.past service + 1 }
         ensures journal { self.new.journal ≡ entered self.old.journal (event.Begun service result) }
         ensures under { Under service result self.new.crew }
+        ensures fresh { BrokeOff (came_up self.new.crew.sat) self.new.journal.past service result }
         ensures family { self.new.crew.family ≡ self.old.crew.family }
         ensures room { self.new.crew.room ≡ self.old.crew.room }
     {
@@ -69,6 +73,7 @@ impl<N: Staffed, J: Site, C: CellNames, K: Keeper, S: Sink, F: Children> Launche
         service: u16,
     )
         requires service { service < length N.site.services }
+        requires cause { MayLaunch service self.old }
         requires room { MOST_PROXIES + 4 + length N.site.services ≤ self.old.crew.room }
         ensures journal { self.new.journal ≡ self.old.journal }
         ensures quiet { IsQuiet N.site service self.new.crew }
@@ -178,7 +183,7 @@ impl<N: Staffed, J: Site, C: CellNames, K: Keeper, S: Sink, F: Children> Launche
     ) -> Result<(), AllocError>
         requires service { service < length N.site.services }
         requires counted { 0 < incarnation }
-        requires begun { incarnation ≤ begun self.old.journal.past service }
+        requires begun { incarnation ≡ begun self.old.journal.past service }
         requires stands { StandsAt N.site service incarnation self.old.crew.sat }
         requires child { RunsAs incarnation (child_of self.old.crew service) }
         requires down { up_in self.old service ≡ 0 }

@@ -46,6 +46,7 @@ impl<N: Staffed, J: Site, C: CellNames, K: Keeper, S: Sink, F: Children> Launche
         ensures holder { result.0.journal.holder ≡ self.journal.holder }
     {
         let mut launcher = self;
+        launcher.keeps();
         if let Some(tries) = launcher.given_up(service) {
             return (launcher, Tended::Dead(tries), Entered::nothing(service));
         }

@@ -43,7 +43,7 @@ launched_had (Wants ∷ pieces) h = inl (launched_had pieces h)
 
 -- ---- the counts
 
-within_rise : (e f m : ℕ) → counted e m ≤ f → WithinCount (rise e f) m
+pub within_rise : (e f m : ℕ) → counted e m ≤ f → WithinCount (rise e f) m
 within_rise e f m l = by (nat_le (2 ^ 64 - 1) f) refl
   where
     by : (b : Bool) → nat_le (2 ^ 64 - 1) f ≡ b → WithinCount (cond b None (Some (f - e))) m

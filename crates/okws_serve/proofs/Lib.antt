@@ -3,6 +3,7 @@ pub mod Manned
 pub mod Posting
 pub mod Attending
 pub mod Left
+pub mod Opened
 pub mod Running
 pub mod Finishing
 pub mod Stationing
@@ -12,4 +13,6 @@ pub mod Surviving
 pub mod Listing
 pub mod Pieces
 pub mod Whole
+pub mod Leading
 pub mod Connected
+pub mod Lawful

@@ -1,6 +1,7 @@
 -- The lists of a run's workers are made of whole pieces.
 use Rattle.std.proofs.Common.{◌≡◌, ◌≤◌, ◌<◌, ◌+◌, inl, inr, ℕ, suc, Bool, true, false, List, [], ◌∷◌, ◌++◌, length, map, filter_map, reverse, get_or, refl, sym, ap, ◌∙◌, subst, arith}
 use Rattle.std.proofs.lemmas.Bool.{true≢false}
+use Rattle.std.proofs.lemmas.List.{map-append}
 use Rattle.std.proofs.lemmas.List.Folds.{list_any-append}
 use Rattle.std.specs.Prelude.{◌&&◌, ◌||◌, is_some, is_none, Some, None}
 use Rattle.std.specs.List.{list_all, list_any}
@@ -26,11 +27,13 @@ use Rattle.cell_locks.proofs.Onlys.{new_at}
 use Rattle.worker_lives.specs.Beginning.{IsOfTurn, turned_alone}
 use Rattle.worker_lives.specs.Going.{GoesOn, IsBlank, Sights}
 use Rattle.worker_lives.specs.Listing.{are_told, first_item}
+use Rattle.worker_lives.specs.Waiting.{LeadsSo}
 use Rattle.worker_lives.proofs.Begun.{turns_alone_are_lives}
 use Rattle.worker_lives.proofs.Listed.{items_are_of_pieces, orders_are_of_pieces}
 use Rattle.worker_lives.proofs.Others.{others_leave_dialogs}
 use Rattle.worker_lives.proofs.Steps.{goings_are_lives, goings_join, lives_end_in_records}
 use Rattle.worker_lives.proofs.Told.{crashes_told, told_both}
+use Rattle.worker_lives.proofs.Waited.{pieces_lead}
 use Rattle.round_lives.specs.Laws.{is_accepted}
 use Rattle.round_lives.specs.Living.{IsOf, LivesOn, sights_of}
 use Rattle.round_lives.specs.Orders.{Steers, carried_out}
@@ -139,6 +142,11 @@ module _ (C : Config) (n : ℕ) (R : Record) (w : ℕ) (J K : Life) (many : leng
       → list_any (λ (piece : Piece). forbidden (first_item piece)) before ≡ false
   before_allowed forbidden few before first = any_first forbidden before ∙ (ap (list_any forbidden) first ∙ launches_allowed forbidden few J.seen.own begins.launches.only)
 
+  -- the first items of all pieces lead on
+  lead_on : (forbidden : Piece → Bool) (lives : LivesOn C w forbidden J K) (before : List Piece) → map first_item before ≡ J.seen.own → LeadsSo w false (map first_item (lives.pieces ++ before)) K.launcher.seen
+  lead_on forbidden lives before first =
+      subst (λ (items : List Own). LeadsSo w false items K.launcher.seen) (ap (λ (items : List Own). map first_item lives.pieces ++ items) (sym first) ∙ sym (map-append first_item lives.pieces before)) (lives.leads J.seen.own begins.launches.lead)
+
   pub list_is : (forbidden : Own → Bool) → ((item : Own) → is_launching item ≡ true → forbidden item ≡ false)
       → ((pieces : List Piece) (items : List Own) → IsWorker C R w pieces items → list_any forbidden items ≡ list_any (λ (piece : Piece). forbidden (first_item piece)) pieces)
       → LivesOn C w (λ (piece : Piece). forbidden (first_item piece)) J K → ListIsPieces C R forbidden w
@@ -154,6 +162,7 @@ module _ (C : Config) (n : ℕ) (R : Record) (w : ℕ) (J K : Life) (many : leng
             ∙ (ap (λ (b : Bool). b || list_any (λ (piece : Piece). forbidden (first_item piece)) l.before) lives.allowed ∙ before_allowed forbidden few l.before l.first));
         fits = pieced.1;
         told = crashes_told C R w all (list_of R w) many l.worker told;
+        lead = pieces_lead C R w all (list_of R w) K.launcher.seen many l.worker (lead_on (λ (piece : Piece). forbidden (first_item piece)) lives l.before l.first) ends.launcher;
       }
 
   -- what it carried out comes of the orders of which its life's pieces do

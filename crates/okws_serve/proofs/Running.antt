@@ -17,18 +17,21 @@ use Rattle.site_worker.specs.declared.console.Overseen.{Overseen}
 use Rattle.site_worker.specs.declared.door.Attended.{Attended}
 use Rattle.turn_lock.specs.Seats.{TurnIs}
 use Rattle.site_run.specs.Places.{AllIdle, PlacesAre, Placed, HasPlaces, SamePlaces}
+use Rattle.site_run.specs.Opening.{HasOpened}
 use Rattle.site_run.specs.Rows.{ChairsAre, Spacious, SameRoom, WorksAs}
 use Rattle.site_run.specs.Tied.{AllBegin, LifeBegins, MoreOf, Unused}
 use Rattle.site_run.proofs.Lists.{rising_pop}
 use Rattle.site_run.proofs.Seating.{push_length}
 use Rattle.site_run.proofs.Tying.{begin_pop, lives_begin, more_then}
 use Rattle.okws_serve.specs.Doors.{any_starved, is_fault}
+use Rattle.okws_serve.specs.Opened.{OpensFirst}
 use Rattle.okws_serve.specs.Posts.{DoorIs, ConsoleIs, OverseenBy, OverseenIf, WorksAt}
 use Rattle.okws_serve.specs.Manned.{ArePosted, AllWork, AllAttended, ConsoleDone, DoorsDone, doors_of, lives_of, attended_of, served_of}
 use Rattle.okws_serve.specs.declared.post.Post.{Post}
 use Rattle.okws_serve.specs.declared.post.Post.TheVariants.{Door, Console}
 use Rattle.okws_serve.proofs.Left.{served_push, counts_on, starved_push}
 use Rattle.okws_serve.proofs.Manned.{Done, all_done, doors_push, works_on, works_pop}
+use Rattle.okws_serve.proofs.Opened.{lives_opened}
 use Rattle.okws_serve.proofs.Posting.{idle_pop}
 
 -- the last of the places of doors
@@ -63,10 +66,11 @@ pub record AllServed {X : Type 0} (wire : X → ConnWire) (C : Config) (n : ℕ)
   pub none : console.overseen ≡ None
   pub begin : AllBegin C 0 (lives_of (doors_of doors))
   pub begins : LifeBegins C (length es) console.life
+  pub opened : OpensFirst C (length es + 1) (lives_of (doors_of doors))
 
 pub all_served : {X : Type 0} (wire : X → ConnWire) (C : Config) (n : ℕ) (t : TurnIs) (z : TableId) (most : ℕ) (chairs : ChairsAre) (es : List Entrance) (w : ConnWire) (before after qs : List (Post DoorIs ConsoleIs)) (q : Post DoorIs ConsoleIs)
-    → Unused C chairs → ArePosted t z most chairs es w before → AllWork wire C n before after → after ≡ qs ++ q ∷ [] → AllServed wire C n t z most es w qs q
-all_served wire C n t z most chairs es w before after qs q unused h work f =
+    → Unused C chairs → HasOpened C chairs → ArePosted t z most chairs es w before → AllWork wire C n before after → after ≡ qs ++ q ∷ [] → AllServed wire C n t z most es w qs q
+all_served wire C n t z most chairs es w before after qs q unused opened h work f =
     let ps = h.doors in
     let c = h.console in
     let v = subst (λ xs. AllWork wire C n xs (qs ++ q ∷ [])) h.posts_are (subst (AllWork wire C n before) f work) in
@@ -91,6 +95,7 @@ all_served wire C n t z most chairs es w before after qs q unused h work f =
       none = h.none;
       begin = first.0;
       begins = first.1;
+      opened = lives_opened C (length es + 1) lives c.life chairs h.seats (push_length lives c.life ∙ omega (arith, size)) opened;
     }
 
 -- posts of a run are as many as the doors and one
@@ -105,7 +110,7 @@ pub here_overseen : {X : Type 0} (wire : X → ConnWire) (C : Config) (n : ℕ) 
 here_overseen wire C n c q d w e = subst (λ x. WorksAt wire C n (Console c) x) e w
 
 -- the doors of a run were attended
-pub doors_done : {X : Type 0} (wire : X → ConnWire) (C : Config) (n : ℕ) (t : TurnIs) (z : TableId) (most : ℕ) (old new : PlacesAre) (ps qs : List (Post DoorIs ConsoleIs)) (connections : ℕ) (starved : Bool)
+abbrev pub doors_done : {X : Type 0} (wire : X → ConnWire) (C : Config) (n : ℕ) (t : TurnIs) (z : TableId) (most : ℕ) (old new : PlacesAre) (ps qs : List (Post DoorIs ConsoleIs)) (connections : ℕ) (starved : Bool)
     → Done wire C n t z most 0 ps qs → AllBegin C 0 (lives_of (doors_of ps)) → map (λ (d : DoorIs). d.entrance) (doors_of ps) ≡ old.entrances
     → new.entrances ≡ map (λ (d : DoorIs). d.entrance) (doors_of qs) → new.places ≡ map (λ (d : DoorIs). d.place) (doors_of qs)
     → connections ≡ capped (served_of (attended_of (doors_of qs))) → starved ≡ any_starved (attended_of (doors_of qs)) → AllIdle new.entrances

@@ -17,12 +17,12 @@ use Rattle.monitor_model.specs.Placed.{EachFrom}
 use Rattle.round_lives.proofs.Coming.{come_anyway}
 use Rattle.okws_serve.specs.Lived.{AreAllPieces, ListIsPieces}
 
-each_from : {A : Type 0} (P : ℕ → A → Type 0) (k : ℕ) (xs : List A) (d : A) → ((s m : ℕ) → s < length xs → m ≡ s + k → P m (get_or xs s d)) → EachFrom P k xs
+pub each_from : {A : Type 0} (P : ℕ → A → Type 0) (k : ℕ) (xs : List A) (d : A) → ((s m : ℕ) → s < length xs → m ≡ s + k → P m (get_or xs s d)) → EachFrom P k xs
 each_from P k [] d h = tt
 each_from P k (x ∷ xs) d h = (h 0 k (omega arith) (omega arith), each_from P (suc k) xs d (λ s m l e. h (suc s) m (omega arith) (omega arith)))
 
 -- a worker's list is the list of its number
-list_is : (R : Record) (w : ℕ) → w < length R.workers → list_of R w ≡ worker_list R w
+pub list_is : (R : Record) (w : ℕ) → w < length R.workers → list_of R w ≡ worker_list R w
 list_is R w l = get_or_append_left R.workers (R.launches ∷ []) [] w l
 
 come_told : (failed : Bool) (orders : List Ordered) (done : List _) (told : Option (List Ordered)) → come_of false orders done ≡ true → IfSome told (λ os. os ≡ orders) → IfSome told (λ os. come_of failed os done ≡ true)

@@ -1,7 +1,9 @@
 pub mod Posts
 pub mod Spent
 pub mod Doors
+pub mod Opened
 pub mod Manned
 pub mod Lived
 pub mod Connected
 pub mod Runs
+pub mod Told

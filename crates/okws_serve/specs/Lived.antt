@@ -13,16 +13,18 @@ use Rattle.monitor_model.specs.Merged.{list_of}
 use Rattle.monitor_model.specs.Outside.{Ordered, Outside, come_of, item_order}
 use Rattle.monitor_model.specs.Pieces.{ListsArePieces, is_whole, mode}
 use Rattle.monitor_model.specs.Talks.{talks}
+use Rattle.worker_lives.specs.Waiting.{leads_in}
 use Rattle.site_worker.specs.declared.console.Overseen.{Overseen}
 use Rattle.round_lives.specs.Orders.{Reads}
 use Rattle.okws_serve.specs.Doors.{is_fault}
 
--- The list of worker w is made of whole pieces, and no item of it is forbidden. Each dialog of it fits the entries that follow it, and each that is a crash is followed at once by the Crashed of its incarnation, or by NoMemory.
+-- The list of worker w is made of whole pieces, and no item of it is forbidden. Each dialog of it fits the entries that follow it, and each that is a crash is followed at once by the Crashed of its incarnation, or by NoMemory. What the worker entered at the launcher leads on.
 pub record ListIsPieces (C : Config) (R : Record) (forbidden : Own → Bool) (w : ℕ) : Type 0 where
   pub whole : IsTrue (is_whole (mode C R w (list_of R w)))
   pub allowed : IsFalse (list_any forbidden (list_of R w))
   pub fits : Each (IsFitting C R w) (talks (list_of R w))
   pub told : IsTrue (crashes_are_told R w (list_of R w))
+  pub lead : IsTrue (leads_in R w (list_of R w))
 
 -- What number w carried out for an operator comes of the orders that were taken from a console, in order: its list has a Publish or an Asked of its own for each that was obeyed, by what it was answered, and no other.
 pub record OrdersAreObeyed (C : Config) (R : Record) (w : ℕ) (old new : ConnWire) (failed : Bool) : Type 0 where

@@ -15,6 +15,7 @@ use Rattle.site_run.specs.Places.{AllIdle, PlacesAre}
 use Rattle.site_run.specs.Rows.{ChairsAre, WorksAs}
 use Rattle.site_run.specs.Tied.{AllBegin, LifeBegins, SeatsOf}
 use Rattle.okws_serve.specs.Doors.{any_starved, is_fault}
+use Rattle.okws_serve.specs.Opened.{OpensFirst}
 use Rattle.okws_serve.specs.Posts.{DoorIs, ConsoleIs, AttendedBy, WorksAt}
 use Rattle.okws_serve.specs.declared.post.Post.{Post}
 use Rattle.okws_serve.specs.declared.post.Post.TheVariants.{Door, Console}
@@ -119,10 +120,11 @@ pub record ConsoleDone (C : Config) (w : ℕ) (life : Life) (old new : ConnWire)
   pub oversees : Oversees C old new 0 lines before life how
   pub failed_is : failed ≡ is_fault how
 
--- All workers of a run left their posts, at the doors and at the console, and these are the seats of their lives.
+-- All workers of a run left their posts, at the doors and at the console, and these are the seats of their lives. The first of these lives began with the first launches of all services.
 pub record WorkDone {X : Type 0} (wire : X → ConnWire) (C : Config) (n : ℕ) (z : TableId) (most : ℕ) (chairs : ChairsAre) (old new : PlacesAre) (before after : ConnWire) (connections : ℕ) (starved failed : Bool) : Type 0 where
   pub lives : List Life
   pub last : Life
   pub seats : SeatsOf (lives ++ last ∷ []) chairs
   pub doors : DoorsDone wire C n z most lives old new connections starved
+  pub opened : OpensFirst C (length old.entrances + 1) (lives_of doors.before)
   pub console : ConsoleDone C (length old.entrances) last before after failed

@@ -1,13 +1,15 @@
 -- What a run does with its objects.
-use Rattle.std.specs.Prelude.{◌<◌, ℕ, Bool, true, List, length}
+use Rattle.std.specs.Prelude.{◌<◌, ℕ, Bool, true, List, [], length, IsTrue}
 use Rattle.std.specs.declared.option.Option.{Option}
 use Rattle.okws_plan.specs.declared.configuration.Config.{Config}
 use Rattle.okws_outer.specs.Conns.{ConnWire}
 use Rattle.okws_outer.specs.Doors.{Entrance}
 use Rattle.okws_outer.specs.Families.{Family}
-use Rattle.monitor_model.specs.Lawful.{AllStandThere}
+use Rattle.monitor_model.specs.Causes.{all_lead_on, all_were_caused}
+use Rattle.monitor_model.specs.Lawful.{AllStandThere, JournalsAreLawful}
 use Rattle.monitor_model.specs.Legality.{ListsMakeJournals}
 use Rattle.monitor_model.specs.Missing.{MissesAreTrue}
+use Rattle.monitor_model.specs.Outside.{Outside}
 use Rattle.monitor_model.specs.Pieces.{is_accept_item, is_ordered}
 use Rattle.monitor_model.specs.Placed.{EachFrom}
 use Rattle.okld_launch.specs.Failures.{FailuresAreTold}
@@ -17,6 +19,8 @@ use Rattle.site_run.specs.Closing.{WritesLog, AllKept}
 use Rattle.okws_serve.specs.Connected.{ServesConnections}
 use Rattle.okws_serve.specs.Doors.{ServesConsole, ServesDoors}
 use Rattle.okws_serve.specs.Lived.{AreAllPieces, ListIsPieces, OrdersAreObeyed}
+use Rattle.okws_serve.specs.Opened.{BeginsWithLaunches}
+use Rattle.okws_serve.specs.Told.{TellsFaults}
 use Rattle.okws_serve.specs.declared.outfit.Ran.{Ran}
 
 -- What objects are like: the doors, the console, what is told of the children, the keepers of the proxies, and the log's sink, by what it was given, where it tells, and by its count of faults.
@@ -45,6 +49,10 @@ pub record Runs {X : Type 0} (wire : X → ConnWire) (C : Config) (seed : List �
   pub orders : OrdersAreObeyed C ran.record (length doors) console left.console ran.console_failed
   pub pieces : AreAllPieces C ran.record (length doors) orders.orders ran.console_failed
   pub connections : ServesConnections wire C ran.record doors left.entrances
+  pub lead : IsTrue (all_lead_on ran.record [] ran.record.launcher)
+  pub caused : IsTrue (all_were_caused ran.record ran.record.launcher)
+  pub first : BeginsWithLaunches C ran.record
+  pub lawful : (T : Outside) → TellsFaults T.keepers start.keeper_faults 0 left.keepers → JournalsAreLawful C seed T ran.record
   pub missed : MissesAreTrue ran.record
   pub stands : EachFrom (λ s J. AllStandThere J) 0 ran.record.cells
   pub laws : KeepLaws C seed n ran.record

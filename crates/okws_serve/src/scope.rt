@@ -4,6 +4,7 @@ ghost use Rattle.std.specs.Prelude.{◌≡◌, ◌≤◌, ◌<◌, ◌+◌, ◌*
 ghost use Rattle.okws_base.specs.declared.limit.TheConstants.{MOST_SERVICES, MOST_TEMPLATES, MOST_CONNECTIONS, GREATEST_RETRY};
 ghost use Rattle.live_board.specs.Seats.{AllAt};
 ghost use Rattle.site_worker.specs.declared.worker.TheConstants.{TURN_ITEMS};
+ghost use Rattle.site_run.specs.Opening.{IsUnopened};
 ghost use Rattle.site_run.specs.Places.{AllIdle, Placed, HasPlaces};
 ghost use Rattle.site_run.specs.Rooms.{HasRoom};
 ghost use Rattle.site_run.specs.Rows.{Seated, Spacious, SameRoom, first_spare};
@@ -126,6 +127,7 @@ where
     requires most { ground.now.most ≤ MOST_CONNECTIONS }
     requires seated { Seated ground.now.turn.now (length N.site.services) chairs.old }
     requires unused { Unused N.site chairs.old }
+    requires unopened { IsUnopened chairs.old }
     requires spare { length N.site.services * TURN_ITEMS ≤ first_spare chairs.old }
     requires placed { Placed ground.now.numbers.now.id places.old }
     requires alike { length chairs.old.seats ≡ length places.old.entrances + 1 }

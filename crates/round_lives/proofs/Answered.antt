@@ -139,30 +139,30 @@ module _ (C : Config) (n w : ℕ) (asked : Asked) (told : Told) (reply : Replied
         → Follows C s k answer told reply N K → Answers C w asked told reply J K
     follows_answers spoken.Reply J M N K of a t h then f =
         let here : LivesFor C w (visit.Accepted asked.path h.outcome ∷ []) J N
-        = visits_by C w asked.path asked.head asked.content h.outcome J N (visited C n w s k asked spoken.Reply J M N N of a t h refl refl refl) then (told_last s k end.Reply h.outcome (seen_at N.cells s) refl h.had.tells) in
+        = visits_by C w asked.path asked.head asked.content h.outcome J N (visited C n w s k asked spoken.Reply J M N N of a t h refl refl refl) (t.launcher_is ∙ a.rest.launcher_is) then (told_last s k end.Reply h.outcome (seen_at N.cells s) refl h.had.tells) in
         went spoken.Reply J M N K h (subst (LivesFor C w (visit.Accepted asked.path h.outcome ∷ []) J) (sym f.2) here)
         (λ method. ap (λ (x : Told). outcome_response x reply method) f.0 ∙ reply_text s k h.outcome (seen_at N.cells s) reply method h.had.tells f.1)
     follows_answers (spoken.Crashed why) J M N K of a t h then f =
         let last : SpokeLast s k (crash_end why) h.outcome (seen_at N.cells s) = h.had.tells in
         went (spoken.Crashed why) J M N K h
-        (crash_visits C w s k asked.path asked.head asked.content h.outcome last.0 J N K last.1 (visited C n w s k asked (spoken.Crashed why) J M N N of a t h refl refl refl) then f.1)
+        (crash_visits C w s k asked.path asked.head asked.content h.outcome last.0 J N K last.1 (visited C n w s k asked (spoken.Crashed why) J M N N of a t h refl refl refl) (t.launcher_is ∙ a.rest.launcher_is) then f.1)
         (λ method. ap (λ (x : Told). outcome_response x reply method) f.0 ∙ spoke_text s k (crash_end why) h.outcome (seen_at N.cells s) reply method (crash_alike why method) last)
     follows_answers (spoken.Missed wanted is) J M N K of a t h then f =
         let here : LivesFor C w (visit.Accepted asked.path h.outcome ∷ []) J N
-        = visits_by C w asked.path asked.head asked.content h.outcome J N (visited C n w s k asked (spoken.Missed wanted is) J M N N of a t h refl refl refl) then (ap (λ (x : Outcome). outcome_is_told x None) h.had.tells) in
+        = visits_by C w asked.path asked.head asked.content h.outcome J N (visited C n w s k asked (spoken.Missed wanted is) J M N N of a t h refl refl refl) (t.launcher_is ∙ a.rest.launcher_is) then (ap (λ (x : Outcome). outcome_is_told x None) h.had.tells) in
         went (spoken.Missed wanted is) J M N K h (subst (LivesFor C w (visit.Accepted asked.path h.outcome ∷ []) J) (sym f.1) here)
         (λ method. ap (λ (x : Told). outcome_response x reply method) f.0 ∙ ap (λ (x : Outcome). outcome_text x method) (sym h.had.tells))
     follows_answers (spoken.Superseded i shown) J M N K of a t h then f =
         let last : SpokeLast s k (end.Superseded shown) h.outcome (seen_at N.cells s) = h.had.tells in
         let here : LivesFor C w (visit.Accepted asked.path h.outcome ∷ []) J N
-        = visits_by C w asked.path asked.head asked.content h.outcome J N (visited C n w s k asked (spoken.Superseded i shown) J M N N of a t h refl refl refl) then
+        = visits_by C w asked.path asked.head asked.content h.outcome J N (visited C n w s k asked (spoken.Superseded i shown) J M N N of a t h refl refl refl) (t.launcher_is ∙ a.rest.launcher_is) then
         (told_last s k (end.Superseded shown) h.outcome (seen_at N.cells s) refl last) in
         went (spoken.Superseded i shown) J M N K h (subst (LivesFor C w (visit.Accepted asked.path h.outcome ∷ []) J) (sym f.1) here)
         (λ method. ap (λ (x : Told). outcome_response x reply method) f.0 ∙ spoke_text s k (end.Superseded shown) h.outcome (seen_at N.cells s) reply method (λ items others. refl) last)
     follows_answers spoken.NoMemory J M N K of a t h then f =
         let sees : Starves N K = f.1 in
         went spoken.NoMemory J M N K h
-        (visits_by C w asked.path asked.head asked.content h.outcome J K (visited C n w s k asked spoken.NoMemory J M N K of a t h sees.seen_is sees.launcher_is sees.cells_is)
+        (visits_by C w asked.path asked.head asked.content h.outcome J K (visited C n w s k asked spoken.NoMemory J M N K of a t h sees.seen_is sees.launcher_is sees.cells_is) (sees.launcher_is ∙ (t.launcher_is ∙ a.rest.launcher_is))
         (sees_of w N K (noted N.seen own.NoMemory) sees then) (ap (λ (x : Outcome). outcome_is_told x None) h.had.tells))
         (λ method. ap (λ (x : Told). outcome_response x reply method) f.0 ∙ ap (λ (x : Outcome). outcome_text x method) (sym h.had.tells))
 

@@ -68,7 +68,7 @@ same_events w xs ys is = sym (back xs) ∙ ap (map (λ (e : Entry LauncherEvent)
     back [] = refl
     back (z ∷ zs) = ap (λ (rest : List LauncherEvent). z ∷ rest) (back zs)
 
-told_events : (w : ℕ) (events xs : List LauncherEvent) (J K : List (Entry LauncherEvent)) → K ≡ entries_of w events ++ J → K ≡ entries_of w xs ++ J → events ≡ xs
+pub told_events : (w : ℕ) (events xs : List LauncherEvent) (J K : List (Entry LauncherEvent)) → K ≡ entries_of w events ++ J → K ≡ entries_of w xs ++ J → events ≡ xs
 told_events w events xs J K enters is = same_events w events xs (append_cancel_right (entries_of w events) (entries_of w xs) J (sym enters ∙ is))
 
 behind : (w : ℕ) (xs : List LauncherEvent) (e : LauncherEvent) (J : List (Entry LauncherEvent)) → entries_of w xs ++ with_entry w e J ≡ entries_of w (xs ++ e ∷ []) ++ J
@@ -112,8 +112,11 @@ pub crash_entered : (C : Config) (w s k : ℕ) (J : List (Entry LauncherEvent)) 
     → GoesCrashed C w s k J f answer l → BeginsWithCrash s k events answer × (list_any is_asked events ≡ false)
 crash_entered C w s k J f events (crashed.Up j) l enters h =
     let it = entered_behind w (event.Crashed s k) events J l.journal.past refl enters (goes_adds C w s (with_entry w (event.Crashed s k) J) f (launched.Up j) l h.1) in (inr it.0, it.1)
-crash_entered C w s k J f events (crashed.Dead n) l enters h =
+crash_entered C w s k J f events (crashed.Dead n) l enters (is, inl h) =
     let it = entered_behind w (event.Crashed s k) events J l.journal.past refl enters (goes_adds C w s (with_entry w (event.Crashed s k) J) f (launched.Dead n) l h.1) in (inr it.0, it.1)
+crash_entered C w s k J f events (crashed.Dead n) l enters (is, inr h) =
+    let J1 = with_entry w (event.Crashed s k) J in
+    let it = entered_behind w (event.Crashed s k) events J l.journal.past refl enters (one w (event.Dead s n) J1 J1 l.journal.past (none w J1 J1 refl) refl h.1.1) in (inr it.0, it.1)
 crash_entered C w s k J f events crashed.Spent l enters h =
     let it = entered_behind w (event.Crashed s k) events J l.journal.past refl enters (goes_adds C w s (with_entry w (event.Crashed s k) J) f launched.Spent l h.1) in (inr it.0, it.1)
 crash_entered C w s k J f events (crashed.Later j) l enters h =

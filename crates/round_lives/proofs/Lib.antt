@@ -1,5 +1,7 @@
 pub mod Coming
 pub mod Entered
+pub mod Led
+pub mod Awaited
 pub mod Stepped
 pub mod Visiting
 pub mod Answered

@@ -11,7 +11,7 @@ use Rattle.okws_plan.specs.declared.event.LauncherEvent.TheVariants as event
 use Rattle.okws_outer.specs.Conns.{ConnWire}
 use Rattle.okws_outer.specs.Streams.{AppendsPrefix}
 use Rattle.monitor_model.specs.Outside.{Order, Publishes as Publication, Relaunches as Relaunch, Became, Obeyed, Ordered, come_of, item_order}
-use Rattle.monitor_model.specs.Worker.{Piece, Launched}
+use Rattle.monitor_model.specs.Worker.{Piece, Launched, Wants}
 use Rattle.worker_lives.specs.Listing.{first_item}
 use Rattle.admin_console.specs.Answers.{answer_text, publishing_answer, relaunching_answer}
 use Rattle.admin_console.specs.Orders.{order_of}
@@ -26,7 +26,7 @@ use Rattle.admin_console.specs.declared.step.Stepped.{Stepped}
 use Rattle.admin_console.specs.declared.step.Stepped.TheVariants as stepped
 use Rattle.okld_launch.specs.declared.answer.Launched.{Launched as Launch}
 use Rattle.site_worker.specs.Commands.{Commands, Oversees, StepsAt, ends_by}
-use Rattle.site_worker.specs.Launching.{Asks}
+use Rattle.site_worker.specs.Launching.{Asks, launch_starved}
 use Rattle.site_worker.specs.Lives.{Life}
 use Rattle.site_worker.specs.Steering.{Publishes, Relaunches, told_of}
 use Rattle.site_worker.specs.declared.console.Overseen.{Overseen}
@@ -34,9 +34,12 @@ use Rattle.site_worker.specs.declared.console.Overseen.TheVariants as overseen
 use Rattle.round_lives.specs.Laws.{is_accepted, is_order}
 use Rattle.round_lives.specs.Living.{IsOf, LivesOn}
 use Rattle.round_lives.specs.Orders.{AreAnswered, AreBehind, EndsBehind, Reads, Steers, Taken, Takes, became_of, carried_out, order_by, order_in, orders_in}
+use Rattle.worker_lives.specs.Waiting.{owes}
+use Rattle.round_lives.proofs.Awaited.{with_wants}
 use Rattle.round_lives.proofs.Coming.{come_then, comes_alone, filter_map-both, filter_map-reverse}
 use Rattle.round_lives.proofs.Entered.{BeginsWithAsked, Behind, asked_entered, is_asked}
-use Rattle.round_lives.proofs.Stepped.{lives_then, lives_then_by, publishes_lives, publishes_lives_by, same_lives, sees_lives, starves_lives, turned_lives, turned_lives_by, unaccepted_pieces, unasked_pieces, where_lives}
+use Rattle.round_lives.proofs.Led.{asks_led}
+use Rattle.round_lives.proofs.Stepped.{lives_then, lives_then_by, publishes_lives, publishes_lives_by, same_lives, sees_lives, starves_lives, turn_led, turned_lives, turned_lives_by, unaccepted_pieces, unasked_pieces}
 
 -- ---- pieces that carry nothing out
 
@@ -82,7 +85,7 @@ unordered (piece ∷ pieces) h =
 module _ (C : Config) (w : ℕ) where
   idles : (orders : List Ordered) (J K : Life) → come_of false orders [] ≡ true → LivesOn C w is_busy J K → Steers C w orders J K
   idles orders J K none lives = record {
-    lives = record { pieces = lives.pieces; goes = lives.goes; same = lives.same; told = lives.told; allowed = unaccepted lives.pieces lives.allowed };
+    lives = record { pieces = lives.pieces; goes = lives.goes; same = lives.same; told = lives.told; allowed = unaccepted lives.pieces lives.allowed; leads = lives.leads };
     comes = subst (λ (done : List Order). come_of false orders done ≡ true) (sym (nothing_carried lives.pieces (unordered lives.pieces lives.allowed))) none;
   }
 
@@ -93,9 +96,6 @@ module _ (C : Config) (w : ℕ) where
         (sym (ap carried_out (lives_then_by C w is_accepted I J K i.lives j.lives) ∙ filter_map-both order_of_piece i.lives.pieces j.lives.pieces))
         (come_then orders later (carried_out i.lives.pieces) (carried_out j.lives.pieces) i.comes j.comes);
   }
-
-  steers_on : (orders : List Ordered) (I J K : Life) → Steers C w orders I J → Steers C w [] J K → Steers C w orders I K
-  steers_on orders I J K i j = subst (λ (os : List Ordered). Steers C w os I K) (append-nil orders) (steers_then orders [] I J K i j)
 
   same_steers : (orders : List Ordered) (J K : Life) → come_of false orders [] ≡ true → IsOf w J → K ≡ J → Steers C w orders J K
   same_steers orders J K none of is = idles orders J K none (same_lives C w is_busy J K of is)
@@ -132,6 +132,11 @@ module _ (C : Config) (w : ℕ) where
           ap carried_out (map_push more) ∙ filter_map-both order_of_piece (Launched (event.Asked s) ∷ []) (map Launched more)
           ∙ ap (λ (done : List Order). Relaunch s ∷ done) (nothing_carried (map Launched more) (unasked_pieces more unasked))
 
+  -- want of memory carries out nothing
+  carried_where : (starved : Bool) (pieces : List Piece) → carried_out (with_wants starved pieces) ≡ carried_out pieces
+  carried_where true pieces = filter_map-both order_of_piece pieces (Wants ∷ []) ∙ append-nil (carried_out pieces)
+  carried_where false pieces = refl
+
   -- what a launch that was asked for entered comes of the order
   launch_comes : (s line : ℕ) (answer : Launch) (events : List LauncherEvent) → BeginsWithAsked s events answer
       → come_of false (record { order = Relaunch s; became = became_of (relaunching_answer line (told_of answer)) } ∷ []) (carried_out (map Launched events)) ≡ true
@@ -142,16 +147,18 @@ module _ (C : Config) (w : ℕ) where
   asks_steers : (s line : ℕ) (answer : Launch) (J K : Life) → IsOf w J → Asks C s answer J K → Steers C w (record { order = Relaunch s; became = became_of (relaunching_answer line (told_of answer)) } ∷ []) J K
   asks_steers s line answer J K of h =
       let t = h.relaunches in
+      let starved = launch_starved answer in
       let orders : List Ordered = record { order = Relaunch s; became = became_of (relaunching_answer line (told_of answer)) } ∷ [] in
       let enters = t.turn.seen_is ∙ t.turn.enters in
       let entered : BeginsWithAsked s h.events answer = asked_entered C J.launcher.number s t.before.journal.past t.before.crew.family h.events answer t.after t.turn.enters t.goes in
-      let lives : LivesOn C w is_accepted J h.mid = turned_lives C w is_accepted h.events J h.mid t.before.journal.past (unaccepted_pieces h.events) of h.only t.turn.grows enters in
-      let turn : Steers C w orders J h.mid = record {
-        lives = lives;
-        comes = subst (λ (pieces : List Piece). come_of false orders (carried_out pieces) ≡ true)
-            (sym (turned_lives_by C w is_accepted h.events J h.mid t.before.journal.past (unaccepted_pieces h.events) of h.only t.turn.grows enters)) (launch_comes s line answer h.events entered);
-      } in
-      steers_on orders J h.mid K turn (idles [] h.mid K refl (where_lives C w is_busy _ h.mid K refl lives.same h.notes))
+      let led = turn_led J.launcher.number (owes starved h.events) h.events t.before.journal.past t.after.journal.past h.mid.launcher.seen t.turn.seen_is
+      (asks_led C J.launcher.number s h.events t.before.journal.past t.before.crew.family answer t.after t.turn.enters t.goes) in
+      record {
+        lives = turned_lives C w is_accepted starved h.events J h.mid K t.before.journal.past refl (unaccepted_pieces h.events) of h.only t.turn.grows enters led h.notes;
+        comes = subst (λ (done : List Order). come_of false orders done ≡ true)
+            (sym (ap carried_out (turned_lives_by C w is_accepted starved h.events J h.mid K t.before.journal.past refl (unaccepted_pieces h.events) of h.only t.turn.grows enters led h.notes) ∙ carried_where starved (map Launched h.events)))
+            (launch_comes s line answer h.events entered);
+      }
 
   relaunches_steers : (s line : ℕ) (r : Relaunching) (J K : Life) → IsOf w J → Relaunches C J s r K → Steers C w (record { order = Relaunch s; became = became_of (relaunching_answer line r) } ∷ []) J K
   relaunches_steers s line r J K of (inl h) =
@@ -240,7 +247,7 @@ module _ (C : Config) (w : ℕ) where
       subst (Last x y before after J K) (same_some overseen.ConsoleFault how is)
       (record { last = it.one ∷ []; ends = (it.takes, subst (λ (b : Answer). AppendsPrefix x.given y.given (answer_text b)) (sym it.answer_is) h.1, h.2); steers = it.steers })
   last_step x y before after J K (stepped.ConsoleFault None) how of h is = subst (Last x y before after J K) (same_some overseen.ConsoleFault how is)
-      (record { last = []; ends = (h.0, h.1, h.2, h.4); steers = same_steers [] J K refl of h.3 })
+      (record { last = []; ends = (h.0, h.1, h.5, h.2, h.4); steers = same_steers [] J K refl of h.3 })
 
   pub consoles_are_obeyed : (x y : ConnWire) (before after : ℕ) (J K : Life) (how : Overseen) → IsOf w J → Oversees C x y before after J K how
       → (orders : List Ordered) × Reads C x y before after how orders × Steers C w orders J K

@@ -1,5 +1,5 @@
 -- Each thing that a worker does is pieces of its list.
-use Rattle.std.proofs.Common.{◌≡◌, ℕ, ◌≤◌, Bool, true, false, not, List, [], ◌∷◌, ◌++◌, map, refl, sym, ap, ◌∙◌, subst, eq-eqb, Option, Some, None}
+use Rattle.std.proofs.Common.{◌≡◌, ℕ, ◌≤◌, Bool, true, false, not, List, [], ◌∷◌, ◌++◌, map, refl, sym, ap, ◌∙◌, subst, append-nil, eq-eqb, Option, Some, None}
 use Rattle.std.proofs.lemmas.List.Folds.{list_any-append}
 use Rattle.std.specs.List.{list_any}
 use Rattle.std.specs.Prelude.{◌||◌, slice_index, slice_set}
@@ -13,10 +13,12 @@ use Rattle.okws_plan.specs.declared.event.PubdEvent.TheVariants as pubd
 use Rattle.monitor_model.specs.declared.record.CellEvent.{CellEvent}
 use Rattle.monitor_model.specs.declared.record.Dialog.{Dialog}
 use Rattle.monitor_model.specs.declared.record.End.{End}
+use Rattle.monitor_model.specs.declared.record.Own.{Own}
 use Rattle.monitor_model.specs.declared.record.Own.TheVariants as own
 use Rattle.monitor_model.specs.declared.verdict.Way.TheVariants as way
 use Rattle.monitor_model.specs.Cell.{dialogs_of}
 use Rattle.monitor_model.specs.Causes.{is_crash}
+use Rattle.monitor_model.specs.Launcher.{begun}
 use Rattle.monitor_model.specs.Seen.{Seen, AtOkd, AtPubd, noted}
 use Rattle.monitor_model.specs.Worker.{Outcome, Spoke, Piece, Accepted, Published, Launched, Wants}
 use Rattle.service_cell.specs.declared.answer.Spoken.{Spoken}
@@ -25,18 +27,21 @@ use Rattle.cell_locks.specs.Row.{CellsSeen, seen_at}
 use Rattle.door_worker.specs.Asking.{Asked}
 use Rattle.okld_launch.specs.declared.answer.Launched.{Launched as Launch}
 use Rattle.site_worker.specs.Handling.{Accepts, Talks, asker_of}
-use Rattle.site_worker.specs.Launching.{Asks, OnlyLauncher, with_launches}
+use Rattle.site_worker.specs.Launching.{Asks, OnlyLauncher, launch_starved, with_launches}
 use Rattle.site_worker.specs.Lives.{Life, Sees, Starves, StarvesWhere, number_of}
 use Rattle.worker_lives.specs.Going.{GoesOn, entries_by}
-use Rattle.worker_lives.specs.Listing.{are_told, outcome_is_told}
+use Rattle.worker_lives.specs.Listing.{are_told, first_item, outcome_is_told}
 use Rattle.worker_lives.specs.Talking.{Had, SpokeLast, with_want}
+use Rattle.worker_lives.specs.Waiting.{LeadsSo, owes, turn_leads}
 use Rattle.worker_lives.proofs.Others.{others_leave_dialogs}
 use Rattle.worker_lives.proofs.Steps.{goings_join, publications_are_pieces, rests_are_no_pieces, turns_are_pieces, wants_are_pieces}
 use Rattle.worker_lives.proofs.Talked.{dialogs_are_outcomes, visits_are_pieces}
 use Rattle.worker_lives.proofs.Told.{told_both}
 use Rattle.round_lives.specs.Living.{IsOf, LivesOn, sights_of}
 use Rattle.round_lives.specs.Laws.{is_accepted, is_order}
+use Rattle.round_lives.proofs.Awaited.{firsts_both, item_leads, same_leads, turn_leads_on, want_leads, with_wants}
 use Rattle.round_lives.proofs.Entered.{is_asked}
+use Rattle.round_lives.proofs.Led.{asks_led}
 
 -- ---- what lives on
 
@@ -47,6 +52,7 @@ lives_then C w forbidden I J K i j = record {
   same = j.same;
   told = told_both None i.pieces j.pieces i.told j.told;
   allowed = list_any-append forbidden j.pieces i.pieces ∙ ap (λ (b : Bool). b || list_any forbidden i.pieces) j.allowed ∙ i.allowed;
+  leads = λ items h. subst (λ (xs : List Own). LeadsSo w false xs K.launcher.seen) (sym (firsts_both j.pieces i.pieces items)) (j.leads (map first_item i.pieces ++ items) (i.leads items h));
 }
 
 pub lives_then_by : (C : Config) (w : ℕ) (forbidden : Piece → Bool) (I J K : Life) (i : LivesOn C w forbidden I J) (j : LivesOn C w forbidden J K) → (lives_then C w forbidden I J K i j).pieces ≡ j.pieces ++ i.pieces
@@ -60,6 +66,7 @@ same_lives C w forbidden J K of is = subst (LivesOn C w forbidden J) (sym is) (r
   same = of;
   told = refl;
   allowed = refl;
+  leads = λ items h. h;
 })
 
 -- ---- what was seen of the columns alone
@@ -83,6 +90,7 @@ starves_lives C w forbidden J K wants of h = record {
   same = sees_of w J K (noted J.seen own.NoMemory) h of;
   told = refl;
   allowed = rw (wants) refl;
+  leads = want_leads w false J K h.launcher_is;
 }
 
 pub sees_lives : (C : Config) (w : ℕ) (forbidden : Piece → Bool) (J K : Life) → IsOf w J → Sees J.seen J K → LivesOn C w forbidden J K
@@ -92,6 +100,7 @@ sees_lives C w forbidden J K of h = record {
   same = sees_of w J K J.seen h of;
   told = refl;
   allowed = refl;
+  leads = same_leads w J K h.launcher_is;
 }
 
 pub publishes_lives : (C : Config) (w : ℕ) (forbidden : Piece → Bool) (J K : Life) (t : ℕ) (content : List ℕ) (before : _) → forbidden (Published t content) ≡ false → IsOf w J
@@ -103,6 +112,7 @@ publishes_lives C w forbidden J K t content before allowed of at h = record {
   same = sees_of w J K K.seen h of;
   told = refl;
   allowed = rw (allowed) refl;
+  leads = item_leads w (own.Pubd (pubd.Publish t content)) J K refl h.launcher_is;
 }
 
 pub publishes_lives_by : (C : Config) (w : ℕ) (forbidden : Piece → Bool) (J K : Life) (t : ℕ) (content : List ℕ) (before : _) (allowed : forbidden (Published t content) ≡ false) (of : IsOf w J)
@@ -134,26 +144,42 @@ turned_goes C w events J K before of only grows enters =
     subst (GoesOn C w (map Launched events) (sights_of J)) (sym then)
     (turns_are_pieces C w events (sights_of J) before (subst (λ (v : ℕ). GrowsBy (λ (e : Entry LauncherEvent). e.worker) v J.launcher.seen before) of.seat_is grows))
 
-pub turned_lives : (C : Config) (w : ℕ) (forbidden : Piece → Bool) (events : List LauncherEvent) (J K : Life) (before : List (Entry LauncherEvent)) → list_any forbidden (map Launched events) ≡ false → IsOf w J
-    → OnlyLauncher events J K → GrowsBy (λ (e : Entry LauncherEvent). e.worker) J.launcher.number J.launcher.seen before → K.launcher.seen ≡ entries_by J.launcher.number events ++ before
-    → LivesOn C w forbidden J K
-turned_lives C w forbidden events J K before allowed of only grows enters = record {
-  pieces = map Launched events;
-  goes = turned_goes C w events J K before of only grows enters;
-  same = turned_of w events J K of only;
-  told = turns_told None events;
-  allowed = allowed;
+-- want of memory was noted behind these pieces, where there was any
+pub noted_goes : (C : Config) (w : ℕ) (starved : Bool) (pieces : List Piece) (J M K : Life) → StarvesWhere starved M K → GoesOn C w pieces (sights_of J) (sights_of M) → GoesOn C w (with_wants starved pieces) (sights_of J) (sights_of K)
+noted_goes C w true pieces J M K h goes =
+    goings_join C w pieces (Wants ∷ []) (sights_of J) (sights_of M) (sights_of K) goes (subst (GoesOn C w (Wants ∷ []) (sights_of M)) (sym (sees_sights M K (noted M.seen own.NoMemory) h)) (wants_are_pieces C w (sights_of M)))
+noted_goes C w false pieces J M K h goes = subst (λ (x : Life). GoesOn C w pieces (sights_of J) (sights_of x)) (sym h) goes
+
+pub noted_of : (w : ℕ) (starved : Bool) (M K : Life) → StarvesWhere starved M K → IsOf w M → IsOf w K
+noted_of w true M K h of = sees_of w M K (noted M.seen own.NoMemory) h of
+noted_of w false M K h of = subst (IsOf w) (sym h) of
+
+noted_told : (starved : Bool) (events : List LauncherEvent) → are_told None (with_wants starved (map Launched events)) ≡ true
+noted_told true events = turns_told (Some Wants) events
+noted_told false events = turns_told None events
+
+pub noted_allowed : (forbidden : Piece → Bool) (starved : Bool) (pieces : List Piece) → forbidden Wants ≡ false → list_any forbidden pieces ≡ false → list_any forbidden (with_wants starved pieces) ≡ false
+noted_allowed forbidden true pieces wants allowed = rw (wants) allowed
+noted_allowed forbidden false pieces wants allowed = allowed
+
+pub turned_lives : (C : Config) (w : ℕ) (forbidden : Piece → Bool) (starved : Bool) (events : List LauncherEvent) (J M K : Life) (before : List (Entry LauncherEvent)) → forbidden Wants ≡ false → list_any forbidden (map Launched events) ≡ false → IsOf w J
+    → OnlyLauncher events J M → GrowsBy (λ (e : Entry LauncherEvent). e.worker) J.launcher.number J.launcher.seen before → M.launcher.seen ≡ entries_by J.launcher.number events ++ before
+    → turn_leads J.launcher.number (begun M.launcher.seen) (owes starved events) None events before ≡ true → StarvesWhere starved M K → LivesOn C w forbidden J K
+turned_lives C w forbidden starved events J M K before wants allowed of only grows enters led notes = record {
+  pieces = with_wants starved (map Launched events);
+  goes = noted_goes C w starved (map Launched events) J M K notes (turned_goes C w events J M before of only grows enters);
+  same = noted_of w starved M K notes (turned_of w events J M of only);
+  told = noted_told starved events;
+  allowed = noted_allowed forbidden starved (map Launched events) wants allowed;
+  leads = λ items h. subst (λ (ps : List Piece). LeadsSo w false (map first_item (with_wants starved ps) ++ items) K.launcher.seen) (append-nil (map Launched events)) (turn_leads_on w starved events [] J M K before of grows enters led notes items h);
 }
 
-pub turned_lives_by : (C : Config) (w : ℕ) (forbidden : Piece → Bool) (events : List LauncherEvent) (J K : Life) (before : List (Entry LauncherEvent)) (allowed : list_any forbidden (map Launched events) ≡ false) (of : IsOf w J)
-    (only : OnlyLauncher events J K) (grows : GrowsBy (λ (e : Entry LauncherEvent). e.worker) J.launcher.number J.launcher.seen before) (enters : K.launcher.seen ≡ entries_by J.launcher.number events ++ before)
-    → (turned_lives C w forbidden events J K before allowed of only grows enters).pieces ≡ map Launched events
+pub turned_lives_by : (C : Config) (w : ℕ) (forbidden : Piece → Bool) (starved : Bool) (events : List LauncherEvent) (J M K : Life) (before : List (Entry LauncherEvent)) (wants : forbidden Wants ≡ false) (allowed : list_any forbidden (map Launched events) ≡ false) (of : IsOf w J)
+    (only : OnlyLauncher events J M) (grows : GrowsBy (λ (e : Entry LauncherEvent). e.worker) J.launcher.number J.launcher.seen before) (enters : M.launcher.seen ≡ entries_by J.launcher.number events ++ before)
+    (led : turn_leads J.launcher.number (begun M.launcher.seen) (owes starved events) None events before ≡ true) (notes : StarvesWhere starved M K)
+    → (turned_lives C w forbidden starved events J M K before wants allowed of only grows enters led notes).pieces ≡ with_wants starved (map Launched events)
 unfolding turned_lives
-turned_lives_by C w forbidden events J K before allowed of only grows enters = refl
-
-pub where_lives : (C : Config) (w : ℕ) (forbidden : Piece → Bool) (starved : Bool) (J K : Life) → forbidden Wants ≡ false → IsOf w J → StarvesWhere starved J K → LivesOn C w forbidden J K
-where_lives C w forbidden true J K wants of h = starves_lives C w forbidden J K wants of h
-where_lives C w forbidden false J K wants of h = same_lives C w forbidden J K of h
+turned_lives_by C w forbidden starved events J M K before wants allowed of only grows enters led notes = refl
 
 -- none that was asked for is an order
 pub unasked_pieces : (events : List LauncherEvent) → list_any is_asked events ≡ false → list_any is_order (map Launched events) ≡ false
@@ -169,12 +195,16 @@ pub unaccepted_pieces : (events : List LauncherEvent) → list_any is_accepted (
 unaccepted_pieces [] = refl
 unaccepted_pieces (e ∷ events) = unaccepted_pieces events
 
+-- what a turn leaves is what was seen of it then
+pub turn_led : (n : ℕ) (owed : Bool) (events : List LauncherEvent) (before past seen : List (Entry LauncherEvent)) → seen ≡ past → turn_leads n (begun past) owed None events before ≡ true → turn_leads n (begun seen) owed None events before ≡ true
+turn_led n owed events before past seen is led = subst (λ (K : List (Entry LauncherEvent)). turn_leads n (begun K) owed None events before ≡ true) (sym is) led
+
 pub asks_lives : (C : Config) (w s : ℕ) (answer : Launch) (J K : Life) → IsOf w J → Asks C s answer J K → LivesOn C w is_accepted J K
 asks_lives C w s answer J K of h =
     let t = h.relaunches in
-    let mid : LivesOn C w is_accepted J h.mid
-    = turned_lives C w is_accepted h.events J h.mid t.before.journal.past (unaccepted_pieces h.events) of h.only t.turn.grows (t.turn.seen_is ∙ t.turn.enters) in
-    lives_then C w is_accepted J h.mid K mid (where_lives C w is_accepted _ h.mid K refl mid.same h.notes)
+    let led = asks_led C J.launcher.number s h.events t.before.journal.past t.before.crew.family answer t.after t.turn.enters t.goes in
+    turned_lives C w is_accepted (launch_starved answer) h.events J h.mid K t.before.journal.past refl (unaccepted_pieces h.events) of h.only t.turn.grows (t.turn.seen_is ∙ t.turn.enters)
+    (turn_led J.launcher.number (owes (launch_starved answer) h.events) h.events t.before.journal.past t.after.journal.past h.mid.launcher.seen t.turn.seen_is led) h.notes
 
 -- ---- a request
 

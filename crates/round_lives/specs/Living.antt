@@ -1,10 +1,14 @@
 -- What a worker's life says of the pieces of its list. Number n launches.
-use Rattle.std.specs.Prelude.{◌≡◌, ℕ, Bool, List, None, IsTrue, IsFalse}
+use Rattle.std.specs.Prelude.{◌≡◌, ℕ, Bool, false, List, ◌++◌, Option, Some, None, map, IsTrue, IsFalse}
 use Rattle.std.specs.List.{list_any}
 use Rattle.okws_plan.specs.declared.configuration.Config.{Config}
+use Rattle.monitor_model.specs.declared.record.Own.{Own}
 use Rattle.monitor_model.specs.Worker.{Piece}
 use Rattle.worker_lives.specs.Going.{Sights, GoesOn}
-use Rattle.worker_lives.specs.Listing.{are_told}
+use Rattle.worker_lives.specs.Listing.{are_told, first_item}
+use Rattle.worker_lives.specs.Waiting.{LeadsSo}
+use Rattle.okld_launch.specs.declared.answer.Launched.{Launched}
+use Rattle.site_worker.specs.Launching.{launch_starved}
 use Rattle.site_worker.specs.Lives.{Life, number_of}
 
 -- What a worker has seen, as its life says it.
@@ -16,10 +20,16 @@ pub record IsOf (w : ℕ) (J : Life) : Type 0 where
   pub number_is : number_of J ≡ w
   pub seat_is : J.launcher.number ≡ w
 
--- The life of worker w went on by pieces, none of which is forbidden. Each crash is told of by the piece behind it.
+-- The life of worker w went on by pieces, none of which is forbidden. Each crash is told of by the piece behind it. What the worker entered at the launcher leads on, if it did before.
 pub record LivesOn (C : Config) (w : ℕ) (forbidden : Piece → Bool) (J K : Life) : Type 0 where
   pub pieces : List Piece
   pub goes : GoesOn C w pieces (sights_of J) (sights_of K)
   pub same : IsOf w K
   pub told : IsTrue (are_told None pieces)
   pub allowed : IsFalse (list_any forbidden pieces)
+  pub leads : (items : List Own) → LeadsSo w false items J.launcher.seen → LeadsSo w false (map first_item pieces ++ items) K.launcher.seen
+
+-- Memory was refused to a launch, if there was one.
+abbrev pub starved_if : Option Launched → Bool
+starved_if None = false
+starved_if (Some answer) = launch_starved answer

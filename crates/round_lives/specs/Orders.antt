@@ -10,7 +10,7 @@ use Rattle.monitor_model.specs.Worker.{Piece}
 use Rattle.worker_lives.specs.Listing.{first_item}
 use Rattle.admin_console.specs.Answers.{answer_text}
 use Rattle.admin_console.specs.Orders.{order_of}
-use Rattle.admin_console.specs.Steps.{AreFollowing, Command, Ends, RunsOut}
+use Rattle.admin_console.specs.Steps.{AreFollowing, Command, Ends, IsCut, RunsOut}
 use Rattle.admin_console.specs.declared.answer.Answer.{Answer}
 use Rattle.admin_console.specs.declared.answer.Answer.TheVariants as answer
 use Rattle.admin_console.specs.declared.order.Order.{Order as Said}
@@ -73,11 +73,11 @@ AreAnswered C [] w x before after = (x ≡ w) × (after ≡ before)
 AreAnswered C (one ∷ more) w x before after =
     (y : ConnWire) × (mid : ℕ) × AreAnswered C more w y before mid × Takes C y x mid after one × Appends y.given x.given (answer_text one.answer)
 
--- How a console ended behind these commands: by `end` or the end of its input; or a call of it failed and was counted, behind a command of whose answer just a front was given, or before one was carried out.
+-- How a console ended behind these commands: by `end` or the end of its input; or a call of it failed and was counted, behind a command of whose answer just a front was given, or where the bytes that were taken are no whole command.
 abbrev pub EndsBehind : Config → List Taken → ConnWire → ConnWire → ℕ → ℕ → Overseen → Type 0
 EndsBehind C [] w x before after overseen.Finished = (Ends C w x before after ⊎ RunsOut w x before after) × (x.given ≡ w.given)
 EndsBehind C (one ∷ more) w x before after overseen.Finished = ⊥
-EndsBehind C [] w x before after overseen.ConsoleFault = (bytes : List ℕ) × Consumes w.left x.left bytes × (x.given ≡ w.given) × Rose w.faults x.faults
+EndsBehind C [] w x before after overseen.ConsoleFault = (bytes : List ℕ) × Consumes w.left x.left bytes × IsCut C bytes × (x.given ≡ w.given) × Rose w.faults x.faults
 EndsBehind C (one ∷ []) w x before after overseen.ConsoleFault = Takes C w x before after one × AppendsPrefix w.given x.given (answer_text one.answer) × Rose w.faults x.faults
 EndsBehind C (one ∷ next ∷ more) w x before after overseen.ConsoleFault = ⊥
 

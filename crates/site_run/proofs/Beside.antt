@@ -8,6 +8,7 @@ use Rattle.okws_plan.specs.declared.event.LogEvent.{LogEvent}
 use Rattle.okws_plan.specs.declared.event.OkdEvent.{OkdEvent}
 use Rattle.okws_plan.specs.declared.event.ProxyEvent.{ProxyEvent}
 use Rattle.okws_plan.specs.declared.event.PubdEvent.{PubdEvent}
+use Rattle.frame_codec.specs.Spelling.{server_spelling}
 use Rattle.frame_codec.specs.declared.frame.ServiceFrame.{ServiceFrame}
 use Rattle.frame_codec.specs.declared.frame.ServiceFrame.TheVariants.{Open, Call, Get, Log, Reply}
 use Rattle.frame_codec.specs.declared.frame.ServerFrame.{ServerFrame}
@@ -15,7 +16,7 @@ use Rattle.monitor_model.specs.declared.record.End.{End}
 use Rattle.monitor_model.specs.declared.record.End.TheVariants as end
 use Rattle.monitor_model.specs.declared.record.Item.{Item}
 use Rattle.monitor_model.specs.declared.record.Item.TheVariants.{Heard, Said}
-use Rattle.monitor_model.specs.Course.{Speaker, Answers, Ends, IsAnswered, IsDialog, IsOpening, Unanswered}
+use Rattle.monitor_model.specs.Course.{Speaker, Answers, Ends, IsAnswered, IsDialog, IsNextOf, IsOpening, Unanswered}
 use Rattle.monitor_model.specs.Seen.{Seen, AtOkd, AtProxy, AtPubd, AtLog}
 
 -- the launcher's journal was seen so
@@ -70,22 +71,24 @@ module _ (C : Config) (who : Speaker) (l : List (Entry LauncherEvent)) where
   unanswered_beside (Log text) J now h = same_beside l who.worker J now h
   unanswered_beside (Reply status content_type location content) J now h = same_beside l who.worker J now h
 
-  ends_beside : (since left : List ℕ) (opened : List Item) (J : Seen) (items : List Item) (how : End) (now : Seen) → Ends C who since left opened J items how now → Ends C who since left opened (beside l J) items how (beside l now)
-  ends_beside since left opened J items end.Reply now h = (h.0, h.1, answered_beside opened J h.0 now h.2, h.3)
-  ends_beside since left opened J items (end.Superseded shown) now h = (h.0, answered_beside opened J items now h.1, h.2)
-  ends_beside since left opened J items end.BadFrame now h = (answered_beside opened J items now h.0, h.1, h.2)
-  ends_beside since left opened J items end.Ended now h = (answered_beside opened J items now h.0, h.1, h.2)
-  ends_beside since left opened J items end.FrameLimit now h = (h.0, h.1, h.2, answered_beside opened J h.1 now h.3, h.4)
-  ends_beside since left opened J items end.LinkFault now h = (h.0, by h.1)
+  ends_beside : (since left due : List ℕ) (opened : List Item) (J : Seen) (items : List Item) (how : End) (now : Seen) → Ends C who since left due opened J items how now → Ends C who since left due opened (beside l J) items how (beside l now)
+  ends_beside since left due opened J items end.Reply now h = (h.0, h.1, answered_beside opened J h.0 now h.2, h.3)
+  ends_beside since left due opened J items (end.Superseded shown) now h = (h.0, answered_beside opened J items now h.1, h.2)
+  ends_beside since left due opened J items end.BadFrame now h = (answered_beside opened J items now h.0, h.1, h.2)
+  ends_beside since left due opened J items end.Ended now h = (answered_beside opened J items now h.0, h.1, h.2)
+  ends_beside since left due opened J items end.FrameLimit now h = (h.0, h.1, h.2, answered_beside opened J h.1 now h.3, h.4)
+  ends_beside since left due opened J items end.LinkFault now h = (h.0, by h.1)
     where
-      by : (IsOpening opened J items now ⊎ IsAnswered C who opened J items now
-          ⊎ ((said : ServiceFrame) × (heard : ServerFrame) × (before : List Item) × (mid : Seen) × (items ≡ Said said ∷ before) × IsAnswered C who opened J before mid × Answers C who said mid heard now))
-          → (IsOpening opened (beside l J) items (beside l now) ⊎ IsAnswered C who opened (beside l J) items (beside l now)
-          ⊎ ((said : ServiceFrame) × (heard : ServerFrame) × (before : List Item) × (mid : Seen) × (items ≡ Said said ∷ before) × IsAnswered C who opened (beside l J) before mid × Answers C who said mid heard (beside l now)))
-      by (inl o) = inl (opening_beside opened J items now o)
-      by (inr (inl a)) = inr (inl (answered_beside opened J items now a))
-      by (inr (inr a)) = inr (inr (a.0, a.1, a.2, beside l a.3, a.4, answered_beside opened J a.2 a.3 a.5, answers_beside a.0 a.3 a.1 now a.6))
-  ends_beside since left opened J items end.Starved now h = (h.0, by h.1)
+      by : ((IsOpening opened J items now × IsNextOf opened items due) ⊎ (IsAnswered C who opened J items now × (due ≡ []))
+          ⊎ ((said : ServiceFrame) × (heard : ServerFrame) × (before : List Item) × (mid : Seen) × (items ≡ Said said ∷ before) × IsAnswered C who opened J before mid
+          × Answers C who said mid heard now × (due ≡ server_spelling heard)))
+          → ((IsOpening opened (beside l J) items (beside l now) × IsNextOf opened items due) ⊎ (IsAnswered C who opened (beside l J) items (beside l now) × (due ≡ []))
+          ⊎ ((said : ServiceFrame) × (heard : ServerFrame) × (before : List Item) × (mid : Seen) × (items ≡ Said said ∷ before) × IsAnswered C who opened (beside l J) before mid
+          × Answers C who said mid heard (beside l now) × (due ≡ server_spelling heard)))
+      by (inl o) = inl (opening_beside opened J items now o.0, o.1)
+      by (inr (inl a)) = inr (inl (answered_beside opened J items now a.0, a.1))
+      by (inr (inr a)) = inr (inr (a.0, a.1, a.2, beside l a.3, a.4, answered_beside opened J a.2 a.3 a.5, answers_beside a.0 a.3 a.1 now a.6, a.7))
+  ends_beside since left due opened J items end.Starved now h = (h.0, by h.1)
     where
       by : (IsOpening opened J items now ⊎ IsAnswered C who opened J items now
           ⊎ ((said : ServiceFrame) × (before : List Item) × (mid : Seen) × (items ≡ Said said ∷ before) × IsAnswered C who opened J before mid × Unanswered C who said mid now))
@@ -95,7 +98,7 @@ module _ (C : Config) (who : Speaker) (l : List (Entry LauncherEvent)) where
       by (inr (inl a)) = inr (inl (answered_beside opened J items now a))
       by (inr (inr a)) = inr (inr (a.0, a.1, beside l a.2, a.3, answered_beside opened J a.1 a.2 a.4, unanswered_beside a.0 a.2 now a.5))
 
-  pub dialog_beside : (since left head content : List ℕ) (J : Seen) (items : List Item) (how : End) (now : Seen) → IsDialog C who since left head content J items how now
-      → IsDialog C who since left head content (beside l J) items how (beside l now)
-  dialog_beside since left head content J items how now (inl h) = inl (h.0, h.1, h.2, h.3, same_beside l who.worker J now h.4)
-  dialog_beside since left head content J items how now (inr h) = inr (h.0, beside l h.1, pubd_beside l who.worker _ J h.0 h.1 h.2, ends_beside since left _ h.1 items how now h.3)
+  pub dialog_beside : (since left due head content : List ℕ) (J : Seen) (items : List Item) (how : End) (now : Seen) → IsDialog C who since left due head content J items how now
+      → IsDialog C who since left due head content (beside l J) items how (beside l now)
+  dialog_beside since left due head content J items how now (inl h) = inl (h.0, h.1, h.2, h.3, same_beside l who.worker J now h.4)
+  dialog_beside since left due head content J items how now (inr h) = inr (h.0, beside l h.1, pubd_beside l who.worker _ J h.0 h.1 h.2, ends_beside since left due _ h.1 items how now h.3)

@@ -17,10 +17,12 @@ use Rattle.site_locks.specs.Closing.{SomeIs}
 use Rattle.site_locks.specs.Made.{fresh, AreFreshFrom}
 use Rattle.site_locks.specs.Sat.{Sat}
 use Rattle.turn_lock.specs.Seats.{TurnIs, SeatIs, IsFresh, AreFresh, AllRest, SomeHas}
+use Rattle.worker_lives.proofs.Waiting.{leads_blank}
 use Rattle.site_run.specs.Places.{AllIdle}
 use Rattle.site_run.specs.Rooms.{AreOffered}
 use Rattle.site_worker.specs.declared.worker.TheConstants.{TURN_ITEMS}
 use Rattle.site_run.specs.Rows.{AreChairs, spare_first}
+use Rattle.site_run.specs.Opening.{items_first, seen_first}
 use Rattle.site_run.specs.Tied.{AreUnused, OnlyLaunches}
 use Rattle.site_run.specs.Whole.{AreNewFrom, AreNamed, IsReady}
 use Rattle.site_run.proofs.Seating.{first_seat, push_length}
@@ -103,8 +105,8 @@ unused_from C z label k (s ∷ ss) (c ∷ cs) (a ∷ as') p q h i j =
         sat_is = h.0 ∙ ap (λ (x : Sat). record (fresh (length C.proxies) k) { own = x.own; spare = x.spare }) (sym h.0);
         cells = i.0;
         seat = j.0.number_is;
-        launches = subst (λ items. OnlyLaunches k items a.seen) (sym own_is) (subst (λ past. OnlyLaunches k [] past) (sym seen_is) (record { entered = refl; only = refl }));
-        turn = λ l. (own_is, seen_is);
+        launches = subst (λ items. OnlyLaunches k items a.seen) (sym own_is) (subst (λ past. OnlyLaunches k [] past) (sym seen_is) (record { entered = refl; only = refl; lead = leads_blank k }));
+        none = λ l. own_is;
       },
       unused_from C z label (suc k) ss cs as' (omega arith) (omega arith) h.1 i.1 j.1,
     )
@@ -161,6 +163,15 @@ spare_there : (ss : List Sat) (s : Sat) → 0 < length ss → spare_first (set s
 spare_there [] s l = absurd (omega arith)
 spare_there (x ∷ ss) s l = refl
 
+-- number 0 did nothing, and saw nothing at the launcher
+items_none : (proxies : ℕ) (ss : List Sat) (r s : Sat) → AreFreshFrom proxies 0 ss → r ≡ get_or ss 0 r → s ≡ record r { spare = s.spare } → items_first (set ss 0 s) ≡ []
+items_none proxies [] r s h p e = refl
+items_none proxies (x ∷ ss) r s h p e = ap (λ (z : Sat). z.own) e ∙ (ap (λ (z : Sat). z.own) p ∙ ap (λ (z : Sat). z.own) h.0)
+
+seen_none : (z : TableId) (label : ℕ) (as' : List (SeatIs (Entry LauncherEvent))) → TurnsFrom z label 0 as' → seen_first as' ≡ []
+seen_none z label [] h = refl
+seen_none z label (a ∷ as') h = h.0.seen
+
 -- a run whose launcher was hired is ready, and number 0 has spare places
 pub ready : (C : Config) (n doors : ℕ) (t : TurnIs) (b : BoardIs) (cell_turns : List TurnIs) (all ss : List Sat) (r first : Sat) (s : Sat) (all_cs cs : List CellsSeen) (c : CellsSeen) (as' : List (SeatIs (Entry LauncherEvent)))
     (es : List Entrance) (places : List Place) (all_room seats_room all_cells_room cells_room turns_room doors_room desks_room : ℕ)
@@ -192,6 +203,10 @@ ready C n doors t b cell_turns all ss r first s all_cs cs c as' es places all_ro
         numbers_count = omega arith;
         cells_count = named.counts;
         services = named.services;
+      };
+      unopened = record {
+        items_are = items_none (length C.proxies) ss r first seats.0 here given;
+        seen_is = seen_none t.id t.label as' (subst (TurnsFrom t.id t.label 0) (reverse-reverse as') (turns_turned t.id t.label 0 (reverse as') fresh));
       };
       unused = unused_spare C ss r first cs as' here given (first_unused C t ss cs as' (omega arith) (omega arith) seats.0 cells.0 fresh);
       spare = subst (λ k. length C.services * TURN_ITEMS ≤ k) (sym (spare_there ss first (omega arith))) enough;

@@ -15,3 +15,8 @@ pub mod Owning
 pub mod Showing
 pub mod Alone
 pub mod Shown
+pub mod Caused
+pub mod Opened
+pub mod Telling
+pub mod Told
+pub mod Remembered

@@ -100,7 +100,7 @@ unused_launched C (x ∷ ss) r s (c ∷ cs) (y ∷ as') b a p q e f l h =
         cells = u.cells;
         seat = ap (λ (z : SeatIs (Entry LauncherEvent)). z.number) f ∙ number;
         launches = subst (λ k. OnlyLaunches k s.own a.seen) number (l before);
-        turn = λ o. absurd (omega arith);
+        none = λ o. absurd (omega arith);
       },
       h.1,
     )
@@ -119,7 +119,7 @@ unused_spare C (x ∷ ss) r s (c ∷ cs) (y ∷ as') p e h =
         cells = u.cells;
         seat = u.seat;
         launches = subst (λ items. OnlyLaunches 0 items y.seen) (sym own_is) u.launches;
-        turn = λ o. absurd (omega arith);
+        none = λ o. absurd (omega arith);
       },
       h.1,
     )
@@ -144,7 +144,7 @@ life_begins C w J s c a u h =
       cells = subst (IsNew (length C.services) w) (sym h.cells_is) u.cells;
       seat = ap (λ (x : SeatIs (Entry LauncherEvent)). x.number) h.launcher_is ∙ u.seat;
       launches = subst (λ (items : List Own). OnlyLaunches w items J.launcher.seen) (sym own_is) (subst (OnlyLaunches w s.own) (sym past_is) u.launches);
-      launcher = λ l. (own_is ∙ (u.turn l).0, past_is ∙ (u.turn l).1);
+      none = λ l. own_is ∙ u.none l;
     }
 
 pub lives_begin : (C : Config) (w : ℕ) (Js : List Life) (ss : List Sat) (cs : List CellsSeen) (as' : List (SeatIs (Entry LauncherEvent))) → AreUnused C w ss cs as' → AreChairsOf Js ss cs as' → AllBegin C w Js

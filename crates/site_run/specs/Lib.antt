@@ -7,3 +7,4 @@ pub mod Journals
 pub mod Closing
 pub mod Whole
 pub mod Tied
+pub mod Opening

@@ -25,6 +25,7 @@ use Rattle.site_locks.specs.Closing.{AllGrown, RowsGrown}
 use Rattle.site_locks.specs.Made.{fresh}
 use Rattle.site_locks.specs.Sat.{Sat, seen_of}
 use Rattle.site_worker.specs.Lives.{Life, number_of}
+use Rattle.worker_lives.specs.Waiting.{LeadsSo}
 use Rattle.site_run.specs.Rows.{ChairsAre}
 
 -- The item is an event at the launcher that no operator asked for, or tells that memory was refused.
@@ -33,23 +34,24 @@ is_launching (own.Launcher e) = is_none (launcher_order e)
 is_launching own.NoMemory = true
 is_launching _ = false
 
--- Number w took turns at the launcher, which no operator asked for, and did nothing else: what it entered there it noted, in order, and besides it noted want of memory alone.
+-- Number w took turns at the launcher, which no operator asked for, and did nothing else: what it entered there it noted, in order, and besides it noted want of memory alone. What it entered leads on.
 pub record OnlyLaunches (w : ℕ) (items : List Own) (seen : List (Entry LauncherEvent)) : Type 0 where
   pub entered : events_of w seen ≡ filter_map launcher_item items
   pub only : IsTrue (list_all is_launching items)
+  pub lead : LeadsSo w false items seen
 
 -- Want of memory was noted so, where there was any.
 abbrev pub IsNotedWhere : Bool → List Own → List Own → Type 0
 IsNotedWhere true items now = now ≡ own.NoMemory ∷ items
 IsNotedWhere false items now = now ≡ items
 
--- Nothing was seen or done from the seats of number w, unless it is number 0: from its seat at the launcher the services are launched before the workers begin.
+-- Nothing was seen or done from the seats of number w, unless it is number 0: from its seat at the launcher the services are launched before the workers begin. What was seen there from the others was entered from none of them.
 pub record IsUnusedChair (C : Config) (w : ℕ) (s : Sat) (c : CellsSeen) (a : SeatIs (Entry LauncherEvent)) : Type 0 where
   pub sat_is : s ≡ record (fresh (length C.proxies) w) { own = s.own; spare = s.spare }
   pub cells : IsNew (length C.services) w c
   pub seat : a.number ≡ w
   pub launches : OnlyLaunches w s.own a.seen
-  pub turn : 0 < w → (s.own ≡ []) × (a.seen ≡ [])
+  pub none : 0 < w → s.own ≡ []
 
 -- The same of numbers that rise by one from w.
 abbrev pub AreUnused : Config → ℕ → List Sat → List CellsSeen → List (SeatIs (Entry LauncherEvent)) → Type 0
@@ -97,7 +99,7 @@ pub record MoreOf (Js : List Life) (x y : ChairsAre) : Type 0 where
   pub turns_are : y.turns ≡ x.turns ++ turns
   pub whose : AreChairsOf Js seats cells turns
 
--- A life of number w begins: it has seen nothing of the columns, of the cells and of the board, and did nothing. Number 0 took turns at the launcher before, since the services are launched under it before the workers begin.
+-- A life of number w begins: it has seen nothing of the columns, of the cells and of the board, and did nothing. Number 0 took turns at the launcher before, since the services are launched under it before the workers begin; the others have seen what was entered there.
 pub record LifeBegins (C : Config) (w : ℕ) (J : Life) : Type 0 where
   pub seen_is : J.seen ≡ record (nothing_seen (length C.proxies)) { own = J.seen.own }
   pub board_is : J.board ≡ none_begun
@@ -105,7 +107,7 @@ pub record LifeBegins (C : Config) (w : ℕ) (J : Life) : Type 0 where
   pub cells : IsNew (length C.services) w J.cells
   pub seat : J.launcher.number ≡ w
   pub launches : OnlyLaunches w J.seen.own J.launcher.seen
-  pub launcher : 0 < w → (J.seen.own ≡ []) × (J.launcher.seen ≡ [])
+  pub none : 0 < w → J.seen.own ≡ []
 
 -- The same of numbers that rise by one from w.
 abbrev pub AllBegin : Config → ℕ → List Life → Type 0

@@ -13,6 +13,7 @@ use Rattle.turn_lock.specs.Seats.{TurnIs}
 use Rattle.site_worker.specs.declared.worker.TheConstants.{TURN_ITEMS}
 use Rattle.site_run.specs.Rows.{ChairsAre, Seated, first_spare}
 use Rattle.site_run.specs.Places.{PlacesAre, HasPlaces, Placed}
+use Rattle.site_run.specs.Opening.{IsUnopened}
 use Rattle.site_run.specs.Tied.{Unused}
 
 -- Seats at so many cells, of which nothing was seen, of numbers that rise by one from k.
@@ -51,6 +52,7 @@ pub record IsHeld (C : Config) (n : ℕ) (turn : TurnIs) (numbers : BoardIs) (ce
 pub record IsReady (C : Config) (n : ℕ) (turn : TurnIs) (numbers : BoardIs) (cell_turns : List TurnIs) (chairs : ChairsAre) (places : PlacesAre) : Type 0 where
   pub held : IsHeld C n turn numbers cell_turns chairs places
   pub unused : Unused C chairs
+  pub unopened : IsUnopened chairs
   pub spare : length C.services * TURN_ITEMS ≤ first_spare chairs
   pub turns_roomy : n ≤ chairs.turns_room
   pub placed : Placed numbers.id places

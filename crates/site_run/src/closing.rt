@@ -3,6 +3,7 @@
 ghost use Rattle.std.specs.Prelude.{◌≡◌, ◌≤◌, ◌<◌, ◌+◌, ℕ, List, [], length, map, reverse, slice_index, vec_len, vec_capacity};
 ghost use Rattle.okws_base.specs.Turns.{of};
 ghost use Rattle.cell_locks.specs.Closing.{AllCellsGrow, HasNumber};
+ghost use Rattle.launch_crew.specs.Coming.{came_up};
 ghost use Rattle.launch_crew.specs.Recorded.{AreOwn};
 ghost use Rattle.log_daemon.specs.Stopped.{is_stopped};
 ghost use Rattle.monitor_model.specs.Columns.{OkdLaw, PubdLaw, LogLaw};
@@ -11,6 +12,7 @@ ghost use Rattle.monitor_model.specs.Standing.{okd_grant, pubd_grant, log_grant}
 ghost use Rattle.named_columns.specs.Counts.{capped, accepts, ups, publications, logged};
 ghost use Rattle.named_columns.specs.Held.{HeldProxy};
 ghost use Rattle.named_columns.specs.Launched.{by_entry, LaunchedBy};
+ghost use Rattle.okld_launch.specs.Causing.{AllCaused};
 ghost use Rattle.okld_launch.specs.Failures.{FailuresAreTold};
 ghost use Rattle.site_cell.specs.Held.{by_event};
 ghost use Rattle.site_locks.specs.Closing.{AllSaw, SomeIs};
@@ -324,6 +326,7 @@ pub(crate) fn end_launcher<
     ensures shown { (s : ℕ) → s < length N.site.services → slice_index result.stopped.seats.board s ≡ begun result.past s }
     ensures own { AreOwn N.launcher result.stopped.seats result.stopped.cells result.stopped.own }
     ensures failed { FailuresAreTold N.children result.past (F.family result.stopped.children) }
+    ensures caused { AllCaused (came_up result.stopped.seats) result.past result.past }
 {
     let launcher = turn.close(turns);
     let (past, crew) = launcher.close();

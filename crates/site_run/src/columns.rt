@@ -27,57 +27,6 @@ use std::alloc::{AllocError, Global};
 use std::sync::Arc;
 use token_core::Seed;
 
-// okd, at which nothing happened.
-fn okd<N: Backed>(
-    alloc: Global,
-    site: &Arc<Config, Global>,
-    keeps: bool,
-) -> Result<SiteOkd<N>, AllocError>
-    requires site { arc_value site.now ≡ N.site }
-    requires services { length N.site.services ≤ MOST_SERVICES }
-    requires rules { KeepsRules N.site }
-    ensures { IfOk result (λ x. x.past ≡ []) }
-{
-    let column = okd_column(alloc, site, keeps)?;
-    Ok(SiteOkd::new(column))
-}
-
-// pubd, at which nothing happened.
-fn pubd<N: Backed>(
-    alloc: Global,
-    site: &Arc<Config, Global>,
-    keeps: bool,
-) -> Result<SitePubd<N>, AllocError>
-    requires site { arc_value site.now ≡ N.site }
-    requires services { length N.site.services ≤ MOST_SERVICES }
-    requires templates { length N.site.templates ≤ MOST_TEMPLATES }
-    requires rules { KeepsRules N.site }
-    ensures { IfOk result (λ x. x.past ≡ []) }
-{
-    let column = pubd_column(alloc, site, keeps)?;
-    Ok(SitePubd::new(column))
-}
-
-// oklogd, at which nothing happened, over a sink that was given nothing.
-fn oklogd<N: Backed, S: Sink + Drop>(
-    alloc: Global,
-    site: &Arc<Config, Global>,
-    sink: S,
-    keeps: bool,
-) -> Result<SiteLog<N, S>, AllocError>
-    requires site { arc_value site.now ≡ N.site }
-    requires services { length N.site.services ≤ MOST_SERVICES }
-    requires fresh { IfSome (S.given sink) (λ given. given ≡ []) }
-    requires faults { N.sink_faults ≡ S.faults sink }
-    ensures { IfOk result (λ x. x.past ≡ []) }
-{
-    let site = shared(site)?;
-    match LogDaemon::new(alloc, site, sink, keeps) {
-        Ok(daemon) => Ok(SiteLog::new(daemon)),
-        Err(_) => Err(AllocError),
-    }
-}
-
 // A proxy, at which nothing happened, over its keeper.
 fn proxy<N: Backed, K: Keeper + Drop>(
     alloc: Global,
@@ -156,13 +105,15 @@ pub(crate) fn columns<N: Backed, K: Keeper + Drop, S: Sink + Drop>(
     ensures { IfOk result (λ c. AreNewColumns N.site (c.okd.past) (map (λ (x : HeldProxy). x.past) c.proxies.items) (map (λ (x : HeldProxy). x.number) c.proxies.items) (c.pubd.past) (c.oklogd.past)) }
 {
     let proxies = proxies(alloc, site, seed, turned(keepers), keeps)?;
-    let okd = okd(alloc, site, keeps)?;
-    let pubd = pubd(alloc, site, keeps)?;
-    let oklogd = oklogd(alloc, site, sink, keeps)?;
+    let okd = okd_column(alloc, site, keeps)?;
+    let pubd = pubd_column(alloc, site, keeps)?;
+    let Ok(oklogd) = LogDaemon::new(alloc, shared(site)?, sink, keeps) else {
+        return Err(AllocError);
+    };
     Ok(Columned {
-        okd,
+        okd: SiteOkd::new(okd),
         proxies,
-        pubd,
-        oklogd,
+        pubd: SitePubd::new(pubd),
+        oklogd: SiteLog::new(oklogd),
     })
 }

@@ -1,10 +1,14 @@
 //! Launching the services of a run before its workers begin.
 
-ghost use Rattle.std.specs.Prelude.{◌≡◌, ◌≤◌, ◌<◌, ◌+◌, ◌*◌, ◌++◌, ℕ, length, map};
+ghost use Rattle.std.specs.Prelude.{◌≡◌, ◌≤◌, ◌<◌, ◌+◌, ◌*◌, ◌++◌, ◌∷◌, ℕ, List, [], length, map, vec_len, vec_capacity};
 ghost use Rattle.okws_base.specs.declared.limit.TheConstants.{MOST_SERVICES, GREATEST_RETRY};
+ghost use Rattle.okws_base.specs.Turns.{of, Behind};
 ghost use Rattle.monitor_model.specs.declared.record.Own.TheVariants as own;
+ghost use Rattle.named_columns.specs.Launched.{by_entry};
+ghost use Rattle.round_lives.specs.Living.{starved_if};
 ghost use Rattle.turn_lock.specs.Rows.{RestsAt};
 ghost use Rattle.site_worker.specs.declared.worker.TheConstants.{TURN_ITEMS};
+ghost use Rattle.site_run.specs.Opening.{Opening, Opens, IsAlone, IsUnopened, HasOpened, AllSeeMore, AreQuiet, AreTurns, seen_first, wants};
 ghost use Rattle.site_run.specs.Rows.{Seated, SameRoom, first_spare};
 ghost use Rattle.site_run.specs.Tied.{IsNotedWhere, OnlyLaunches, Unused};
 
@@ -24,7 +28,7 @@ use okws_outer::stream::Sink;
 use site_locks::locks::Seats;
 use site_locks::named::Site;
 use std::sync::Wait;
-use turn_lock::Seat;
+use turn_lock::{Seat, Turn};
 
 // Notes events that a turn entered at the launcher, in spare places, the oldest first. Takes no memory.
 fn note_entered<N: Backed, J: Site, K: Keeper, S: Sink>(
@@ -53,6 +57,18 @@ fn note_where<N: Backed, J: Site, K: Keeper, S: Sink>(seats: &mut Seats<N, J, K,
     }
 }
 
+// Whether memory was refused to a launch, if there was one.
+fn starved(launched: Option<Launched>) -> bool
+    ensures is { result ≡ starved_if launched }
+    ensures opens { result ≡ wants launched }
+{
+    match launched {
+        None => false,
+        Some(Launched::NoMemory) => true,
+        Some(Launched::Up(_) | Launched::Dead(_) | Launched::Spent) => false,
+    }
+}
+
 // Launches a service that isn't up, in a turn of this seat; what the turn entered is noted, and want of memory.
 fn launch_one<R: Wait, G: Gate, N: Staffed, J: Site, C: CellNames, K: Keeper, S: Sink, F: Children>(
     ground: &Ground<'_, R, G, N, J, C, K, S, F>,
@@ -67,6 +83,8 @@ fn launch_one<R: Wait, G: Gate, N: Staffed, J: Site, C: CellNames, K: Keeper, S:
     ensures seat { seat.new ≡ record seat.old { seen = seat.new.seen } }
     ensures seats { seats.new ≡ record seats.old { own = seats.new.own; spare = seats.new.spare } }
     ensures launches { OnlyLaunches seat.old.number seats.old.own seat.old.seen → OnlyLaunches seat.old.number seats.new.own seat.new.seen }
+    ensures more { Behind seat.old.seen seat.new.seen }
+    ensures opens { (os : List Opening) → length os ≡ service → Opens seat.old.number os seats.old.own seat.old.seen → IsAlone seat.old.number seat.new.seen → (o : Opening) × Opens seat.old.number (o ∷ os) seats.new.own seat.new.seen }
     ensures spends { seats.old.spare ≤ seats.new.spare + TURN_ITEMS }
 {
     let (launched, entered) = launch_by(
@@ -79,20 +97,11 @@ fn launch_one<R: Wait, G: Gate, N: Staffed, J: Site, C: CellNames, K: Keeper, S:
         service,
     );
     note_entered(seats, entered);
-    note_where(seats, matches!(launched, Some(Launched::NoMemory)));
+    note_where(seats, starved(launched));
 }
 
 // Launches each service that isn't up, in turns of this seat.
-fn launch_from<
-    R: Wait,
-    G: Gate,
-    N: Staffed,
-    J: Site,
-    C: CellNames,
-    K: Keeper,
-    S: Sink,
-    F: Children,
->(
+fn launch_row<R: Wait, G: Gate, N: Staffed, J: Site, C: CellNames, K: Keeper, S: Sink, F: Children>(
     ground: &Ground<'_, R, G, N, J, C, K, S, F>,
     seats: &mut Seats<N, J, K, S>,
     seat: &mut Seat<Launcher<N, J, C, K, S, F>>,
@@ -105,6 +114,7 @@ fn launch_from<
     ensures seat { seat.new ≡ record seat.old { seen = seat.new.seen } }
     ensures seats { seats.new ≡ record seats.old { own = seats.new.own; spare = seats.new.spare } }
     ensures launches { OnlyLaunches seat.old.number seats.old.own seat.old.seen → OnlyLaunches seat.old.number seats.new.own seat.new.seen }
+    ensures opens { Opens seat.old.number [] seats.old.own seat.old.seen → IsAlone seat.old.number seat.new.seen → (os : List Opening) × (length os ≡ length N.site.services) × Opens seat.old.number os seats.new.own seat.new.seen }
 {
     let services = ground.site.services.as_slice().len() as u16;
     for service in 0..services {
@@ -112,8 +122,25 @@ fn launch_from<
     }
 }
 
+// Has the other seats take in what number 0's has seen at the launcher.
+fn tell_all<N: Staffed, J: Site, C: CellNames, K: Keeper, S: Sink, F: Children>(
+    turn: &Turn<Launcher<N, J, C, K, S, F>>,
+    turns: &mut Vec<Seat<Launcher<N, J, C, K, S, F>>>,
+)
+    requires turns { AreTurns turn.now 0 turns.old.items }
+    ensures more { AllSeeMore turns.old.items turns.new.items }
+    ensures first { seen_first turns.new.items ≡ seen_first turns.old.items }
+    ensures told { AreQuiet 0 turns.old.items → (k : ℕ) → 0 < k → k < vec_len turns.old → of by_entry k (seen_first turns.new.items) ≡ [] }
+    ensures room { vec_capacity turns.new ≡ vec_capacity turns.old }
+{
+    for number in 1..turns.len() {
+        let note = turn.split(&mut turns[0]);
+        turn.meet(&mut turns[number], note);
+    }
+}
+
 /// Launches each service that isn't up, in number 0's turns at the launcher; number 0 notes what it enters there.
-/// It has the places for that.
+/// It has the places for that. The other numbers take in what it has seen there.
 pub fn launch_all<
     R: Wait,
     G: Gate,
@@ -132,8 +159,10 @@ pub fn launch_all<
     requires seated { Seated ground.now.turn.now (length N.site.services) chairs.old }
     ensures seated { Seated ground.now.turn.now (length N.site.services) chairs.new }
     ensures unused { Unused N.site chairs.old → Unused N.site chairs.new }
+    ensures opened { Unused N.site chairs.old → IsUnopened chairs.old → HasOpened N.site chairs.new }
     ensures room { SameRoom chairs.old chairs.new }
     ensures many { (length chairs.new.seats ≡ length chairs.old.seats) × (length chairs.new.turns ≡ length chairs.old.turns) }
 {
-    launch_from(ground, &mut chairs.seats[0], &mut chairs.turns[0]);
+    launch_row(ground, &mut chairs.seats[0], &mut chairs.turns[0]);
+    tell_all(ground.turn, &mut chairs.turns);
 }

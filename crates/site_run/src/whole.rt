@@ -1,11 +1,12 @@
 //! All that a run has between its beginning and its end.
 
-ghost use Rattle.std.specs.Prelude.{◌≡◌, ◌≤◌, ◌<◌, ◌+◌, List, length, map, IfOk, vec_len, vec_capacity, IfErr};
+ghost use Rattle.std.specs.Prelude.{◌≡◌, ◌≤◌, ◌<◌, ◌+◌, List, length, map, IfOk, vec_len, vec_capacity, IfErr, IsTrue};
 ghost use Rattle.std.specs.Arc.{arc_value};
 ghost use Rattle.okws_base.specs.declared.limit.TheConstants.{MOST_SERVICES, MOST_PROXIES, MOST_DOORS};
 ghost use Rattle.turn_lock.specs.Rows.{AllCount};
 ghost use Rattle.live_board.specs.Seats.{AllAt};
 ghost use Rattle.site_locks.specs.Sat.{ids_of};
+ghost use Rattle.monitor_model.specs.Causes.{all_were_caused};
 ghost use Rattle.okld_launch.specs.Failures.{FailuresAreTold};
 ghost use Rattle.site_worker.specs.Lives.{Life};
 ghost use Rattle.site_run.specs.Closing.{WritesLog, AllKept};
@@ -191,7 +192,7 @@ impl<N: Staffed, J: Site, C: CellNames, K: Keeper, S: Sink, F: Children, D: Door
     D,
 > {
     /// Stops and finishes all children, and ends all locks. So many connections were served. For each Failed
-    /// of the launcher's journal a fault was told of the children.
+    /// of the launcher's journal a fault was told of the children, and what was begun has its cause.
     pub fn end<R: Wait>(
         self,
         rt: &R,
@@ -208,6 +209,7 @@ impl<N: Staffed, J: Site, C: CellNames, K: Keeper, S: Sink, F: Children, D: Door
         ensures lives { (lives : List Life) → SeatsOf lives self.chairs → AllEnd N.launcher 0 lives result.record }
         ensures launched { LaunchesAreOwn N.launcher result.record }
         ensures failed { FailuresAreTold N.children result.record.launcher (F.family result.children) }
+        ensures caused { IsTrue (all_were_caused result.record result.record.launcher) }
         ensures counts { AreCounts N.site result.record result.counts }
         ensures connections { result.counts.connections ≡ connections }
         ensures kept { AllKept N.site N.tells N.steady N.keeper_faults 0 (map (keeper_of K.tables K.told K.faults K.steady) result.keepers.items) result.record.proxies }

@@ -6,3 +6,5 @@ pub mod Talked
 pub mod Listed
 pub mod Told
 pub mod Begun
+pub mod Waiting
+pub mod Waited

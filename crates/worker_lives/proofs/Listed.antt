@@ -31,7 +31,7 @@ use Rattle.worker_lives.proofs.Found.{joined, both_true}
 -- ---- the items of a piece behind its first
 
 -- the event may stand in a dialog
-abbrev is_pubd_extra : PubdEvent → Bool
+abbrev pub is_pubd_extra : PubdEvent → Bool
 is_pubd_extra (pubd.Install t k) = false
 is_pubd_extra (pubd.Revoke t k) = false
 is_pubd_extra (pubd.Publish t content) = false
@@ -39,7 +39,7 @@ is_pubd_extra (pubd.Drain t k) = true
 is_pubd_extra (pubd.Get t k name) = true
 
 -- the item may stand in a piece behind the first one
-abbrev is_extra : Own → Bool
+abbrev pub is_extra : Own → Bool
 is_extra (own.Proxy p e) = true
 is_extra (own.Pubd e) = is_pubd_extra e
 is_extra (own.Oklogd e) = true
@@ -68,7 +68,7 @@ entry_is_extra s (own.Boot t k) is = is
 entry_is_extra s (own.Retired t) is = is
 
 -- each of these may
-abbrev AllExtra : List Own → Type 0
+abbrev pub AllExtra : List Own → Type 0
 AllExtra items = Each (λ (item : Own). is_extra item ≡ true) items
 
 entries_are_extra : (s : ℕ) (taken items : List Own) → list_all (is_entry_of s) taken ≡ true → AllExtra items → AllExtra (taken ++ items)
@@ -100,7 +100,7 @@ to_adds C R w s k head content first mid S IsDown now kept own_is f = absurd f
 to_adds C R w s k head content first mid S IsMissed now kept own_is f = one_more first (own.Missed s k f.0) mid S now own_is (own_of now _ f.1) refl
 to_adds C R w s k head content first mid S WantsMemory now kept own_is f = one_more first own.NoMemory mid S now own_is (own_of now _ f) refl
 to_adds C R w s k head content first mid S (Spoke t j d) now kept own_is f =
-    let went : Went C (record { worker = w; service = s; incarnation = k }) _ now = went_of C w s k f.3 f.4 head content S now d kept.owns f.5 in
+    let went : Went C (record { worker = w; service = s; incarnation = k }) _ now = went_of C w s k f.3 f.4 f.5 head content S now d kept.owns f.6 in
     record {
       behind = went.taken ++ own.Dialog s ∷ [];
       own_is = went.taken_is ∙ ap (λ (items : List Own). went.taken ++ own.Dialog s ∷ items) own_is ∙ joined went.taken (own.Dialog s ∷ []) (first ∷ mid.own);
@@ -113,7 +113,7 @@ follows_adds C R w way.NotOwned head content first mid S outcome now kept own_is
 follows_adds C R w (way.Down s) head content first mid S outcome now kept own_is f = none_more first mid now (own_of now S f.1 ∙ own_is)
 follows_adds C R w (way.To s k) head content first mid S outcome now kept own_is f = to_adds C R w s k head content first mid S outcome now kept own_is f
 
-piece_adds : (C : Config) (R : Record) (w : ℕ) (piece : Piece) (mid now : Seen) → Kept C w mid → IsPiece C R w piece mid now → Adds (first_item piece) mid now
+pub piece_adds : (C : Config) (R : Record) (w : ℕ) (piece : Piece) (mid now : Seen) → Kept C w mid → IsPiece C R w piece mid now → Adds (first_item piece) mid now
 piece_adds C R w (Accepted path head content outcome) mid now kept f =
     let first : Steps (length C.proxies) w mid f.1 = okd_steps (length C.proxies) w (okd.Accept path) mid f.0 f.1 f.2 in
     let then : Kept C w f.1 = record { owns = first.owns kept.owns; trimmed = first.trimmed kept.trimmed } in

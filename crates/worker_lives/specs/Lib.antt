@@ -4,3 +4,4 @@ pub mod Laws
 pub mod Talking
 pub mod Listing
 pub mod Beginning
+pub mod Waiting

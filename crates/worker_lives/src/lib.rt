@@ -2,5 +2,6 @@
 #![tactic(auto)]
 
 pub mod laws;
+pub mod leads;
 pub mod lists;
 pub mod talks;

@@ -21,12 +21,12 @@ returns-clause-goes g c = record {
   before = c.take-launcher.result;
   after = c.launch_if_down-launcher.result.0;
   turn = record {
-    found = c.keeps.ensures;
+    found = c.keeps.ensures.is;
     grows = c.take-launcher.ensures.grows;
     enters = subst (λ (n : ℕ). Enters n c.launch_if_down-launcher.result.2 c.take-launcher.result.journal.past c.launch_if_down-launcher.result.0.journal.past) c.take-launcher.ensures.holder c.launch_if_down-launcher.ensures.enters;
     few = c.launch_if_down-launcher.ensures.few;
     most = most_of g.N.Numbered.site c.launch_if_down-launcher.result.2 c.launch_if_down-launcher.ensures.few;
-    leaves = c.keeps-2.ensures;
+    leaves = c.keeps-2.ensures.is;
     seen_is = ap (λ (a : SeatIs (Entry LauncherEvent)). a.seen) c.give.ensures.seat;
   };
   goes = subst (λ (n : ℕ). GoesIf g.N.Numbered.site n c.args.service c.take-launcher.result c.launch_if_down-launcher.result.1 c.launch_if_down-launcher.result.0) c.take-launcher.ensures.holder c.launch_if_down-launcher.ensures.goes;

@@ -21,12 +21,12 @@ returns-clause-goes g c = record {
   before = c.take-launcher.result;
   after = c.relaunch-launcher.result.0;
   turn = record {
-    found = c.keeps.ensures;
+    found = c.keeps.ensures.is;
     grows = c.take-launcher.ensures.grows;
     enters = subst (λ (n : ℕ). Enters n c.relaunch-launcher.result.2 c.take-launcher.result.journal.past c.relaunch-launcher.result.0.journal.past) c.take-launcher.ensures.holder c.relaunch-launcher.ensures.enters;
     few = c.relaunch-launcher.ensures.few;
     most = most_of g.N.Numbered.site c.relaunch-launcher.result.2 c.relaunch-launcher.ensures.few;
-    leaves = c.keeps-2.ensures;
+    leaves = c.keeps-2.ensures.is;
     seen_is = ap (λ (a : SeatIs (Entry LauncherEvent)). a.seen) c.give.ensures.seat;
   };
   goes = subst (λ (n : ℕ). GoesAsked g.N.Numbered.site n c.args.service c.take-launcher.result.journal.past c.take-launcher.result.crew.family c.relaunch-launcher.result.1 c.relaunch-launcher.result.0) c.take-launcher.ensures.holder c.relaunch-launcher.ensures.goes;

@@ -22,12 +22,12 @@ returns-clause-goes g c = record {
   before = c.take-launcher.result;
   after = c.crashed-launcher.result.0;
   turn = record {
-    found = c.keeps.ensures;
+    found = c.keeps.ensures.is;
     grows = c.take-launcher.ensures.grows;
     enters = subst (λ (n : ℕ). Enters n c.crashed-launcher.result.2 c.take-launcher.result.journal.past c.crashed-launcher.result.0.journal.past) c.take-launcher.ensures.holder (subst (λ (x : LauncherIs). Enters x.journal.holder c.crashed-launcher.result.2 x.journal.past c.crashed-launcher.result.0.journal.past) c.meet.ensures.same c.crashed-launcher.ensures.enters);
     few = c.crashed-launcher.ensures.few;
     most = most_of g.N.Numbered.site c.crashed-launcher.result.2 c.crashed-launcher.ensures.few;
-    leaves = c.keeps-2.ensures;
+    leaves = c.keeps-2.ensures.is;
     seen_is = ap (λ (a : SeatIs (Entry LauncherEvent)). a.seen) c.give.ensures.seat;
   };
   goes = subst (λ (n : ℕ). GoesCrashed g.N.Numbered.site n c.args.service c.args.incarnation c.take-launcher.result.journal.past c.take-launcher.result.crew.family c.crashed-launcher.result.1 c.crashed-launcher.result.0) c.take-launcher.ensures.holder

@@ -1,4 +1,4 @@
-use Rattle.std.proofs.Common.{arith, ◌≡◌, ◌≤◌, ◌<◌, ◌+◌, ℕ, [], ◌∷◌, ◌++◌, map, length, refl, sym, ap, ◌∙◌, subst}
+use Rattle.std.proofs.Common.{arith, ◌≡◌, ◌≤◌, ◌<◌, ◌+◌, ℕ, true, [], ◌∷◌, ◌++◌, map, length, refl, sym, ap, ◌∙◌, subst}
 use Rattle.std.specs.Prelude.{IsSome}
 use Rattle.monitor_model.specs.Pieces.{is_accept_item, is_ordered}
 use Rattle.okld_launch.specs.Failures.{FailuresAreTold}
@@ -15,7 +15,10 @@ use Rattle.site_run.proofs.Merging.{lists_make}
 use Rattle.site_run.proofs.Shown.{cells_are_true}
 use Rattle.site_run.proofs.Tying.{end_pop}
 use Rattle.okws_serve.proofs.Connected.{connects_doors}
+use Rattle.okws_serve.proofs.Leading.{all_lead}
+use Rattle.okws_serve.proofs.Lawful.{are_lawful}
 use Rattle.okws_serve.proofs.Listing.{Told, all_told}
+use Rattle.okws_serve.proofs.Opened.{begins_with_launches}
 use Rattle.okws_serve.proofs.Pieces.{console_is, console_obeys, doors_are}
 use Rattle.okws_serve.proofs.Serving.{console_ends, doors_alike, lives_many, serves_doors}
 use Rattle.okws_serve.proofs.Surviving.{if_some}
@@ -62,6 +65,9 @@ returns-clause-ran g c =
     let obeyed : OrdersAreObeyed C R (length old.entrances) w (g.O.Conn.wire r.console) failed
     = subst (λ o. OrdersAreObeyed C R (length old.entrances) w (g.O.Conn.wire o) failed) (sym c.left.ensures.objects.1) (console_obeys C n R (length old.entrances) w x failed proxies steered) in
     let cells = cells_are_true C g.N.Numbered.run_seed n R c.end-ended.ensures.laws c.end-ended.ensures.numbers (λ k l. (told k l).1) in
+    let kept : AllKept C true g.N.Backed.steady g.N.Backed.keeper_faults 0 (map keeper r.keepers.items) R.proxies
+    = subst (λ t. AllKept C t g.N.Backed.steady g.N.Backed.keeper_faults 0 (map keeper r.keepers.items) e.record.proxies) c.requires.tells
+    (subst (λ ks. AllKept C g.N.Backed.tells g.N.Backed.steady g.N.Backed.keeper_faults 0 (map keeper ks) e.record.proxies) (sym c.left.ensures.objects.2) c.end-ended.ensures.kept) in
     record {
       served = subst (λ k. ServesDoors wire C n most R old.entrances (map g.D.Door.entrance r.doors.items) k starved) (sym c.end-ended.ensures.connections)
           (subst (λ es. ServesDoors wire C n most R old.entrances es connections starved) (sym doors) served);
@@ -74,13 +80,17 @@ returns-clause-ran g c =
       pieces = all_pieces C R (length old.entrances) failed obeyed.orders (let k = c.end-ended.ensures.numbers.workers in omega arith) door_lists console_list obeyed.comes;
       connections = subst (ServesConnections wire C R old.entrances) (sym doors)
           (connects_doors wire C n most R c.end-ended.ensures.laws.proxies_are old.entrances places.entrances served.attended (let k = c.end-ended.ensures.numbers.workers in let l : length old.entrances ≤ length R.workers = omega arith in l) served.attend);
+      lead = all_lead C R n (length old.entrances) c.end-ended.ensures.numbers.workers (omega arith) c.end-ended.ensures.numbers.launcher door_lists console_list;
+      caused = c.end-ended.ensures.caused;
+      first = begins_with_launches wire C n z most (length old.entrances + 1) R (λ k l. c.end-ended.ensures.numbers.launcher k (omega (arith, l, many, alike))) (let k = c.end-ended.ensures.numbers.workers in omega (arith, k, many))
+          done.lives old places connections starved done.doors (let s = c.requires.held.some in omega (arith, s, alike)) ends.0 done.opened;
+      lawful = are_lawful C g.N.Numbered.run_seed n (length old.entrances) R g.N.Backed.steady g.N.Backed.keeper_faults (map keeper r.keepers.items) (let k = c.end-ended.ensures.numbers.workers in omega arith) c.end-ended.ensures.laws cells.1 door_lists console_list kept;
       missed = cells.0;
       stands = cells.1;
       laws = c.end-ended.ensures.laws;
       numbers = c.end-ended.ensures.numbers;
       counts = c.end-ended.ensures.counts;
-      kept = subst (λ t. AllKept C t g.N.Backed.steady g.N.Backed.keeper_faults 0 (map keeper r.keepers.items) e.record.proxies) c.requires.tells
-          (subst (λ ks. AllKept C g.N.Backed.tells g.N.Backed.steady g.N.Backed.keeper_faults 0 (map keeper ks) e.record.proxies) (sym c.left.ensures.objects.2) c.end-ended.ensures.kept);
+      kept = kept;
       failed = subst (FailuresAreTold g.N.Staffed.children e.record.launcher) (sym c.left.ensures.children) c.end-ended.ensures.failed;
       written = c.end-ended.ensures.written;
     }))

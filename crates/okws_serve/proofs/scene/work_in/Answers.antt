@@ -23,6 +23,9 @@ run-requires-clause-seated g c = λ κs within.
 pub run-requires-clause-unused : goal.run-requires-clause-unused
 run-requires-clause-unused g c = λ κs within. c.requires.ready.unused
 
+pub run-requires-clause-unopened : goal.run-requires-clause-unopened
+run-requires-clause-unopened g c = λ κs within. c.requires.ready.unopened
+
 pub run-requires-clause-retry : goal.run-requires-clause-retry
 run-requires-clause-retry g c = λ κs within. c.requires.servable.retry
 

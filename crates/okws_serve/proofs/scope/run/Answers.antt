@@ -27,21 +27,21 @@ pub unreachable-requires-in_default-last : goal.unreachable-requires-in_default-
 unreachable-requires-in_default-last g c =
     let ground = c.args.ground.now in
     let s = all_served g.D.Conn.Conn.wire g.N.Numbered.site g.N.Numbered.launcher ground.turn.now ground.numbers.now.id ground.most c.launch_all.new.chairs c.args.places.now.entrances (g.O.Conn.wire c.args.console.console)
-    c.man_all.new.posts.items c.work_posts.new.posts.items c.pop.new.self.items c.in-Some.last (c.launch_all.ensures.unused c.requires.unused) c.man_all.ensures.posted c.work_posts.ensures c.in-Some.ensures.items in
+    c.man_all.new.posts.items c.work_posts.new.posts.items c.pop.new.self.items c.in-Some.last (c.launch_all.ensures.unused c.requires.unused) (c.launch_all.ensures.opened c.requires.unused c.requires.unopened) c.man_all.ensures.posted c.work_posts.ensures c.in-Some.ensures.items in
     last_console g.D.Conn.Conn.wire g.N.Numbered.site g.N.Numbered.launcher s.console c.in-Some.last s.overseen (λ d e. c.in_default-last.not-Console d e)
 
 pub leave_doors-served-requires-clause-done : goal.leave_doors-served-requires-clause-done
 leave_doors-served-requires-clause-done g c =
     let ground = c.args.ground.now in
     let s = all_served g.D.Conn.Conn.wire g.N.Numbered.site g.N.Numbered.launcher ground.turn.now ground.numbers.now.id ground.most c.launch_all.new.chairs c.args.places.now.entrances (g.O.Conn.wire c.args.console.console)
-    c.man_all.new.posts.items c.work_posts.new.posts.items c.pop.new.self.items c.in-Some.last (c.launch_all.ensures.unused c.requires.unused) c.man_all.ensures.posted c.work_posts.ensures c.in-Some.ensures.items in
+    c.man_all.new.posts.items c.work_posts.new.posts.items c.pop.new.self.items c.in-Some.last (c.launch_all.ensures.unused c.requires.unused) (c.launch_all.ensures.opened c.requires.unused c.requires.unopened) c.man_all.ensures.posted c.work_posts.ensures c.in-Some.ensures.items in
     s.done.done
 
 pub leave_doors-served-requires-clause-room : goal.leave_doors-served-requires-clause-room
 leave_doors-served-requires-clause-room g c =
     let ground = c.args.ground.now in
     let s = all_served g.D.Conn.Conn.wire g.N.Numbered.site g.N.Numbered.launcher ground.turn.now ground.numbers.now.id ground.most c.launch_all.new.chairs c.args.places.now.entrances (g.O.Conn.wire c.args.console.console)
-    c.man_all.new.posts.items c.work_posts.new.posts.items c.pop.new.self.items c.in-Some.last (c.launch_all.ensures.unused c.requires.unused) c.man_all.ensures.posted c.work_posts.ensures c.in-Some.ensures.items in
+    c.man_all.new.posts.items c.work_posts.new.posts.items c.pop.new.self.items c.in-Some.last (c.launch_all.ensures.unused c.requires.unused) (c.launch_all.ensures.opened c.requires.unused c.requires.unopened) c.man_all.ensures.posted c.work_posts.ensures c.in-Some.ensures.items in
     let many = s.many in
     let alike = c.requires.alike in
     let l : vec_len c.pop.new.self ≤ length c.args.places.now.entrances = search (rules, arith) in
@@ -54,14 +54,14 @@ pub leave_console-console-requires-clause-done : goal.leave_console-console-requ
 leave_console-console-requires-clause-done g c =
     let ground = c.args.ground.now in
     let s = all_served g.D.Conn.Conn.wire g.N.Numbered.site g.N.Numbered.launcher ground.turn.now ground.numbers.now.id ground.most c.launch_all.new.chairs c.args.places.now.entrances (g.O.Conn.wire c.args.console.console)
-    c.man_all.new.posts.items c.work_posts.new.posts.items c.pop.new.self.items c.in-Some.last (c.launch_all.ensures.unused c.requires.unused) c.man_all.ensures.posted c.work_posts.ensures c.in-Some.ensures.items in
+    c.man_all.new.posts.items c.work_posts.new.posts.items c.pop.new.self.items c.in-Some.last (c.launch_all.ensures.unused c.requires.unused) (c.launch_all.ensures.opened c.requires.unused c.requires.unopened) c.man_all.ensures.posted c.work_posts.ensures c.in-Some.ensures.items in
     overseen_some g.N.Numbered.site s.console.overseen s.console c.in-Console.overseer s.none (here_overseen g.D.Conn.Conn.wire g.N.Numbered.site g.N.Numbered.launcher s.console c.in-Some.last c.in-Console.overseer s.overseen c.in-Console.is)
 
 pub leave_console-console-requires-clause-room : goal.leave_console-console-requires-clause-room
 leave_console-console-requires-clause-room g c =
     let ground = c.args.ground.now in
     let s = all_served g.D.Conn.Conn.wire g.N.Numbered.site g.N.Numbered.launcher ground.turn.now ground.numbers.now.id ground.most c.launch_all.new.chairs c.args.places.now.entrances (g.O.Conn.wire c.args.console.console)
-    c.man_all.new.posts.items c.work_posts.new.posts.items c.pop.new.self.items c.in-Some.last (c.launch_all.ensures.unused c.requires.unused) c.man_all.ensures.posted c.work_posts.ensures c.in-Some.ensures.items in
+    c.man_all.new.posts.items c.work_posts.new.posts.items c.pop.new.self.items c.in-Some.last (c.launch_all.ensures.unused c.requires.unused) (c.launch_all.ensures.opened c.requires.unused c.requires.unopened) c.man_all.ensures.posted c.work_posts.ensures c.in-Some.ensures.items in
     let many = s.many in
     let alike = c.requires.alike in
     let seats : length c.leave_doors-served.new.chairs.seats ≡ length c.pop.new.self.items = let q = c.leave_doors-served.ensures.many.0 in search rules in
@@ -77,7 +77,7 @@ returns-clause-seated g c =
     let w = g.O.Conn.wire c.args.console.console in
     let qs = c.pop.new.self.items in
     let s = all_served g.D.Conn.Conn.wire g.N.Numbered.site g.N.Numbered.launcher t ground.numbers.now.id ground.most c.launch_all.new.chairs es w
-    c.man_all.new.posts.items c.work_posts.new.posts.items qs c.in-Some.last (c.launch_all.ensures.unused c.requires.unused) c.man_all.ensures.posted c.work_posts.ensures c.in-Some.ensures.items in
+    c.man_all.new.posts.items c.work_posts.new.posts.items qs c.in-Some.last (c.launch_all.ensures.unused c.requires.unused) (c.launch_all.ensures.opened c.requires.unused c.requires.unopened) c.man_all.ensures.posted c.work_posts.ensures c.in-Some.ensures.items in
     let seats : length c.leave_doors-served.new.chairs.seats ≡ length qs = let q = c.leave_doors-served.ensures.many.0 in search rules in
     c.leave_console-console.ensures.seated t
     (overseer_back g.D.Conn.Conn.wire g.N.Numbered.site g.N.Numbered.launcher t ground.numbers.now.id ground.most es w qs c.in-Some.last c.in-Console.overseer (length c.leave_doors-served.new.chairs.seats) s c.in-Console.is (seats ∙ s.many))
@@ -87,7 +87,7 @@ pub returns-clause-many : goal.returns-clause-many
 returns-clause-many g c =
     let ground = c.args.ground.now in
     let s = all_served g.D.Conn.Conn.wire g.N.Numbered.site g.N.Numbered.launcher ground.turn.now ground.numbers.now.id ground.most c.launch_all.new.chairs c.args.places.now.entrances (g.O.Conn.wire c.args.console.console)
-    c.man_all.new.posts.items c.work_posts.new.posts.items c.pop.new.self.items c.in-Some.last (c.launch_all.ensures.unused c.requires.unused) c.man_all.ensures.posted c.work_posts.ensures c.in-Some.ensures.items in
+    c.man_all.new.posts.items c.work_posts.new.posts.items c.pop.new.self.items c.in-Some.last (c.launch_all.ensures.unused c.requires.unused) (c.launch_all.ensures.opened c.requires.unused c.requires.unopened) c.man_all.ensures.posted c.work_posts.ensures c.in-Some.ensures.items in
     let many = s.many in
     let alike = c.requires.alike in
     let seats : length c.leave_doors-served.new.chairs.seats ≡ length c.pop.new.self.items = let q = c.leave_doors-served.ensures.many.0 in search rules in
@@ -109,7 +109,7 @@ returns-clause-places g c =
     let w = g.O.Conn.wire c.args.console.console in
     let qs = c.pop.new.self.items in
     let s = all_served g.D.Conn.Conn.wire g.N.Numbered.site g.N.Numbered.launcher t ground.numbers.now.id ground.most c.launch_all.new.chairs es w
-    c.man_all.new.posts.items c.work_posts.new.posts.items qs c.in-Some.last (c.launch_all.ensures.unused c.requires.unused) c.man_all.ensures.posted c.work_posts.ensures c.in-Some.ensures.items in
+    c.man_all.new.posts.items c.work_posts.new.posts.items qs c.in-Some.last (c.launch_all.ensures.unused c.requires.unused) (c.launch_all.ensures.opened c.requires.unused c.requires.unopened) c.man_all.ensures.posted c.work_posts.ensures c.in-Some.ensures.items in
     places_back g.D.Conn.Conn.wire g.N.Numbered.site g.N.Numbered.launcher t ground.numbers.now.id ground.most es w qs c.in-Some.last c.leave_doors-served.new.places s c.leave_doors-served.ensures.doors c.leave_doors-served.ensures.places
 
 pub returns-clause-done : goal.returns-clause-done
@@ -125,7 +125,7 @@ returns-clause-done g c =
     let qs = c.pop.new.self.items in
     let d = c.in-Console.overseer in
     let s = all_served wire C n t z ground.most c.launch_all.new.chairs es w
-    c.man_all.new.posts.items c.work_posts.new.posts.items qs c.in-Some.last (c.launch_all.ensures.unused c.requires.unused) c.man_all.ensures.posted c.work_posts.ensures c.in-Some.ensures.items in
+    c.man_all.new.posts.items c.work_posts.new.posts.items qs c.in-Some.last (c.launch_all.ensures.unused c.requires.unused) (c.launch_all.ensures.opened c.requires.unused c.requires.unopened) c.man_all.ensures.posted c.work_posts.ensures c.in-Some.ensures.items in
     let l = c.leave_doors-served.ensures in
     let x = c.man_all.new.chairs in
     let y = c.leave_doors-served.new.chairs in
@@ -138,6 +138,7 @@ returns-clause-done g c =
       seats = all_seats (lives ++ d.life ∷ []) x v empty.0 empty.1 empty.2 (more_then lives (d.life ∷ []) x y v l.lives c.leave_console-console.ensures.whose);
       doors = doors_done wire C n t z ground.most c.args.places.now c.leave_doors-served.new.places s.doors qs c.leave_doors-served.result.connections c.leave_doors-served.result.starved
           s.done s.begin s.entrances_are l.doors l.places l.connections l.starved l.idle;
+      opened = s.opened;
       console = console_back wire C n t z ground.most es w (g.O.Conn.wire c.leave_console-console.result.0) qs c.in-Some.last d c.leave_console-console.result.1
           s c.in-Console.is c.leave_console-console.ensures.overseen c.leave_console-console.ensures.console;
     }

@@ -6,6 +6,8 @@ use Rattle.okws_base.specs.declared.journal.Entry.{Entry}
 use Rattle.okws_plan.specs.declared.event.LauncherEvent.{LauncherEvent}
 use Rattle.named_columns.specs.Launched.{by_entry}
 use Rattle.turn_lock.specs.Seats.{AllClosed}
+use Rattle.launch_crew.specs.Coming.{came_up}
+use Rattle.okld_launch.specs.Causing.{AllCaused}
 use Rattle.launch_crew.proofs.Children.{more_finished}
 use Rattle.okld_launch.proofs.Failing.{told_more}
 use Rattle.site_run.proofs.closing.end_launcher.Goals as goal
@@ -29,3 +31,6 @@ returns-clause-failed g c =
     let before = c.close-past.result.1.staff.family in
     let after = g.F.Children.family c.stop_all-stopped.result.children in
     told_more g.N.Staffed.children before after c.close-past.result.0 (more_finished ends.0 before after ends.1) c.close-past.ensures.failed
+
+pub returns-clause-caused : goal.returns-clause-caused
+returns-clause-caused g c = subst (λ (x : Sat). AllCaused (came_up x) c.close-past.result.0 c.close-past.result.0) (sym c.stop_all-stopped.ensures.columns) c.close-past.ensures.caused

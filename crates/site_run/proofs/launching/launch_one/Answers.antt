@@ -1,6 +1,12 @@
-use Rattle.std.proofs.Common.{ap, ◌∙◌}
+use Rattle.std.proofs.Common.{Bool, ap, ◌∙◌, subst}
 use Rattle.site_locks.specs.Sat.{Sat}
+use Rattle.worker_lives.specs.Waiting.{owes}
+use Rattle.round_lives.specs.Living.{starved_if}
+use Rattle.round_lives.proofs.Led.{launch_led}
+use Rattle.round_lives.proofs.Stepped.{turn_led}
+use Rattle.site_run.specs.Tied.{IsNotedWhere}
 use Rattle.site_run.proofs.Noted.{launch_noted, launched_unasked}
+use Rattle.site_run.proofs.Opened.{launch_opened, turn_behind}
 use Rattle.site_run.proofs.launching.launch_one.Goals as goal
 
 pub returns-clause-launches : goal.returns-clause-launches
@@ -10,5 +16,19 @@ returns-clause-launches g c = λ h.
     let by = c.launch_by-launched.ensures.goes in
     let t = by.turn in
     let events = c.launch_by-launched.result.1 in
-    launch_noted n events _ c.args.seats.now.own c.note_entered.new.seats.own c.note_where.new.seats.own c.args.seat.now.seen by.before.journal.past c.launch_by-launched.new.seat.seen t.grows (t.seen_is ∙ t.enters)
-    (launched_unasked C n c.args.service by.before c.launch_by-launched.result.0 by.after events t.enters by.goes) (ap (λ (s : Sat). s.own) c.note_entered.ensures.notes) c.note_where.ensures.notes h
+    launch_noted n events (starved_if c.launch_by-launched.result.0) c.args.seats.now.own c.note_entered.new.seats.own c.note_where.new.seats.own c.args.seat.now.seen by.before.journal.past c.launch_by-launched.new.seat.seen t.grows (t.seen_is ∙ t.enters)
+    (launched_unasked C n c.args.service by.before c.launch_by-launched.result.0 by.after events t.enters by.goes)
+    (turn_led n (owes (starved_if c.launch_by-launched.result.0) events) events by.before.journal.past by.after.journal.past c.launch_by-launched.new.seat.seen t.seen_is (launch_led C n c.args.service events by.before c.launch_by-launched.result.0 by.after t.enters by.goes)) (ap (λ (s : Sat). s.own) c.note_entered.ensures.notes) (subst (λ (b : Bool). IsNotedWhere b c.note_entered.new.seats.own c.note_where.new.seats.own) c.starved.ensures.is c.note_where.ensures.notes) h
+
+pub returns-clause-more : goal.returns-clause-more
+returns-clause-more g c =
+    let by = c.launch_by-launched.ensures.goes in
+    turn_behind g.N.Numbered.site c.args.seat.now.number c.launch_by-launched.result.1 c.args.seat.now.seen by.before by.after c.launch_by-launched.new.seat.seen by.turn
+
+pub returns-clause-opens : goal.returns-clause-opens
+returns-clause-opens g c = λ os many opens alone.
+    let C = g.N.Numbered.site in
+    let n = c.args.seat.now.number in
+    let by = c.launch_by-launched.ensures.goes in
+    launch_opened C n c.args.service c.launch_by-launched.result.0 c.launch_by-launched.result.1 c.starved.result c.args.seats.now.own c.note_entered.new.seats.own c.note_where.new.seats.own c.args.seat.now.seen by.before by.after
+    c.launch_by-launched.new.seat.seen os c.starved.ensures.opens c.requires.retry by.turn by.goes (ap (λ (s : Sat). s.own) c.note_entered.ensures.notes) c.note_where.ensures.notes many opens alone

@@ -1,10 +1,13 @@
-use Rattle.std.proofs.Common.{◌≡◌, ◌<◌, refl, sym, subst, arith}
+use Rattle.std.proofs.Common.{◌≡◌, ◌<◌, refl, sym, ap, subst, arith}
 use Rattle.monitor_model.specs.Launcher.{begun}
 use Rattle.launch_crew.specs.Crews.{Under, crew_of}
 use Rattle.launch_crew.specs.Recorded.{Recorded}
 use Rattle.okld_launch.proofs.Begins.{launcher_of, begun_kept, under_next}
 use Rattle.okld_launch.proofs.Failing.{told_entered}
 use Rattle.okws_plan.specs.declared.event.LauncherEvent.TheVariants as event
+use Rattle.launch_crew.specs.Coming.{came_up}
+use Rattle.okld_launch.specs.Launchers.{LauncherIs, MayLaunch}
+use Rattle.okld_launch.proofs.Caused.{begun_caused, begun_fresh}
 use Rattle.okld_launch.proofs.launcher.Launcher.begin.Goals as goal
 
 pub invariant_of-self : goal.invariant_of-self
@@ -15,6 +18,7 @@ invariant_of-self g c = record {
   failed = told_entered g.N.Staffed.children c.self.inside.crew.staff.family (event.Begun c.args.service c.begin-incarnation.result) c.self.inside.journal c.begin-incarnation.new.self refl c.begin-incarnation.ensures.entered c.self.invariant.failed;
   keeps = begun_kept g.N.Numbered.site c.args.service c.begin-incarnation.result (launcher_of c.self.inside.journal c.self.inside.crew.recorder c.self.inside.crew.staff c.self.inside.ups.items) (launcher_of c.begin-incarnation.new.self c.raise.new.self c.self.inside.crew.staff c.self.inside.ups.items)
       (λ i. record { journal = c.begin-incarnation.ensures.entered i; crew = crew_of (c.raise.ensures.is i) c.self.inside.crew.staff; ups = c.self.inside.ups.items }) c.begin-incarnation.ensures.next c.raise.ensures.shown c.self.invariant.keeps;
+  caused = begun_caused c.args.service c.begin-incarnation.result (launcher_of c.self.inside.journal c.self.inside.crew.recorder c.self.inside.crew.staff c.self.inside.ups.items) (launcher_of c.begin-incarnation.new.self c.raise.new.self c.self.inside.crew.staff c.self.inside.ups.items) c.begin-incarnation.ensures.entered (λ s k. ap (λ (r : Recorded). came_up r.sat s k) c.raise.ensures.is) refl c.begin-incarnation.ensures.next (subst (λ (x : LauncherIs). MayLaunch c.args.service x) (sym c.self.view_is) c.requires.cause) c.self.invariant.caused;
 }
 
 pub raise-requires-clause-above : goal.raise-requires-clause-above
@@ -23,3 +27,7 @@ raise-requires-clause-above g c = omega (arith, (c.self.invariant.keeps.each c.a
 pub returns-clause-under : goal.returns-clause-under
 returns-clause-under g c = subst (λ (r : Recorded). Under c.args.service c.begin-incarnation.result (crew_of r c.self.inside.crew.staff)) (sym c.raise.ensures.is)
     (under_next c.args.service (begun c.self.inside.journal.past c.args.service) c.begin-incarnation.result (crew_of c.self.inside.crew.recorder c.self.inside.crew.staff) c.begin-incarnation.ensures.next (c.self.invariant.keeps.each c.args.service).below)
+
+pub returns-clause-fresh : goal.returns-clause-fresh
+returns-clause-fresh g c = begun_fresh c.args.service c.begin-incarnation.result (launcher_of c.self.inside.journal c.self.inside.crew.recorder c.self.inside.crew.staff c.self.inside.ups.items) (launcher_of c.begin-incarnation.new.self c.raise.new.self c.self.inside.crew.staff c.self.inside.ups.items) c.begin-incarnation.ensures.entered
+    (λ s k. ap (λ (r : Recorded). came_up r.sat s k) c.raise.ensures.is) c.begin-incarnation.ensures.next c.self.invariant.caused

@@ -1,12 +1,13 @@
 use Rattle.std.proofs.Common.{◌≡◌, ◌<◌, ◌≤◌, length, refl, sym, ap, subst, arith}
 use Rattle.std.specs.Prelude.{slice_set}
 use Rattle.launch_crew.specs.Crews.{Under, crew_of}
-use Rattle.okld_launch.specs.Launchers.{LauncherIs}
+use Rattle.okld_launch.specs.Launchers.{LauncherIs, MayLaunch}
 use Rattle.okld_launch.proofs.Begins.{launcher_of}
 use Rattle.okld_launch.proofs.Placing.{Clears, cleared, quiet_clears, under_clears}
 use Rattle.launch_crew.specs.Told.{TellsMore}
 use Rattle.launch_crew.proofs.Children.{more_emptied}
 use Rattle.okld_launch.proofs.Failing.{told_more}
+use Rattle.okld_launch.proofs.Caused.{cleared_caused, cleared_none}
 use Rattle.okld_launch.proofs.launcher.Launcher.clear.Goals as goal
 
 pub invariant_of-self : goal.invariant_of-self
@@ -24,6 +25,16 @@ invariant_of-self g c = record {
         empties = c.empty.ensures;
       })
       (omega (arith, ap (λ (x : LauncherIs). x.crew.room) c.self.view_is, c.requires.room, c.down.ensures.room, c.revoke.ensures.room, c.empty.ensures.room));
+  caused = cleared_caused c.args.service (launcher_of c.self.inside.journal c.self.inside.crew.recorder c.self.inside.crew.staff c.self.inside.ups.items) (launcher_of c.self.inside.journal c.empty.new.self.recorder c.empty.new.self.staff (slice_set c.self.inside.ups.items c.args.service 0)) refl refl
+      (cleared_none g.N.Numbered.site c.args.service (crew_of c.self.inside.crew.recorder c.self.inside.crew.staff) (crew_of c.down.new.self c.self.inside.crew.staff) (crew_of c.revoke.new.self c.self.inside.crew.staff) (crew_of c.empty.new.self.recorder c.empty.new.self.staff) c.down.ensures.came
+      (record {
+        down_hands = record { watch_is = c.down.ensures.cells; running_is = refl; family_is = refl };
+        downs = c.down.ensures.downs;
+        revoke_hands = record { watch_is = c.revoke.ensures.cells; running_is = refl; family_is = refl };
+        revokes = c.revoke.ensures.revokes;
+        empties = c.empty.ensures;
+      }))
+      (subst (λ (x : LauncherIs). MayLaunch c.args.service x) (sym c.self.view_is) c.requires.cause) c.self.invariant.caused;
 }
 
 pub returns-clause-quiet : goal.returns-clause-quiet

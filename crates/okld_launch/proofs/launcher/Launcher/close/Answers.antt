@@ -4,6 +4,8 @@ use Rattle.okws_base.specs.declared.journal.Entry.{Entry}
 use Rattle.okws_plan.specs.declared.event.LauncherEvent.{LauncherEvent}
 use Rattle.monitor_model.specs.Launcher.{begun}
 use Rattle.launch_crew.specs.Crews.{Below}
+use Rattle.launch_crew.specs.Coming.{came_up}
+use Rattle.okld_launch.specs.Causing.{AllCaused}
 use Rattle.okld_launch.specs.Failures.{FailuresAreTold}
 use Rattle.okld_launch.proofs.launcher.Launcher.close.Goals as goal
 
@@ -15,3 +17,6 @@ returns-clause-shown g c = λ s within. subst (λ (J : List (Entry LauncherEvent
 
 pub returns-clause-failed : goal.returns-clause-failed
 returns-clause-failed g c = subst (λ (J : List (Entry LauncherEvent)). FailuresAreTold g.N.Staffed.children J c.self.inside.crew.staff.family) (sym c.close.ensures.past) c.self.invariant.failed
+
+pub returns-clause-caused : goal.returns-clause-caused
+returns-clause-caused g c = subst (λ (J : List (Entry LauncherEvent)). AllCaused (came_up c.self.inside.crew.recorder.sat) J J) (sym c.close.ensures.past) c.self.invariant.caused.all

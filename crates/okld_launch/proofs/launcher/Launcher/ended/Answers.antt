@@ -11,4 +11,5 @@ invariant_of-self g c = record {
   few = c.self.invariant.few;
   failed = subst (λ (t : StaffIs). FailuresAreTold g.N.Staffed.children c.self.inside.journal.past t.family) (sym c.in-Some.ensures.is) c.self.invariant.failed;
   keeps = same_crew g.N.Numbered.site (launcher_of c.self.inside.journal c.self.inside.crew.recorder c.self.inside.crew.staff c.self.inside.ups.items) (crew_of c.self.inside.crew.recorder c.ended.new.self) (asked c.args.service c.in-Some.answer c.self.inside.crew.recorder c.self.inside.crew.staff c.ended.new.self c.in-Some.ensures) c.self.invariant.keeps;
+  caused = c.self.invariant.caused;
 }

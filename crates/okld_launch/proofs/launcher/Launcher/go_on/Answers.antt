@@ -10,12 +10,13 @@ use Rattle.launch_journal.specs.declared.next.Next.TheVariants as next
 use Rattle.okld_launch.specs.Going.{Attempts}
 use Rattle.okld_launch.specs.Entering.{Enters}
 use Rattle.okld_launch.specs.declared.answer.Attempt.{Attempt}
-use Rattle.okld_launch.proofs.Told.{fell_next, goes_refused, nearer}
+use Rattle.okld_launch.proofs.Caused.{failed_may}
+use Rattle.okld_launch.proofs.Told.{fell_next, goes_refused, goes_up, nearer}
 use Rattle.okld_launch.proofs.Counting.{fell_begun, up_told, refused_told, told_as, few_as}
 use Rattle.okld_launch.proofs.launcher.Launcher.go_on.Goals as goal
 
 pub loop-what-init : goal.loop-what-init
-loop-what-init g c = ((refl, refl), refl, c.next-what.ensures, omega (arith, c.greatest-first.ensures.is, c.greatest-first.ensures.most))
+loop-what-init g c = ((refl, refl), refl, c.next-what.ensures, omega (arith, c.greatest-first.ensures.is, c.greatest-first.ensures.most), c.requires.cause)
 
 pub loop-what-preserved : goal.loop-what-preserved
 loop-what-preserved g c =
@@ -27,7 +28,8 @@ loop-what-preserved g c =
     let m = c.loop-what.launcher in
     let after = c.attempt-after.result.0 in
     let inv = c.loop-what.invariant in
-    let may : Allows C m.journal.past s next.Begin = search rules in
+    let begins = c.begins.ensures.yes c.loop-what-test.true in
+    let may = subst (λ (x : Next). Allows C m.journal.past s x) begins inv.2 in
     let all = subst (λ (n : ℕ). Attempts C n s m.journal.past m.crew.family c.attempt-after.result.1 after) inv.1 c.attempt-after.ensures.attempts in
     let failed = subst (λ (x : Attempt). Attempts C w s m.journal.past m.crew.family x after) c.in-Failed.is all in
     let below : begun m.journal.past s < MOST_INCARNATIONS = may.0 in (
@@ -35,6 +37,7 @@ loop-what-preserved g c =
       c.attempt-after.ensures.holder ∙ inv.1,
       c.next-what-in-loop-what.ensures,
       omega (arith, below, fell_begun C w s c.loop-what.failed J f m.journal.past m.crew.family inv.0),
+      failed_may w s m.journal.past after failed.0,
     )
 
 pub loop-what-smaller : goal.loop-what-smaller
@@ -43,9 +46,24 @@ loop-what-smaller g c =
     let s = c.args.service in
     let m = c.loop-what.launcher in
     let after = c.attempt-after.result.0 in
-    let may : Allows C m.journal.past s next.Begin = search rules in
+    let begins = c.begins.ensures.yes c.loop-what-test.true in
+    let may = subst (λ (x : Next). Allows C m.journal.past s x) begins c.loop-what.invariant.2 in
     let failed = subst (λ (x : Attempt). Attempts C m.journal.holder s m.journal.past m.crew.family x after) c.in-Failed.is c.attempt-after.ensures.attempts in
     nearer C m.journal.holder s m.journal.past m.crew.family after may failed
+
+pub returns-in-Up-clause-goes : goal.returns-in-Up-clause-goes
+returns-in-Up-clause-goes g c =
+    let C = g.N.Numbered.site in
+    let s = c.args.service in
+    let w = c.args.self.journal.holder in
+    let m = c.loop-what.launcher in
+    let after = c.attempt-after.result.0 in
+    let inv = c.loop-what.invariant in
+    let begins = c.begins.ensures.yes c.loop-what-test.true in
+    let may = subst (λ (x : Next). Allows C m.journal.past s x) begins inv.2 in
+    let all = subst (λ (n : ℕ). Attempts C n s m.journal.past m.crew.family c.attempt-after.result.1 after) inv.1 c.attempt-after.ensures.attempts in
+    let up = subst (λ (x : Attempt). Attempts C w s m.journal.past m.crew.family x after) c.in-Up.is all in
+    goes_up C w s c.loop-what.failed c.in-Up.incarnation c.args.self.journal.past c.args.self.crew.family m.journal.past m.crew.family after inv.0 may up
 
 pub returns-in-Up-clause-enters : goal.returns-in-Up-clause-enters
 returns-in-Up-clause-enters g c =
@@ -64,7 +82,7 @@ pub returns-in-Up-clause-few : goal.returns-in-Up-clause-few
 returns-in-Up-clause-few g c =
     let m = c.loop-what.launcher in
     few_as g.N.Numbered.site c.args.self.journal.holder c.args.service c.loop-what.failed c.greatest-first.result c.args.self.journal.past c.args.self.crew.family m.journal.past m.crew.family c.args.opening (Some (event.Begun c.args.service c.in-Up.incarnation)) c.new-entered.result
-    c.new-entered.ensures c.greatest-first.ensures.is c.keeps.ensures.tried_are c.loop-what.invariant.0
+    c.new-entered.ensures c.greatest-first.ensures.is c.keeps.ensures.is.tried_are c.loop-what.invariant.0
 
 pub returns-in-NoMemory-clause-goes : goal.returns-in-NoMemory-clause-goes
 returns-in-NoMemory-clause-goes g c =
@@ -74,7 +92,7 @@ returns-in-NoMemory-clause-goes g c =
     let m = c.loop-what.launcher in
     let after = c.attempt-after.result.0 in
     let inv = c.loop-what.invariant in
-    let begins : c.loop-what.what ≡ next.Begin = search rules in
+    let begins = c.begins.ensures.yes c.loop-what-test.true in
     let may = subst (λ (x : Next). Allows C m.journal.past s x) begins inv.2 in
     let all = subst (λ (n : ℕ). Attempts C n s m.journal.past m.crew.family c.attempt-after.result.1 after) inv.1 c.attempt-after.ensures.attempts in
     let refused = subst (λ (x : Attempt). Attempts C w s m.journal.past m.crew.family x after) c.in-NoMemory.is all in
@@ -101,7 +119,7 @@ pub returns-in-NoMemory-clause-few : goal.returns-in-NoMemory-clause-few
 returns-in-NoMemory-clause-few g c =
     let m = c.loop-what.launcher in
     few_as g.N.Numbered.site c.args.self.journal.holder c.args.service c.loop-what.failed c.greatest-first.result c.args.self.journal.past c.args.self.crew.family m.journal.past m.crew.family c.args.opening c.last_begun-begun.result c.new-entered-in-NoMemory.result
-    c.new-entered-in-NoMemory.ensures c.greatest-first.ensures.is c.keeps.ensures.tried_are c.loop-what.invariant.0
+    c.new-entered-in-NoMemory.ensures c.greatest-first.ensures.is c.keeps.ensures.is.tried_are c.loop-what.invariant.0
 
 pub returns-clause-enters : goal.returns-clause-enters
 returns-clause-enters g c =
@@ -116,4 +134,4 @@ pub returns-clause-few : goal.returns-clause-few
 returns-clause-few g c =
     let m = c.loop-what.launcher in
     few_as g.N.Numbered.site c.args.self.journal.holder c.args.service c.loop-what.failed c.greatest-first.result c.args.self.journal.past c.args.self.crew.family m.journal.past m.crew.family c.args.opening c.end-launcher.result.2 c.new-entered-2.result
-    c.new-entered-2.ensures c.greatest-first.ensures.is c.keeps.ensures.tried_are c.loop-what.invariant.0
+    c.new-entered-2.ensures c.greatest-first.ensures.is c.keeps.ensures.is.tried_are c.loop-what.invariant.0

@@ -5,6 +5,8 @@ use Rattle.launch_crew.specs.Crews.{StandsAt, RunsAs, child_of, crew_of}
 use Rattle.okld_launch.specs.Launchers.{LauncherIs, up_in}
 use Rattle.okld_launch.proofs.Begins.{launcher_of}
 use Rattle.okld_launch.proofs.Placing.{installed_kept}
+use Rattle.okld_launch.proofs.Caused.{kept_caused}
+use Rattle.launch_crew.proofs.Coming.{none_columns}
 use Rattle.okld_launch.proofs.launcher.Launcher.install.Goals as goal
 
 pub invariant_of-self : goal.invariant_of-self
@@ -16,4 +18,5 @@ invariant_of-self g c = record {
   keeps = installed_kept g.N.Numbered.site c.args.service c.args.incarnation (launcher_of c.self.inside.journal c.self.inside.crew.recorder c.self.inside.crew.staff c.self.inside.ups.items) (launcher_of c.self.inside.journal c.install.new.self c.self.inside.crew.staff c.self.inside.ups.items) c.self.invariant.keeps refl refl
       (record { watch_is = c.install.ensures.cells; running_is = refl; family_is = refl }) c.install.ensures.installs (subst (λ (x : LauncherIs). c.args.incarnation ≤ begun x.journal.past c.args.service) (sym c.self.view_is) c.requires.begun) (ap (λ (x : LauncherIs). up_in x c.args.service) c.self.view_is ∙ c.requires.down)
       (omega (arith, ap (λ (x : LauncherIs). x.crew.room) c.self.view_is, c.requires.room, c.install.ensures.room));
+  caused = kept_caused (launcher_of c.self.inside.journal c.self.inside.crew.recorder c.self.inside.crew.staff c.self.inside.ups.items) (launcher_of c.self.inside.journal c.install.new.self c.self.inside.crew.staff c.self.inside.ups.items) refl (none_columns c.self.inside.crew.recorder.sat c.install.new.self.sat c.install.ensures.installs.only) refl c.self.invariant.caused;
 }

@@ -10,6 +10,8 @@ use Rattle.launch_crew.specs.Steps.{Starts}
 use Rattle.launch_crew.specs.Told.{TellsMore}
 use Rattle.okld_launch.proofs.Failing.{told_more, told_failed}
 use Rattle.launch_crew.proofs.Children.{more_same}
+use Rattle.okld_launch.proofs.Caused.{kept_caused}
+use Rattle.launch_crew.proofs.Coming.{none_same}
 use Rattle.okld_launch.proofs.launcher.Launcher.start.Goals as goal
 
 pub invariant_of-self : goal.invariant_of-self
@@ -20,6 +22,7 @@ invariant_of-self g c = record {
   failed = told_more g.N.Staffed.children c.self.inside.crew.staff.family c.start.new.self.staff.family c.self.inside.journal.past (tries_of c.start.result c.args.service c.args.incarnation (crew_of c.self.inside.crew.recorder c.self.inside.crew.staff) (crew_of c.start.new.self.recorder c.start.new.self.staff) c.start.ensures.ok c.start.ensures.err).told c.self.invariant.failed;
   keeps = started_kept c.start.result g.N.Numbered.site c.args.service c.args.incarnation (launcher_of c.self.inside.journal c.self.inside.crew.recorder c.self.inside.crew.staff c.self.inside.ups.items) (launcher_of c.self.inside.journal c.start.new.self.recorder c.start.new.self.staff c.self.inside.ups.items) c.start.ensures.ok c.start.ensures.err c.self.invariant.keeps refl refl (subst (λ (x : LauncherIs). c.args.incarnation ≤ begun x.journal.past c.args.service) (sym c.self.view_is) c.requires.begun) (ap (λ (x : LauncherIs). up_in x c.args.service) c.self.view_is ∙ c.requires.down)
       (omega (arith, ap (λ (x : LauncherIs). x.crew.room) c.self.view_is, c.requires.room, (tries_of c.start.result c.args.service c.args.incarnation (crew_of c.self.inside.crew.recorder c.self.inside.crew.staff) (crew_of c.start.new.self.recorder c.start.new.self.staff) c.start.ensures.ok c.start.ensures.err).room));
+  caused = kept_caused (launcher_of c.self.inside.journal c.self.inside.crew.recorder c.self.inside.crew.staff c.self.inside.ups.items) (launcher_of c.self.inside.journal c.start.new.self.recorder c.start.new.self.staff c.self.inside.ups.items) refl (none_same c.self.inside.crew.recorder.sat c.start.new.self.recorder.sat (tries_of c.start.result c.args.service c.args.incarnation (crew_of c.self.inside.crew.recorder c.self.inside.crew.staff) (crew_of c.start.new.self.recorder c.start.new.self.staff) c.start.ensures.ok c.start.ensures.err).sat_is) refl c.self.invariant.caused;
 }
 
 pub returns-clause-child : goal.returns-clause-child

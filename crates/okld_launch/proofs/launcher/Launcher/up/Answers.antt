@@ -1,10 +1,11 @@
-use Rattle.std.proofs.Common.{◌≡◌, ◌∙◌, ◌≤◌, refl, sym, ap, subst, arith}
+use Rattle.std.proofs.Common.{◌≡◌, ◌∙◌, ◌<◌, ◌≤◌, refl, sym, ap, subst, arith}
 use Rattle.std.specs.Prelude.{slice_set}
 use Rattle.monitor_model.specs.Launcher.{begun}
 use Rattle.launch_crew.specs.Crews.{StandsAt, RunsAs, child_of, crew_of}
 use Rattle.okld_launch.specs.Launchers.{LauncherIs, up_in}
 use Rattle.okld_launch.proofs.Begins.{launcher_of}
 use Rattle.okld_launch.proofs.Placing.{upped_kept, looked_kept}
+use Rattle.okld_launch.proofs.Caused.{at_most, kept_caused, upped_caused}
 use Rattle.okld_launch.proofs.launcher.Launcher.up.Goals as goal
 
 pub invariant_of-self : goal.invariant_of-self
@@ -16,6 +17,7 @@ invariant_of-self g c = record {
   keeps = looked_kept g.N.Numbered.site c.args.service (launcher_of c.self.inside.journal c.self.inside.crew.recorder c.self.inside.crew.staff c.self.inside.ups.items) (launcher_of c.self.inside.journal c.up.new.self c.self.inside.crew.staff c.self.inside.ups.items) c.self.invariant.keeps refl refl
       (record { watch_is = c.up.ensures.cells; running_is = refl; family_is = refl }) c.in_err-up.ensures.err (ap (λ (x : LauncherIs). up_in x c.args.service) c.self.view_is ∙ c.requires.down)
       (omega (arith, ap (λ (x : LauncherIs). x.crew.room) c.self.view_is, c.requires.room, c.up.ensures.room));
+  caused = kept_caused (launcher_of c.self.inside.journal c.self.inside.crew.recorder c.self.inside.crew.staff c.self.inside.ups.items) (launcher_of c.self.inside.journal c.up.new.self c.self.inside.crew.staff c.self.inside.ups.items) refl c.in_err-up.ensures.none refl c.self.invariant.caused;
 }
 
 pub invariant_of-self-2 : goal.invariant_of-self-2
@@ -25,8 +27,9 @@ invariant_of-self-2 g c = record {
   few = c.self.invariant.few;
   failed = c.self.invariant.failed;
   keeps = upped_kept g.N.Numbered.site c.args.service c.args.incarnation (launcher_of c.self.inside.journal c.self.inside.crew.recorder c.self.inside.crew.staff c.self.inside.ups.items) (launcher_of c.self.inside.journal c.up.new.self c.self.inside.crew.staff (slice_set c.self.inside.ups.items c.args.service c.args.incarnation)) c.self.invariant.keeps refl refl c.requires.service
-      (record { watch_is = c.up.ensures.cells; running_is = refl; family_is = refl }) c.in_ok-up.ensures.ok c.requires.counted (subst (λ (x : LauncherIs). c.args.incarnation ≤ begun x.journal.past c.args.service) (sym c.self.view_is) c.requires.begun)
+      (record { watch_is = c.up.ensures.cells; running_is = refl; family_is = refl }) c.in_ok-up.ensures.ok c.requires.counted (at_most c.args.incarnation (begun c.self.inside.journal.past c.args.service) (subst (λ (x : LauncherIs). c.args.incarnation ≡ begun x.journal.past c.args.service) (sym c.self.view_is) c.requires.begun))
       (subst (λ (x : LauncherIs). StandsAt g.N.Numbered.site c.args.service c.args.incarnation x.crew.sat) (sym c.self.view_is) c.requires.stands)
       (subst (λ (x : LauncherIs). RunsAs c.args.incarnation (child_of x.crew c.args.service)) (sym c.self.view_is) c.requires.child)
       (omega (arith, ap (λ (x : LauncherIs). x.crew.room) c.self.view_is, c.requires.room, c.up.ensures.room));
+  caused = upped_caused c.args.service c.args.incarnation (launcher_of c.self.inside.journal c.self.inside.crew.recorder c.self.inside.crew.staff c.self.inside.ups.items) (launcher_of c.self.inside.journal c.up.new.self c.self.inside.crew.staff (slice_set c.self.inside.ups.items c.args.service c.args.incarnation)) refl refl (subst (λ n. c.args.service < n) (sym c.self.invariant.keeps.ups_are) c.requires.service) c.in_ok-up.ensures.came (subst (λ (x : LauncherIs). c.args.incarnation ≡ begun x.journal.past c.args.service) (sym c.self.view_is) c.requires.begun) c.self.invariant.caused;
 }

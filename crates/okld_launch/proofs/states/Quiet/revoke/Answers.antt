@@ -1,5 +1,6 @@
 use Rattle.std.proofs.Common.{◌≡◌, ◌+◌, ◌≤◌, subst, arith}
 use Rattle.okws_base.specs.declared.limit.TheConstants.{MOST_PROXIES}
+use Rattle.okld_launch.proofs.Caused.{broke_may}
 use Rattle.okld_launch.proofs.Stating.{begins_on, launch_of, goes_on}
 use Rattle.okld_launch.specs.States.{LaunchIs, GoesOn}
 use Rattle.okld_launch.proofs.states.Quiet.revoke.Goals as goal
@@ -16,3 +17,6 @@ invariant_of-result g c = record {
 pub returns : goal.returns
 returns g c = subst (λ (x : LaunchIs). GoesOn x (launch_of c.clear.new.self c.self.inside.service c.self.inside.incarnation)) c.self.view_is
     (goes_on c.self.inside.launcher c.clear.new.self c.self.inside.service c.self.inside.incarnation c.clear.ensures.journal c.clear.ensures.told)
+
+pub clear-requires-clause-cause : goal.clear-requires-clause-cause
+clear-requires-clause-cause g c = broke_may c.self.inside.service c.self.inside.incarnation c.self.inside.launcher c.self.invariant.begins.begun_is c.self.invariant.fresh

@@ -1,4 +1,4 @@
-use Rattle.std.proofs.Common.{rules, arith, ◌≡◌, ◌≤◌, ◌<◌, ◌+◌, [], length, map, sym, ap, ◌∙◌, subst}
+use Rattle.std.proofs.Common.{rules, arith, ◌≡◌, ◌≤◌, ◌<◌, ◌+◌, true, [], length, map, sym, ap, ◌∙◌, subst}
 use Rattle.std.proofs.lemmas.List.{length-map}
 use Rattle.turn_lock.specs.Rows.{AllCount, NoneFrom}
 use Rattle.okws_outer.specs.Families.{Family}
@@ -16,6 +16,9 @@ use Rattle.site_run.specs.Rows.{ChairsAre, Seated}
 use Rattle.site_run.specs.Tied.{AllEnd, LaunchesAreOwn, SeatsOf}
 use Rattle.site_run.specs.Whole.{IsHeld}
 use Rattle.site_run.specs.declared.ended.Counts.{Counts}
+use Rattle.monitor_model.specs.Causes.{all_were_caused}
+use Rattle.launch_crew.specs.Coming.{came_up}
+use Rattle.site_run.proofs.Caused.{record_ups, were_caused}
 use Rattle.site_run.proofs.Closed.{are_seated}
 use Rattle.site_run.proofs.Leaving.{launches_own, lives_end, raised_all}
 use Rattle.site_run.proofs.whole.Run.end.Goals as goal
@@ -215,3 +218,27 @@ pub returns-clause-failed : goal.returns-clause-failed
 returns-clause-failed g c =
     subst (λ (R : Record). FailuresAreTold g.N.Staffed.children R.launcher (g.F.Children.family c.told.result.children)) (sym c.told.ensures.journals)
     (subst (λ (f : Family). FailuresAreTold g.N.Staffed.children c.end_launcher-past.result.past f) (sym c.told.ensures.children) c.end_launcher-past.ensures.failed)
+
+pub returns-clause-caused : goal.returns-clause-caused
+returns-clause-caused g c =
+    let n = g.N.Numbered.launcher in
+    let past = c.end_launcher-past in
+    let columns = c.end_columns-columns in
+    let cells = c.end_cells-cells in
+    let R : Record = record {
+      okd = columns.result.okd.past;
+      proxies = columns.result.proxies.pasts.items;
+      pubd = columns.result.pubd.past;
+      oklogd = columns.result.oklogd.past;
+      launcher = past.result.past;
+      cells = cells.result.events.items;
+      sents = cells.result.sents.items;
+      doors = [];
+      workers = columns.result.workers.items;
+      launches = past.result.stopped.own;
+    } in
+    let launched : LaunchesAreOwn n R = launches_own n R c.chairs.inside.seats.items c.push_reserved.new.self.items past.result.stopped.seats c.chairs.inside.cells.items c.push_reserved-2.new.self.items past.result.stopped.cells
+    c.push_reserved.ensures.items c.push_reserved-2.ensures.items past.ensures.numbers.0 past.ensures.numbers.1 columns.ensures.grown cells.ensures.grown
+    (past.ensures.none n (let count = c.requires.held.turn_count in omega arith)) past.ensures.own in
+    subst (λ (S : Record). all_were_caused S S.launcher ≡ true) (sym c.told.ensures.journals)
+    (were_caused R (came_up past.result.stopped.seats) (record_ups n R past.result.stopped.seats past.ensures.numbers.0 (launched.own.okd ∙ sym past.ensures.own.okd) columns.ensures.okd.1) R.launcher past.ensures.caused)

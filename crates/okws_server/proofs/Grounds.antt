@@ -1,21 +1,29 @@
 -- What a server's run is over is as its run wants it.
-use Rattle.std.proofs.Common.{◌≡◌, ◌∙◌, ℕ, suc, ◌+◌, ◌<◌, ◌≤◌, true, List, [], ◌∷◌, ◌++◌, length, map, replicate, refl, sym, ap, subst, arith, Result, Some}
-use Rattle.std.specs.Prelude.{Ok, Err, IfOk, zero}
-use Rattle.std.specs.List.{All}
+use Rattle.std.proofs.Common.{◌≡◌, ◌∙◌, ℕ, suc, ◌+◌, ◌<◌, ◌≤◌, true, List, [], ◌∷◌, ◌++◌, length, map, drop, replicate, refl, sym, ap, subst, arith, Option, Result, Some, None}
+use Rattle.std.specs.Prelude.{Ok, Err, IfOk, zero, ◌==◌, find, nat_lt, slice_get, slice_index_or}
+use Rattle.std.specs.List.{All, list_all}
 use Rattle.std.proofs.lemmas.Bool.{and_from, and_parts}
 use Rattle.std.proofs.lemmas.List.{length-map, length-replicate}
 use Rattle.std.proofs.lemmas.List.Elements.{All-head, All-tail}
-use Rattle.okws_base.specs.declared.limit.TheConstants.{MOST_DOORS}
+use Rattle.okws_base.specs.declared.limit.TheConstants.{GREATEST_RETRY, MOST_DOORS, MOST_SERVICES, MOST_TEMPLATES}
+use Rattle.okws_base.specs.declared.value.Value.{Value}
 use Rattle.okws_outer.specs.Doors.{Entrance, new_entrance}
-use Rattle.okws_plan.specs.Configuration.{template_name, tables}
+use Rattle.okws_plan.specs.Configuration.{queries_of, tables, tables_of, template_name}
+use Rattle.okws_plan.specs.Rules.{QueriesKeepRules}
 use Rattle.okws_plan.specs.Sound.{IsSound}
 use Rattle.okws_plan.specs.declared.configuration.Config.{Config}
+use Rattle.okws_plan.specs.declared.configuration.Owned.{Owned}
+use Rattle.okws_plan.specs.declared.configuration.ProxyPlan.{ProxyPlan}
+use Rattle.okws_plan.specs.declared.configuration.Query.{Query}
 use Rattle.okws_plan.specs.declared.configuration.Table.{Table}
 use Rattle.command_line.specs.Asked.{Serving}
 use Rattle.config_reader.specs.Ruled.{AreRuled}
 use Rattle.site_run.specs.Places.{AllIdle}
 use Rattle.site_run.specs.Keepers.{KeeperIs, IsKeeper, AreKeepers, are_steady}
 use Rattle.site_run.specs.Making.{IsServable}
+use Rattle.store_keeper.specs.Alike.{AreAlike, bare}
+use Rattle.store_keeper.proofs.Alike.{rules_alike}
+use Rattle.stored_site.specs.Sites.{AreOf, SitesAreAlike, bare_plan, rows_of_plan}
 use Rattle.okws_server.specs.Served.{IsServing, IsStock}
 
 -- the keeper of a proxy, made for its tables
@@ -71,3 +79,65 @@ servable_by C sound rules names = record {
 -- the same site, which is shared
 pub stock_at : (C D : Config) (keepers : List KeeperIs) → D ≡ C → IsStock C keepers → IsStock D keepers
 stock_at C D keepers e h = subst (λ x. IsStock x keepers) (sym e) h
+
+-- the keepers of a site whose stores are open
+from_plan : {K : Type 0} (f : K → KeeperIs) (C : Config) (p : ℕ) (plans : List ProxyPlan) (ks : List K) → ((i : ℕ) → slice_get C.proxies (p + i) ≡ slice_get plans i) →
+    map (λ k. (f k).tables) ks ≡ map (λ (x : ProxyPlan). x.tables) plans → map (λ k. (f k).told) ks ≡ map (λ (x : ProxyPlan). Some (rows_of_plan x)) plans → AreKeepers C p (map f ks)
+from_plan f C p [] [] at t d = tt
+from_plan f C p [] (k ∷ ks) at t d = cc
+from_plan f C p (x ∷ plans) [] at t d = cc
+from_plan f C p (x ∷ plans) (k ∷ ks) at t d =
+    let here : slice_get C.proxies p ≡ Some x = ap (slice_get C.proxies) (let e : p ≡ p + 0 = omega arith in e) ∙ at 0 in
+    let mine : x.tables ≡ tables C p = sym (ap tables_of here) in (
+      record { tables_are = ap (λ (xs : List (List Table)). slice_index_or xs 0 []) t ∙ mine; told_are = ap (λ xs. slice_index_or xs 0 None) d ∙ ap (λ (ts : List Table). Some (map (λ (u : Table). u.first) ts)) mine },
+      from_plan f C (suc p) plans ks (λ i. ap (slice_get C.proxies) (let e : suc p + i ≡ p + suc i = omega arith in e) ∙ at (suc i)) (ap (drop 1) t) (ap (drop 1) d),
+    )
+
+-- the queries and the tables of a site without its rows
+queries_bare : (ps : List ProxyPlan) (p : ℕ) → queries_of (slice_get (map bare_plan ps) p) ≡ queries_of (slice_get ps p)
+queries_bare [] p = refl
+queries_bare (x ∷ ps) zero = refl
+queries_bare (x ∷ ps) (suc p) = queries_bare ps p
+
+tables_bare : (ps : List ProxyPlan) (p : ℕ) → tables_of (slice_get (map bare_plan ps) p) ≡ map bare (tables_of (slice_get ps p))
+tables_bare [] p = refl
+tables_bare (x ∷ ps) zero = refl
+tables_bare (x ∷ ps) (suc p) = tables_bare ps p
+
+rules_kept : (C D : Config) (p : ℕ) → SitesAreAlike D C → QueriesKeepRules C p → QueriesKeepRules D p
+rules_kept C D p alike h = λ q x found.
+    let plans : queries_of (slice_get C.proxies p) ≡ queries_of (slice_get D.proxies p) =
+    sym (queries_bare C.proxies p) ∙ ap (λ (X : Config). queries_of (slice_get X.proxies p)) (sym alike) ∙ queries_bare D.proxies p in
+    let same : AreAlike (tables D p) (tables C p) = sym (tables_bare D.proxies p) ∙ ap (λ (X : Config). tables_of (slice_get X.proxies p)) alike ∙ tables_bare C.proxies p in
+    rules_alike (tables D p) (tables C p) x.statement same (h q x (ap (λ (qs : List Query). find (λ (y : Query). y.number == q) qs) plans ∙ found))
+
+-- it has as many proxies
+pub proxies_alike : (C D : Config) → SitesAreAlike D C → length D.proxies ≡ length C.proxies
+proxies_alike C D alike = sym (length-map D.proxies bare_plan) ∙ ap (λ (X : Config). length X.proxies) alike ∙ length-map C.proxies bare_plan
+
+-- a site with other rows can be served too
+pub servable_alike : (C D : Config) → SitesAreAlike D C → IsServable C → IsServable D
+servable_alike C D alike h = record {
+  rules = record {
+    queries = λ p. rules_kept C D p alike (h.rules.queries p);
+    names = λ t. subst (λ (X : Config). length (template_name X t) < 256) (sym alike) (h.rules.names t);
+    owners = subst (λ (X : Config). list_all (λ (o : Owned). nat_lt o.service (length X.services)) X.paths ≡ true) (sym alike) h.rules.owners;
+  };
+  services = subst (λ (X : Config). length X.services ≤ MOST_SERVICES) (sym alike) h.services;
+  retry = subst (λ (X : Config). X.retry ≤ GREATEST_RETRY) (sym alike) h.retry;
+  templates = subst (λ (X : Config). length X.templates ≤ MOST_TEMPLATES) (sym alike) h.templates;
+  proxies = omega (arith, h.proxies, proxies_alike C D alike);
+}
+
+-- the keepers of a site whose stores are open are those of its rows
+pub stock_stored : {K : Type 0} (f : K → KeeperIs) (C D : Config) (ks : List K) → SitesAreAlike D C → IsServable C → AreOf D.proxies (map (λ k. (f k).tables) ks) (map (λ k. (f k).told) ks) → IsStock D (map f ks)
+stock_stored f C D ks alike able h = record {
+  servable = servable_alike C D alike able;
+  many = length-map ks f ∙ sym (length-map ks (λ k. (f k).tables)) ∙ ap (λ (xs : List (List Table)). length xs) h.tables_are ∙ length-map D.proxies (λ (p : ProxyPlan). p.tables);
+  keepers_are = from_plan f D 0 D.proxies ks (λ i. ap (slice_get D.proxies) (let e : 0 + i ≡ i = omega arith in e)) h.tables_are h.told_are;
+}
+
+-- there are no more of them than there may be proxies
+pub few_stored : {K : Type 0} (tables : K → List Table) (told : List (Option (List (List (List Value))))) (C D : Config) (ks : List K) (most : ℕ) → SitesAreAlike D C → length C.proxies ≤ most → AreOf D.proxies (map tables ks) told → length ks ≤ most
+few_stored tables told C D ks most alike few h =
+    omega (arith, few, length-map ks tables, ap (λ (xs : List (List Table)). length xs) h.tables_are, length-map D.proxies (λ (p : ProxyPlan). p.tables), proxies_alike C D alike)

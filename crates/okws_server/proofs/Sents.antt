@@ -1,5 +1,5 @@
 -- A record with what the links were given keeps the laws of the record without it, and each link was given just what its incarnation heard.
-use Rattle.std.proofs.Common.{◌≡◌, ◌∙◌, ℕ, Bool, true, false, ◌&&◌, ◌||◌, ◌==◌, List, [], ◌∷◌, ◌++◌, Option, Some, None, refl, ap, inl, inr, append-nil}
+use Rattle.std.proofs.Common.{◌≡◌, ◌∙◌, ℕ, Bool, true, false, cond, ◌==◌, List, [], ◌∷◌, ◌++◌, Option, Some, None, refl, ap, inl, inr, append-nil}
 use Rattle.std.specs.Prelude.{IsFalse, IsSome}
 use Rattle.okws_base.specs.Runs.{Each}
 use Rattle.okws_plan.specs.declared.configuration.Config.{Config}
@@ -23,7 +23,7 @@ use Rattle.monitor_model.specs.Course.{Speaker}
 use Rattle.monitor_model.specs.Entered.{exchanges_at, entered_by}
 use Rattle.monitor_model.specs.Legal.{IsLawful}
 use Rattle.monitor_model.specs.Merged.{IsOwn, list_of, cell_past}
-use Rattle.monitor_model.specs.Sent.{is_link_fault, is_broken, IsGiven, IsSent, AreSent, IsToldOf, IsGivenAll, AreGivenAll, sents_of}
+use Rattle.monitor_model.specs.Sent.{or_else, cut_items, broken_in, IsGiven, IsSent, AreSent, IsToldOf, IsGivenAll, AreGivenAll, sents_of}
 use Rattle.monitor_model.specs.Told.{TellsAll}
 use Rattle.monitor_model.specs.Unharmed.{is_harm, IsHarmless, IsUnharmed}
 
@@ -123,40 +123,40 @@ lawful_still x C seed keepers launcher R h = record {
 
 -- ---- what the links were given
 
-no_fault : (e : End) → IsFalse (is_harm e) → is_link_fault e ≡ false
-no_fault end.LinkFault h = absurd (cc)
-no_fault end.Reply h = refl
-no_fault (end.Superseded shown) h = refl
-no_fault end.BadFrame h = refl
-no_fault end.Ended h = refl
-no_fault end.FrameLimit h = refl
-no_fault end.Starved h = refl
+no_fault : (e : End) (items : List Item) → IsFalse (is_harm e) → cut_items e items ≡ None
+no_fault end.LinkFault items h = absurd (cc)
+no_fault end.Reply items h = refl
+no_fault (end.Superseded shown) items h = refl
+no_fault end.BadFrame items h = refl
+no_fault end.Ended items h = refl
+no_fault end.FrameLimit items h = refl
+no_fault end.Starved items h = refl
 
-neither : (a b c : Bool) → b ≡ false → c ≡ false → ((a && b) || c) ≡ false
+neither : (a : Bool) (b c : Option (List Item)) → b ≡ None → c ≡ None → cond a (or_else b c) c ≡ None
 neither true b c h k = rw (h, k) refl
 neither false b c h k = k
 
 -- where no dialog ended by a fault of its link, none is broken
-unbroken : (k : ℕ) (J : List CellEvent) → Each IsHarmless J → is_broken k J ≡ false
+unbroken : (k : ℕ) (J : List CellEvent) → Each IsHarmless J → broken_in k J ≡ None
 unbroken k [] h = refl
 unbroken k (cell.Boot j ∷ J) h = unbroken k J h.1
 unbroken k (cell.Retired ∷ J) h = unbroken k J h.1
 unbroken k (cell.Missed worker wanted is ∷ J) h = unbroken k J h.1
-unbroken k (cell.Dialog d ∷ J) h = neither (incarnation J == k) (is_link_fault d.end) (is_broken k J) (no_fault d.end h.0) (unbroken k J h.1)
+unbroken k (cell.Dialog d ∷ J) h = neither (incarnation J == k) (cut_items d.end d.items) (broken_in k J) (no_fault d.end d.items h.0) (unbroken k J h.1)
 unbroken k (cell.Speaking worker items ∷ J) h = unbroken k J h.1
 
-given_all : (text : List ℕ) (o : Option (List ℕ)) → IsGiven text false o → IsSome o → o ≡ Some text
+given_all : (text : List ℕ) (o : Option (List ℕ)) → IsGiven text None o → IsSome o → o ≡ Some text
 given_all text None h told = absurd (cc)
 given_all text (Some given) h told = ap Some (h.1 ∙ ap (λ (l : List ℕ). text ++ l) h.2 ∙ append-nil text)
 
-given_whole : (text : List ℕ) (broken : Bool) (o : Option (List ℕ)) → broken ≡ false → IsGiven text broken o → IsSome o → o ≡ Some text
-given_whole text true o e h told = absurd (cc)
-given_whole text false o e h told = given_all text o h told
+given_whole : (text : List ℕ) (broken : Option (List Item)) (o : Option (List ℕ)) → broken ≡ None → IsGiven text broken o → IsSome o → o ≡ Some text
+given_whole text (Some items) o e h told = absurd (cc)
+given_whole text None o e h told = given_all text o h told
 
 each_given : (C : Config) (seed : List ℕ) (s : ℕ) (J : List CellEvent) (sent : List Sent) → Each IsHarmless J → Each (IsSent C seed s J) sent → Each IsToldOf sent → Each (IsGivenAll C seed s J) sent
 each_given C seed s J [] whole h told = tt
 each_given C seed s J (x ∷ more) whole h told =
-    (given_whole (heard C seed s x.incarnation J) (is_broken x.incarnation J) x.given (unbroken x.incarnation J whole) h.0 told.0, each_given C seed s J more whole h.1 told.1)
+    (given_whole (heard C seed s x.incarnation J) (broken_in x.incarnation J) x.given (unbroken x.incarnation J whole) h.0 told.0, each_given C seed s J more whole h.1 told.1)
 
 -- in a run that no link broke, each link that tells was given just what its incarnation heard
 pub links_given : (C : Config) (seed : List ℕ) (s : ℕ) (R : Record) → IsUnharmed R → AreSent C seed s (cell_past R s) (sents_of R s) → Each IsToldOf (sents_of R s) →

@@ -30,16 +30,16 @@ Says old new rose status.NoMemory = Told old new no_memory_line rose
 Says old new rose _ = ⊥
 
 -- What is done of the words that ask for this, and how the run ends. Nothing but a server has the further objects do anything.
-abbrev pub Does : {X : Type 0} → (X → ConnWire) → Option Asked → View → View → Record → Status → Type 0
-Does wire None a b R how = IsAnswered a b R how
-Does wire (Some (Checks config)) a b R how = IsEmptyRecord R × (b.gear ≡ a.gear) × Checked a.shelf b.shelf config a.given b.given (Rose a.faults b.faults) how
-Does wire (Some (Plays config script)) a b R how = (b.gear ≡ a.gear) × Played a.shelf b.shelf config script a.given b.given (Rose a.faults b.faults) R how
-Does wire (Some (Drills number events)) a b R how = (b.shelf ≡ a.shelf) × (b.gear ≡ a.gear) × Drilled number events a.given b.given (Rose a.faults b.faults) R how
-Does wire (Some (Serves server)) a b R how = ServesWords wire server a b R how
+abbrev pub Does : {X : Type 0} → (X → ConnWire) → Type 0 → Option Asked → View → View → Record → Status → Type 0
+Does wire tells None a b R how = IsAnswered a b R how
+Does wire tells (Some (Checks config)) a b R how = IsEmptyRecord R × (b.gear ≡ a.gear) × Checked a.shelf b.shelf config a.given b.given (Rose a.faults b.faults) how
+Does wire tells (Some (Plays config script)) a b R how = (b.gear ≡ a.gear) × Played a.shelf b.shelf config script a.given b.given (Rose a.faults b.faults) R how
+Does wire tells (Some (Drills number events)) a b R how = (b.shelf ≡ a.shelf) × (b.gear ≡ a.gear) × Drilled number events a.given b.given (Rose a.faults b.faults) R how
+Does wire tells (Some (Serves server)) a b R how = ServesWords wire tells server a b R how
 
 -- What a run does that these words ask for: memory may be refused before anything is read.
-abbrev pub Obeys : {X : Type 0} → (X → ConnWire) → Option Asked → View → View → Record → Status → Type 0
-Obeys wire asked a b R how = IsStarved a b R how ⊎ Does wire asked a b R how
+abbrev pub Obeys : {X : Type 0} → (X → ConnWire) → Type 0 → Option Asked → View → View → Record → Status → Type 0
+Obeys wire tells asked a b R how = IsStarved a b R how ⊎ Does wire tells asked a b R how
 
 -- What is asked for is within what may be: a drill's events, a server's doors and connections.
 abbrev pub IsWithin : Asked → Type 0

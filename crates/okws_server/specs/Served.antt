@@ -1,5 +1,5 @@
 -- What a server answers, and what it does with the objects of its run.
-use Rattle.std.specs.Prelude.{◌≡◌, ◌<◌, ◌≤◌, ◌⊎◌, ⊤, ℕ, ◌+◌, Bool, true, false, ◌||◌, List, [], ◌∷◌, ◌++◌, codes, length, replicate, is_some, option_map}
+use Rattle.std.specs.Prelude.{◌≡◌, ◌<◌, ◌≤◌, ◌⊎◌, ⊤, ℕ, ◌+◌, Bool, true, false, ◌||◌, List, [], ◌∷◌, ◌++◌, codes, length, map, replicate, IsSome, is_some, option_map}
 use Rattle.std.specs.Io.KnownBytes.{Appends}
 use Rattle.std.specs.declared.option.Option.{Option}
 use Rattle.std.specs.declared.option.Option.TheVariants.{Some, None}
@@ -7,6 +7,7 @@ use Rattle.okws_base.specs.declared.limit.TheConstants.{MOST_CONNECTIONS, MOST_D
 use Rattle.command_line.specs.Asked.{Serving}
 use Rattle.command_line.specs.declared.command.Server.{Server}
 use Rattle.okws_outer.specs.Conns.{ConnWire}
+use Rattle.okws_outer.specs.Depots.{Depot}
 use Rattle.okws_outer.specs.Doors.{Entrance, new_entrance}
 use Rattle.okws_outer.specs.Networks.{Net}
 use Rattle.okws_outer.specs.Racks.{Rack, Misses, with_opened, with_closed}
@@ -16,6 +17,8 @@ use Rattle.okws_plan.specs.declared.configuration.Config.{Config}
 use Rattle.monitor_model.specs.declared.record.Record.{Record}
 use Rattle.site_run.specs.Keepers.{KeeperIs, AreKeepers, are_steady}
 use Rattle.site_run.specs.Making.{IsServable}
+use Rattle.stored_site.specs.Depots.{GivesBack, HasFailed, with_starts}
+use Rattle.stored_site.specs.Sites.{SitesAreAlike}
 use Rattle.okws_serve.specs.Runs.{Runs, StartIs}
 use Rattle.okws_serve.specs.declared.outfit.Ran.{Ran}
 use Rattle.okws_server.specs.Counting.{counts_text}
@@ -30,6 +33,10 @@ use Rattle.okws_server.specs.declared.status.Status.TheVariants as status
 -- `net fault` and LF.
 abbrev pub net_fault_line : List ℕ
 net_fault_line = codes "net fault" ++ 10 ∷ []
+
+-- `store fault` and LF.
+abbrev pub store_fault_line : List ℕ
+store_fault_line = codes "store fault" ++ 10 ∷ []
 
 -- `log fault` and LF.
 abbrev pub log_fault_line : List ℕ
@@ -59,6 +66,28 @@ LogAt None a b given faults missed = (b ≡ a) × (faults ≡ 0) × (missed ≡ 
 LogAt (Some path) a b given faults false = b ≡ with_closed path given faults (with_opened path true a)
 LogAt (Some path) a b given faults true = Misses a b path
 
+-- ---- the stores
+
+-- The site that is served of one that was read, where all keepers of the stores tell their rows if `tells`: with rows in memory that one; with rows in files one that is the same but for the rows with which its tables begin, and the same also in these where the keepers tell.
+abbrev pub IsSited : Type 0 → Option (List ℕ) → Config → Config → Type 0
+IsSited tells None C site = site ≡ C
+IsSited tells (Some file) C site = SitesAreAlike site C × (tells → site ≡ C)
+
+-- The keepers of so many proxies were made of the file of rows, where one is asked for.
+abbrev pub Opens : Option (List ℕ) → ℕ → Depot → Depot → Type 0
+Opens None n a b = b ≡ a
+Opens (Some file) n a b = b ≡ with_starts file n a
+
+-- They were given back, and had counted at least so many faults.
+abbrev pub Closes : Option (List ℕ) → List ℕ → Depot → Depot → Type 0
+Closes None counts a b = b ≡ a
+Closes (Some file) counts a b = GivesBack counts a b
+
+-- The stores were not asked for anything; or, where rows in files are asked for, no making failed.
+abbrev pub Spares : Option (List ℕ) → Depot → Depot → Type 0
+Spares None a b = b ≡ a
+Spares (Some file) a b = b.faults ≡ a.faults
+
 -- ---- a run
 
 -- The server's doors were asked of the network.
@@ -78,53 +107,69 @@ pub record IsUntouched (a b : Gear) : Type 0 where
   pub console : b.console ≡ a.console
   pub depot : b.depot ≡ a.depot
 
--- A site that can be served, and keepers of its rows, of which no call fails.
+-- The same, but that keepers may have been made and given back, of which no making failed.
+pub record IsSpared (server : Serving) (a b : Gear) : Type 0 where
+  pub faults : (b.net).faults ≡ (a.net).faults
+  pub family : b.family ≡ a.family
+  pub console : b.console ≡ a.console
+  pub depot : Spares server.store a.depot b.depot
+
+-- A site that can be served, and keepers of its rows.
 pub record IsStock (C : Config) (keepers : List KeeperIs) : Type 0 where
   pub servable : IsServable C
   pub many : length keepers ≡ length C.proxies
   pub keepers_are : AreKeepers C 0 keepers
-  pub steady : are_steady keepers ≡ true
 
--- The same, and doors at which nothing came yet.
+-- The same, and doors at which nothing came yet. With rows in memory no call of a keeper fails.
 pub record IsGround (server : Serving) (C : Config) (keepers : List KeeperIs) (entrances : List Entrance) : Type 0 where
   pub stock : IsStock C keepers
+  pub steady : server.store ≡ None → are_steady keepers ≡ true
   pub words : IsServing server
   pub new : entrances ≡ replicate server.doors new_entrance
 
--- A run over doors that were opened and are closed at its end, with rows in memory, whose log's sink was given this at last, where it tells, and had so many puts that failed: all was as the run's contract says.
-pub record RanOver {X : Type 0} (wire : X → ConnWire) (server : Serving) (C : Config) (seed : List ℕ) (a b : Gear) (ran : Ran) (given : Option (List ℕ)) (faults : ℕ) : Type 0 where
+-- A run over doors that were opened and are closed at its end, which left these keepers, and whose log's sink was given this at last, where it tells, and had so many puts that failed: all was as the run's contract says, and with rows in memory no call of a keeper could fail.
+pub record RanOver {X : Type 0} (wire : X → ConnWire) (server : Serving) (C : Config) (seed : List ℕ) (a b : Gear) (keepers : List KeeperIs) (ran : Ran) (given : Option (List ℕ)) (faults : ℕ) : Type 0 where
   pub start : StartIs
-  pub steady : start.steady ≡ true
+  pub steady : server.store ≡ None → start.steady ≡ true
   pub sink : start.sink_faults ≡ 0
   pub children : start.children ≡ a.family
-  pub keepers : List KeeperIs
   pub runs : Runs wire C seed (server.doors + 1) server.connections start (replicate server.doors new_entrance) a.console ran
       (record { entrances = (b.net).doors; console = b.console; children = b.family; keepers = keepers; given = given; faults = faults })
   pub net : b.net ≡ record (a.net) { doors = (b.net).doors }
   pub depot : b.depot ≡ a.depot
 
 -- The same with the log in a sink that was opened at a path, and closed.
-pub record RanLogged {X : Type 0} (wire : X → ConnWire) (server : Serving) (C : Config) (seed path : List ℕ) (a b : Gear) (ran : Ran) : Type 0 where
+pub record RanLogged {X : Type 0} (wire : X → ConnWire) (server : Serving) (C : Config) (seed path : List ℕ) (a b : Gear) (keepers : List KeeperIs) (ran : Ran) : Type 0 where
   pub given : Option (List ℕ)
   pub faults : ℕ
-  pub over : RanOver wire server C seed a b ran given faults
+  pub over : RanOver wire server C seed a b keepers ran given faults
   pub closed : b.rack ≡ with_closed path given faults a.rack
 
 -- The same with the log's text going nowhere, and no fault of it.
-pub record RanUnlogged {X : Type 0} (wire : X → ConnWire) (server : Serving) (C : Config) (seed : List ℕ) (a b : Gear) (ran : Ran) : Type 0 where
-  pub over : RanOver wire server C seed a b ran None 0
+pub record RanUnlogged {X : Type 0} (wire : X → ConnWire) (server : Serving) (C : Config) (seed : List ℕ) (a b : Gear) (keepers : List KeeperIs) (ran : Ran) : Type 0 where
+  pub over : RanOver wire server C seed a b keepers ran None 0
   pub rack : b.rack ≡ a.rack
 
 -- The same with the log where the words say.
-pub record RanAt {X : Type 0} (wire : X → ConnWire) (server : Serving) (C : Config) (seed : List ℕ) (a b : Gear) (ran : Ran) (missed : Bool) : Type 0 where
+pub record RanAt {X : Type 0} (wire : X → ConnWire) (server : Serving) (C : Config) (seed : List ℕ) (a b : Gear) (keepers : List KeeperIs) (ran : Ran) (missed : Bool) : Type 0 where
   pub given : Option (List ℕ)
   pub faults : ℕ
-  pub over : RanOver wire server C seed a b ran given faults
+  pub over : RanOver wire server C seed a b keepers ran given faults
   pub log : LogAt server.log a.rack b.rack given faults missed
 
 -- The same with the doors opened for it.
-pub record HasServed {X : Type 0} (wire : X → ConnWire) (server : Serving) (C : Config) (seed : List ℕ) (a b : Gear) (ran : Ran) (missed : Bool) : Type 0 where
-  pub at : RanAt wire server C seed (record a { net = with_listened server a.net }) b ran missed
+pub record RanFrom {X : Type 0} (wire : X → ConnWire) (server : Serving) (C : Config) (seed : List ℕ) (a b : Gear) (keepers : List KeeperIs) (ran : Ran) (missed : Bool) : Type 0 where
+  pub at : RanAt wire server C seed (record a { net = with_listened server a.net }) b keepers ran missed
+
+-- The same with the stores opened for it and given back, whose keepers had counted at least the faults of those over which it ran.
+pub record HasServed {X : Type 0} (wire : X → ConnWire) (tells : Type 0) (server : Serving) (C : Config) (seed : List ℕ) (a b : Gear) (ran : Ran) (missed : Bool) : Type 0 where
+  pub site : Config
+  pub sited : IsSited tells server.store C site
+  pub depot : Depot
+  pub opened : Opens server.store (length C.proxies) a.depot depot
+  pub keepers : List KeeperIs
+  pub from : RanFrom wire server site seed (record a { depot = depot }) (record b { depot = depot }) keepers ran missed
+  pub closed : Closes server.store (map (λ (k : KeeperIs). k.faults) keepers) depot b.depot
 
 -- How a run ends, and what is printed at its end: its counts, and a last line where the log or, else, the console failed. Where memory was refused, that alone.
 abbrev pub EndsAs : Ran → Bool → Option (List ℕ) → Option (List ℕ) → Type 0 → Status → Type 0
@@ -145,62 +190,94 @@ pub record Tells (old new : Option (List ℕ)) (line : List ℕ) (rose : Type 0)
   pub told : Told old new line rose
 
 -- The doors could not be opened, which was counted, and nothing else was touched.
-pub record MissesPort (server : Serving) (a b : Gear) : Type 0 where
+pub record MissesDoors (server : Serving) (a b : Gear) : Type 0 where
   pub gear : b ≡ record a { net = b.net }
   pub net : b.net ≡ record (with_listened server a.net) { faults = (b.net).faults }
   pub rose : Rose (a.net).faults (b.net).faults
 
--- A site was served: the record is the run's, which ended so.
-pub record ServesSite {X : Type 0} (wire : X → ConnWire) (server : Serving) (C : Config) (seed : List ℕ) (a b : Gear) (old new : Option (List ℕ)) (rose : Type 0) (R : Record) (how : Status) : Type 0 where
+-- The same but for the stores, which were opened and given back.
+pub record MissesPort (server : Serving) (C : Config) (a b : Gear) : Type 0 where
+  pub depot : Depot
+  pub opened : Opens server.store (length C.proxies) a.depot depot
+  pub doors : MissesDoors server (record a { depot = depot }) (record b { depot = depot })
+  pub counts : List ℕ
+  pub many : length counts ≡ length C.proxies
+  pub closed : Closes server.store counts depot b.depot
+
+-- A keeper of rows could not be made, which was counted, and nothing but the stores was touched.
+pub record MissesStore (server : Serving) (a b : Gear) : Type 0 where
+  pub wanted : IsSome server.store
+  pub gear : b ≡ record a { depot = b.depot }
+  pub failed : HasFailed a.depot b.depot
+
+-- A site whose stores are open was served, and left these keepers: the record is the run's, which ended so.
+pub record ServesFrom {X : Type 0} (wire : X → ConnWire) (server : Serving) (C : Config) (seed : List ℕ) (a b : Gear) (keepers : List KeeperIs) (old new : Option (List ℕ)) (rose : Type 0) (R : Record) (how : Status) : Type 0 where
   pub ran : Ran
   pub missed : Bool
-  pub served : HasServed wire server C seed a b ran missed
+  pub from : RanFrom wire server C seed a b keepers ran missed
   pub record_is : R ≡ ran.record
   pub ends : EndsAs ran missed old new rose how
 
--- The same over doors that are open, unless memory was refused before the run began.
-abbrev pub ServesOpen : {X : Type 0} → (X → ConnWire) → Serving → Config → List ℕ → Gear → Gear → Option (List ℕ) → Option (List ℕ) → Type 0 → Record → Status → Type 0
-ServesOpen wire server C seed a b old new rose R how =
-    ((how ≡ status.NoMemory) × IsUntouched a b × Tells old new no_memory_line rose R)
-    ⊎ ((ran : Ran) × (missed : Bool) × RanAt wire server C seed a b ran missed × (R ≡ ran.record) × EndsAs ran missed old new rose how)
+-- A site was served: the record is the run's, which ended so.
+pub record ServesSite {X : Type 0} (wire : X → ConnWire) (tells : Type 0) (server : Serving) (C : Config) (seed : List ℕ) (a b : Gear) (old new : Option (List ℕ)) (rose : Type 0) (R : Record) (how : Status) : Type 0 where
+  pub ran : Ran
+  pub missed : Bool
+  pub served : HasServed wire tells server C seed a b ran missed
+  pub record_is : R ≡ ran.record
+  pub ends : EndsAs ran missed old new rose how
 
--- What is done of a site that was read: its doors could not be opened; or memory was refused before the run began; or it was served.
-abbrev pub ServesConfig : {X : Type 0} → (X → ConnWire) → Serving → Config → List ℕ → Gear → Gear → Option (List ℕ) → Option (List ℕ) → Type 0 → Record → Status → Type 0
-ServesConfig wire server C seed a b old new rose R status.NetFault = MissesPort server a b × Tells old new net_fault_line rose R
-ServesConfig wire server C seed a b old new rose R status.NoMemory =
-    (IsUntouched a b × Tells old new no_memory_line rose R) ⊎ ServesSite wire server C seed a b old new rose R status.NoMemory
-ServesConfig wire server C seed a b old new rose R how = ServesSite wire server C seed a b old new rose R how
+-- The same over doors that are open, which left these keepers, unless memory was refused before the run began, where none was left.
+abbrev pub ServesOpen : {X : Type 0} → (X → ConnWire) → Serving → Config → List ℕ → Gear → Gear → List KeeperIs → Option (List ℕ) → Option (List ℕ) → Type 0 → Record → Status → Type 0
+ServesOpen wire server C seed a b keepers old new rose R how =
+    ((how ≡ status.NoMemory) × IsUntouched a b × (keepers ≡ []) × Tells old new no_memory_line rose R)
+    ⊎ ((ran : Ran) × (missed : Bool) × RanAt wire server C seed a b keepers ran missed × (R ≡ ran.record) × EndsAs ran missed old new rose how)
+
+-- What is done of a site over keepers of its rows, and which of them are left: its doors could not be opened; or memory was refused before the run began; or it was served.
+abbrev pub ServesOver : {X : Type 0} → (X → ConnWire) → Serving → Config → List ℕ → Gear → Gear → List KeeperIs → List KeeperIs → Option (List ℕ) → Option (List ℕ) → Type 0 → Record → Status → Type 0
+ServesOver wire server C seed a b keepers left old new rose R status.NetFault = MissesDoors server a b × (left ≡ keepers) × Tells old new net_fault_line rose R
+ServesOver wire server C seed a b keepers left old new rose R status.NoMemory =
+    (IsUntouched a b × (length left ≤ length keepers) × Tells old new no_memory_line rose R) ⊎ ServesFrom wire server C seed a b left old new rose R status.NoMemory
+ServesOver wire server C seed a b keepers left old new rose R how = ServesFrom wire server C seed a b left old new rose R how
+
+-- What is done of a site that was read: its stores or its doors could not be opened; or memory was refused before the run began; or it was served.
+abbrev pub ServesConfig : {X : Type 0} → (X → ConnWire) → Type 0 → Serving → Config → List ℕ → Gear → Gear → Option (List ℕ) → Option (List ℕ) → Type 0 → Record → Status → Type 0
+ServesConfig wire tells server C seed a b old new rose R status.StoreFault = MissesStore server a b × Tells old new store_fault_line rose R
+ServesConfig wire tells server C seed a b old new rose R status.NetFault = MissesPort server C a b × Tells old new net_fault_line rose R
+ServesConfig wire tells server C seed a b old new rose R status.NoMemory =
+    (IsSpared server a b × Tells old new no_memory_line rose R) ⊎ ServesSite wire tells server C seed a b old new rose R status.NoMemory
+ServesConfig wire tells server C seed a b old new rose R how = ServesSite wire tells server C seed a b old new rose R how
 
 -- ---- the answers
 
 -- A site that the file gives was served, or not.
-pub record ServesFile {X : Type 0} (wire : X → ConnWire) (server : Serving) (a b : View) (R : Record) (how : Status) : Type 0 where
+pub record ServesFile {X : Type 0} (wire : X → ConnWire) (tells : Type 0) (server : Serving) (a b : View) (R : Record) (how : Status) : Type 0 where
   pub config : Config
   pub gives : GivesConfig ((a.shelf).held server.config) config
   pub reads : Reads a.shelf b.shelf 1 ⊥
-  pub serves : ServesConfig wire server config a.seed a.gear b.gear a.given b.given (Rose a.faults b.faults) R how
+  pub serves : ServesConfig wire tells server config a.seed a.gear b.gear a.given b.given (Rose a.faults b.faults) R how
 
--- A file of rows or of the record is asked for.
-abbrev pub WantsFiles : Serving → Type 0
-WantsFiles server = (is_some server.store || is_some server.audit) ≡ true
+-- A file of the record is asked for.
+abbrev pub WantsAudit : Serving → Type 0
+WantsAudit server = is_some server.audit ≡ true
 
--- What `serve` answers, and what it leaves. A file of rows or of the record is asked for in vain, which is said. Memory may be refused before the configuration is known.
-abbrev pub Served : {X : Type 0} → (X → ConnWire) → Serving → View → View → Record → Status → Type 0
-Served wire server a b R status.Usage =
-    WantsFiles server × (b.shelf ≡ a.shelf) × (b.gear ≡ a.gear) × Tells a.given b.given NOT_YET.now (Rose a.faults b.faults) R
-Served wire server a b R status.ReadFault = Reads a.shelf b.shelf 1 (⊤) × (b.gear ≡ a.gear) × Tells a.given b.given read_fault_line (Rose a.faults b.faults) R
-Served wire server a b R status.ConfigRefused =
+-- What `serve` answers, and what it leaves. A file of the record is asked for in vain, which is said. Memory may be refused before the configuration is known.
+abbrev pub Served : {X : Type 0} → (X → ConnWire) → Type 0 → Serving → View → View → Record → Status → Type 0
+Served wire tells server a b R status.Usage =
+    WantsAudit server × (b.shelf ≡ a.shelf) × (b.gear ≡ a.gear) × Tells a.given b.given NOT_YET.now (Rose a.faults b.faults) R
+Served wire tells server a b R status.ReadFault = Reads a.shelf b.shelf 1 (⊤) × (b.gear ≡ a.gear) × Tells a.given b.given read_fault_line (Rose a.faults b.faults) R
+Served wire tells server a b R status.ConfigRefused =
     IsEmptyRecord R × Reads a.shelf b.shelf 1 ⊥ × (b.gear ≡ a.gear) × RefusesConfig ((a.shelf).held server.config) a.given b.given (Rose a.faults b.faults)
-Served wire server a b R status.NoMemory =
-    (Reads a.shelf b.shelf 1 ⊥ × (b.gear ≡ a.gear) × Tells a.given b.given no_memory_line (Rose a.faults b.faults) R) ⊎ ServesFile wire server a b R status.NoMemory
-Served wire server a b R status.Ok = ServesFile wire server a b R status.Ok
-Served wire server a b R status.NetFault = ServesFile wire server a b R status.NetFault
-Served wire server a b R status.LogFault = ServesFile wire server a b R status.LogFault
-Served wire server a b R status.ConsoleFault = ServesFile wire server a b R status.ConsoleFault
-Served wire server a b R status.OutFault = ServesFile wire server a b R status.OutFault
-Served wire server a b R _ = ⊥
+Served wire tells server a b R status.NoMemory =
+    (Reads a.shelf b.shelf 1 ⊥ × (b.gear ≡ a.gear) × Tells a.given b.given no_memory_line (Rose a.faults b.faults) R) ⊎ ServesFile wire tells server a b R status.NoMemory
+Served wire tells server a b R status.Ok = ServesFile wire tells server a b R status.Ok
+Served wire tells server a b R status.StoreFault = ServesFile wire tells server a b R status.StoreFault
+Served wire tells server a b R status.NetFault = ServesFile wire tells server a b R status.NetFault
+Served wire tells server a b R status.LogFault = ServesFile wire tells server a b R status.LogFault
+Served wire tells server a b R status.ConsoleFault = ServesFile wire tells server a b R status.ConsoleFault
+Served wire tells server a b R status.OutFault = ServesFile wire tells server a b R status.OutFault
+Served wire tells server a b R _ = ⊥
 
--- The same of its words: where they ask for a file, nothing is served.
-pub record ServesWords {X : Type 0} (wire : X → ConnWire) (server : Serving) (a b : View) (R : Record) (how : Status) : Type 0 where
-  pub served : Served wire server a b R how
-  pub files : WantsFiles server → how ≡ status.Usage
+-- The same of its words: where they ask for a file of the record, nothing is served.
+pub record ServesWords {X : Type 0} (wire : X → ConnWire) (tells : Type 0) (server : Serving) (a b : View) (R : Record) (how : Status) : Type 0 where
+  pub served : Served wire tells server a b R how
+  pub files : WantsAudit server → how ≡ status.Usage

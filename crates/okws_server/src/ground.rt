@@ -1,35 +1,41 @@
 //! What a server's run is over: its site, the keepers of its rows, its tokens' seed and its doors.
 
-ghost use Rattle.std.specs.Prelude.{◌≡◌, ◌≤◌, true, IfOk, length, map, vec_len};
+ghost use Rattle.std.specs.Prelude.{◌≡◌, ◌≤◌, true, IfOk, IsErrOf, length, map, vec_len};
 ghost use Rattle.std.specs.Arc.{arc_value};
 ghost use Rattle.okws_base.specs.declared.limit.TheConstants.{MOST_PROXIES};
 ghost use Rattle.okws_plan.specs.Sound.{IsSound};
 ghost use Rattle.config_reader.specs.Ruled.{AreRuled};
 ghost use Rattle.site_run.specs.Keepers.{AreKeepers, IsKeeper, are_steady, keeper_of};
+ghost use Rattle.stored_site.specs.Depots.{HasFailed, with_starts};
+ghost use Rattle.stored_site.specs.Sites.{AllTell, SitesAreAlike};
 ghost use Rattle.okws_server.specs.Served.{IsStock};
 
 use index_keeper::IndexKeeper;
+use okws_outer::error::MakeError;
 use okws_outer::keeper::Keeper;
+use okws_outer::stores::Stores;
 use okws_plan::configuration::Config;
 use site_columns::opening::{queries_at, read_names, tables_at};
 use std::alloc::{AllocError, Global};
 use std::sync::Arc;
+use store_keeper::StoredKeeper;
+use stored_site::{give_back, open_site};
 use token_core::Seed;
 
-/// A site, and the keepers of its rows.
+/// A site, and the keepers of its rows, where these are `K`.
 #[derive(Drop)]
-pub struct Stock {
+pub struct Stock<K> {
     /// The site.
     pub site: Arc<Config, Global>,
     /// The keeper of each proxy's rows, by the proxies' numbers.
-    pub keepers: Vec<IndexKeeper>,
+    pub keepers: Vec<K>,
 }
 
-/// What a server's run is over, where its doors are `D`.
+/// What a server's run is over, where its doors are `D` and its keepers `K`.
 #[derive(Drop)]
-pub struct Ground<D> {
+pub struct Ground<D, K> {
     /// The site, and the keepers of its rows.
-    pub stock: Stock,
+    pub stock: Stock<K>,
     /// The seed of its tokens.
     pub seed: Seed,
     /// Its doors.
@@ -61,14 +67,46 @@ fn memory_keepers(alloc: Global, config: &Config) -> Result<Vec<IndexKeeper>, Al
 }
 
 /// A site that was read, and the keepers of its rows, in memory.
-pub fn stock_of(alloc: Global, config: Config) -> Result<Stock, AllocError>
+pub fn stock_of(alloc: Global, config: Config) -> Result<Stock<IndexKeeper>, AllocError>
     requires sound { IsSound config }
     requires rules { AreRuled config }
     ensures site { IfOk result (λ s. arc_value s.site ≡ config) }
+    ensures steady { IfOk result (λ s. are_steady (map (keeper_of ⟦<IndexKeeper as Keeper>⟧.tables ⟦<IndexKeeper as Keeper>⟧.told ⟦<IndexKeeper as Keeper>⟧.faults ⟦<IndexKeeper as Keeper>⟧.steady) s.keepers.items) ≡ true) }
     ensures stock { IfOk result (λ s. IsStock config (map (keeper_of ⟦<IndexKeeper as Keeper>⟧.tables ⟦<IndexKeeper as Keeper>⟧.told ⟦<IndexKeeper as Keeper>⟧.faults ⟦<IndexKeeper as Keeper>⟧.steady) s.keepers.items)) }
 {
     read_names(&config);
     let keepers = memory_keepers(alloc, &config)?;
     let site = Arc::new(alloc, config)?;
     Ok(Stock { site, keepers })
+}
+
+/// A site that was read, with the rows that its stores have, and the keepers of these rows, made by the numbers
+/// of the proxies. Where one can't be made, those that were are given back.
+pub fn stored_stock<S: Stores>(
+    alloc: Global,
+    stores: &mut S,
+    file: &str,
+    config: Config,
+) -> Result<Stock<StoredKeeper<S::Keeper>>, MakeError>
+    requires sound { IsSound config }
+    requires rules { AreRuled config }
+    ensures stock { IfOk result (λ s. IsStock (arc_value s.site) (map (keeper_of ⟦<StoredKeeper<S::Keeper> as Keeper>⟧.tables ⟦<StoredKeeper<S::Keeper> as Keeper>⟧.told ⟦<StoredKeeper<S::Keeper> as Keeper>⟧.faults ⟦<StoredKeeper<S::Keeper> as Keeper>⟧.steady) s.keepers.items)) }
+    ensures alike { IfOk result (λ s. SitesAreAlike (arc_value s.site) config) }
+    ensures same { IfOk result (λ s. AllTell S.Keeper.told → arc_value s.site ≡ config) }
+    ensures made { IfOk result (λ _. S.depot stores.new ≡ with_starts file.now (length config.proxies) (S.depot stores.old)) }
+    ensures failed { IsErrOf result MakeError.Failed → HasFailed (S.depot stores.old) (S.depot stores.new) }
+    ensures spared { IsErrOf result MakeError.NoMemory → (S.depot stores.new).faults ≡ (S.depot stores.old).faults }
+{
+    read_names(&config);
+    let stored = open_site(alloc, stores, file, config)?;
+    match Arc::new(alloc, stored.config) {
+        Ok(site) => Ok(Stock {
+            site,
+            keepers: stored.keepers,
+        }),
+        Err(_) => {
+            give_back(stores, stored.keepers);
+            Err(MakeError::NoMemory)
+        }
+    }
 }

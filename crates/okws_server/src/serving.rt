@@ -10,7 +10,6 @@ ghost use Rattle.okws_server.specs.Views.{gear_of};
 use crate::ground::{Ground, Stock};
 use crate::nowhere::Nowhere;
 use command_line::command::Server;
-use index_keeper::IndexKeeper;
 use okws_outer::keeper::Keeper;
 use okws_outer::network::Network;
 use okws_outer::sinks::Sinks;
@@ -24,22 +23,24 @@ use std::thread::Threads;
 
 // Serves over doors that are open, with this sink for the log, and closes them. Where the run began, the
 // sink comes back with what it did.
-fn serve_over<R, E, S>(
+fn serve_over<R, E, K, S>(
     rt: &R,
     alloc: Global,
     server: &Server<'_>,
-    ground: Ground<<E::Network as Network>::Door>,
+    ground: Ground<<E::Network as Network>::Door, K>,
     log: S,
     things: ObjectsOf<E>,
-) -> (ObjectsOf<E>, Option<S>, Option<Ran>)
+) -> (ObjectsOf<E>, Option<S>, Option<Ran>, Vec<K>)
 where
     R: Wait + Threads + Sync,
     E: Equipment,
+    K: Keeper + Send + Drop,
+    K::Pin: Send,
     S: Sink + Send + Drop,
-    requires ground { IsGround (serving_of server.now) (arc_value ground.stock.site) (map (keeper_of ⟦<IndexKeeper as Keeper>⟧.tables ⟦<IndexKeeper as Keeper>⟧.told ⟦<IndexKeeper as Keeper>⟧.faults ⟦<IndexKeeper as Keeper>⟧.steady) ground.stock.keepers.items) (map E.Network.Door.entrance ground.doors.items) }
+    requires ground { IsGround (serving_of server.now) (arc_value ground.stock.site) (map (keeper_of K.tables K.told K.faults K.steady) ground.stock.keepers.items) (map E.Network.Door.entrance ground.doors.items) }
     requires log { IsNewSink (S.given log) (S.faults log) }
     ensures sinks { E.Sinks.rack result.0.sinks ≡ E.Sinks.rack things.sinks }
-    ensures ran { IfSome result.2 (λ ran. IfSome result.1 (λ log. RanOver E.Network.Door.Conn.wire (serving_of server.now) (arc_value ground.stock.site) ground.seed (gear_of E.Network.net E.Children.family E.Console.wire E.Stores.depot E.Sinks.rack things) (gear_of E.Network.net E.Children.family E.Console.wire E.Stores.depot E.Sinks.rack result.0) ran (S.given log) (S.faults log))) }
+    ensures ran { IfSome result.2 (λ ran. IfSome result.1 (λ log. RanOver E.Network.Door.Conn.wire (serving_of server.now) (arc_value ground.stock.site) ground.seed (gear_of E.Network.net E.Children.family E.Console.wire E.Stores.depot E.Sinks.rack things) (gear_of E.Network.net E.Children.family E.Console.wire E.Stores.depot E.Sinks.rack result.0) (map (keeper_of K.tables K.told K.faults K.steady) result.3.items) ran (S.given log) (S.faults log))) }
     ensures both { IsSome result.2 → IsSome result.1 }
     ensures unran { IsNone result.2 → IsUntouched (gear_of E.Network.net E.Children.family E.Console.wire E.Stores.depot E.Sinks.rack things) (gear_of E.Network.net E.Children.family E.Console.wire E.Stores.depot E.Sinks.rack result.0) }
 {
@@ -75,84 +76,103 @@ where
         sinks,
         gate: left.gate,
     };
-    (things, left.log, left.ran)
+    (things, left.log, left.ran, left.keepers)
 }
 
 // The same with the log in a sink that was opened at a path, which is closed at the end.
-fn serve_logged<R, E>(
+fn serve_logged<R, E, K>(
     rt: &R,
     alloc: Global,
     server: &Server<'_>,
-    ground: Ground<<E::Network as Network>::Door>,
+    ground: Ground<<E::Network as Network>::Door, K>,
     path: &str,
     sink: <E::Sinks as Sinks>::Sink,
     things: ObjectsOf<E>,
-) -> (ObjectsOf<E>, Option<Ran>)
+) -> (ObjectsOf<E>, Option<Ran>, Vec<K>)
 where
     R: Wait + Threads + Sync,
     E: Equipment,
-    requires ground { IsGround (serving_of server.now) (arc_value ground.stock.site) (map (keeper_of ⟦<IndexKeeper as Keeper>⟧.tables ⟦<IndexKeeper as Keeper>⟧.told ⟦<IndexKeeper as Keeper>⟧.faults ⟦<IndexKeeper as Keeper>⟧.steady) ground.stock.keepers.items) (map E.Network.Door.entrance ground.doors.items) }
+    K: Keeper + Send + Drop,
+    K::Pin: Send,
+    requires ground { IsGround (serving_of server.now) (arc_value ground.stock.site) (map (keeper_of K.tables K.told K.faults K.steady) ground.stock.keepers.items) (map E.Network.Door.entrance ground.doors.items) }
     requires sink { IsNewSink (E.Sinks.Sink.given sink) (E.Sinks.Sink.faults sink) }
-    ensures ran { IfSome result.1 (RanLogged E.Network.Door.Conn.wire (serving_of server.now) (arc_value ground.stock.site) ground.seed path.now (gear_of E.Network.net E.Children.family E.Console.wire E.Stores.depot E.Sinks.rack things) (gear_of E.Network.net E.Children.family E.Console.wire E.Stores.depot E.Sinks.rack result.0)) }
+    ensures ran { IfSome result.1 (RanLogged E.Network.Door.Conn.wire (serving_of server.now) (arc_value ground.stock.site) ground.seed path.now (gear_of E.Network.net E.Children.family E.Console.wire E.Stores.depot E.Sinks.rack things) (gear_of E.Network.net E.Children.family E.Console.wire E.Stores.depot E.Sinks.rack result.0) (map (keeper_of K.tables K.told K.faults K.steady) result.2.items)) }
     ensures unran { IsNone result.1 → IsUntouched (gear_of E.Network.net E.Children.family E.Console.wire E.Stores.depot E.Sinks.rack things) (gear_of E.Network.net E.Children.family E.Console.wire E.Stores.depot E.Sinks.rack result.0) }
 {
-    let (mut things, log, ran) = serve_over::<R, E, _>(rt, alloc, server, ground, sink, things);
+    let (mut things, log, ran, keepers) = serve_over::<R, E, K, _>(
+        rt, alloc, server, ground, sink, things,
+    );
     match log {
         Some(sink) => {
             things.sinks.close(path, sink);
-            (things, ran)
+            (things, ran, keepers)
         }
-        None => (things, ran),
+        None => (things, ran, keepers),
     }
 }
 
 // The same with the log's text going nowhere.
-fn serve_unlogged<R, E>(
+fn serve_unlogged<R, E, K>(
     rt: &R,
     alloc: Global,
     server: &Server<'_>,
-    ground: Ground<<E::Network as Network>::Door>,
+    ground: Ground<<E::Network as Network>::Door, K>,
     things: ObjectsOf<E>,
-) -> (ObjectsOf<E>, Option<Ran>)
+) -> (ObjectsOf<E>, Option<Ran>, Vec<K>)
 where
     R: Wait + Threads + Sync,
     E: Equipment,
-    requires { IsGround (serving_of server.now) (arc_value ground.stock.site) (map (keeper_of ⟦<IndexKeeper as Keeper>⟧.tables ⟦<IndexKeeper as Keeper>⟧.told ⟦<IndexKeeper as Keeper>⟧.faults ⟦<IndexKeeper as Keeper>⟧.steady) ground.stock.keepers.items) (map E.Network.Door.entrance ground.doors.items) }
-    ensures ran { IfSome result.1 (RanUnlogged E.Network.Door.Conn.wire (serving_of server.now) (arc_value ground.stock.site) ground.seed (gear_of E.Network.net E.Children.family E.Console.wire E.Stores.depot E.Sinks.rack things) (gear_of E.Network.net E.Children.family E.Console.wire E.Stores.depot E.Sinks.rack result.0)) }
+    K: Keeper + Send + Drop,
+    K::Pin: Send,
+    requires { IsGround (serving_of server.now) (arc_value ground.stock.site) (map (keeper_of K.tables K.told K.faults K.steady) ground.stock.keepers.items) (map E.Network.Door.entrance ground.doors.items) }
+    ensures ran { IfSome result.1 (RanUnlogged E.Network.Door.Conn.wire (serving_of server.now) (arc_value ground.stock.site) ground.seed (gear_of E.Network.net E.Children.family E.Console.wire E.Stores.depot E.Sinks.rack things) (gear_of E.Network.net E.Children.family E.Console.wire E.Stores.depot E.Sinks.rack result.0) (map (keeper_of K.tables K.told K.faults K.steady) result.2.items)) }
     ensures unran { IsNone result.1 → IsUntouched (gear_of E.Network.net E.Children.family E.Console.wire E.Stores.depot E.Sinks.rack things) (gear_of E.Network.net E.Children.family E.Console.wire E.Stores.depot E.Sinks.rack result.0) }
 {
-    let (things, _, ran) = serve_over::<R, E, _>(rt, alloc, server, ground, Nowhere {}, things);
-    (things, ran)
+    let (things, _, ran, keepers) = serve_over::<R, E, K, _>(
+        rt,
+        alloc,
+        server,
+        ground,
+        Nowhere {},
+        things,
+    );
+    (things, ran, keepers)
 }
 
 /// Serves over doors that are open, with the log where the words say, and closes them; answers also
-/// whether the log's sink could not be opened.
-pub fn serve_doors<R, E>(
+/// whether the log's sink could not be opened. The keepers come back where the run began.
+pub fn serve_doors<R, E, K>(
     rt: &R,
     alloc: Global,
     server: &Server<'_>,
-    ground: Ground<<E::Network as Network>::Door>,
+    ground: Ground<<E::Network as Network>::Door, K>,
     mut things: ObjectsOf<E>,
-) -> (ObjectsOf<E>, Option<Ran>, bool)
+) -> (ObjectsOf<E>, Option<Ran>, bool, Vec<K>)
 where
     R: Wait + Threads + Sync,
     E: Equipment,
-    requires { IsGround (serving_of server.now) (arc_value ground.stock.site) (map (keeper_of ⟦<IndexKeeper as Keeper>⟧.tables ⟦<IndexKeeper as Keeper>⟧.told ⟦<IndexKeeper as Keeper>⟧.faults ⟦<IndexKeeper as Keeper>⟧.steady) ground.stock.keepers.items) (map E.Network.Door.entrance ground.doors.items) }
-    ensures ran { IfSome result.1 (λ ran. RanAt E.Network.Door.Conn.wire (serving_of server.now) (arc_value ground.stock.site) ground.seed (gear_of E.Network.net E.Children.family E.Console.wire E.Stores.depot E.Sinks.rack things) (gear_of E.Network.net E.Children.family E.Console.wire E.Stores.depot E.Sinks.rack result.0) ran result.2) }
+    K: Keeper + Send + Drop,
+    K::Pin: Send,
+    requires { IsGround (serving_of server.now) (arc_value ground.stock.site) (map (keeper_of K.tables K.told K.faults K.steady) ground.stock.keepers.items) (map E.Network.Door.entrance ground.doors.items) }
+    ensures ran { IfSome result.1 (λ ran. RanAt E.Network.Door.Conn.wire (serving_of server.now) (arc_value ground.stock.site) ground.seed (gear_of E.Network.net E.Children.family E.Console.wire E.Stores.depot E.Sinks.rack things) (gear_of E.Network.net E.Children.family E.Console.wire E.Stores.depot E.Sinks.rack result.0) (map (keeper_of K.tables K.told K.faults K.steady) result.3.items) ran result.2) }
     ensures unran { IsNone result.1 → IsUntouched (gear_of E.Network.net E.Children.family E.Console.wire E.Stores.depot E.Sinks.rack things) (gear_of E.Network.net E.Children.family E.Console.wire E.Stores.depot E.Sinks.rack result.0) }
 {
     let Some(path) = server.log else {
-        let (things, ran) = serve_unlogged::<R, E>(rt, alloc, server, ground, things);
-        return (things, ran, false);
+        let (things, ran, keepers) = serve_unlogged::<R, E, K>(rt, alloc, server, ground, things);
+        return (things, ran, false, keepers);
     };
     match things.sinks.open(path) {
         Err(_) => {
-            let (things, ran) = serve_unlogged::<R, E>(rt, alloc, server, ground, things);
-            (things, ran, true)
+            let (things, ran, keepers) = serve_unlogged::<R, E, K>(
+                rt, alloc, server, ground, things,
+            );
+            (things, ran, true, keepers)
         }
         Ok(sink) => {
-            let (things, ran) = serve_logged::<R, E>(rt, alloc, server, ground, path, sink, things);
-            (things, ran, false)
+            let (things, ran, keepers) = serve_logged::<R, E, K>(
+                rt, alloc, server, ground, path, sink, things,
+            );
+            (things, ran, false, keepers)
         }
     }
 }

@@ -6,6 +6,7 @@ ghost use Rattle.command_line.specs.Meant.{meant};
 ghost use Rattle.okws_outer.specs.Streams.{Rose};
 ghost use Rattle.okws_outer.specs.declared.world.Outside.{Outside};
 ghost use Rattle.okws_world.specs.declared.equipment.Objects.{Objects};
+ghost use Rattle.stored_site.specs.Sites.{AllTell};
 ghost use Rattle.okws_server.specs.Commands.{Does, Obeys, Says, IsWithin};
 ghost use Rattle.okws_server.specs.Ending.{Told, no_memory_line, read_fault_line};
 ghost use Rattle.okws_server.specs.Ran.{Played};
@@ -107,7 +108,7 @@ where
     O: Sink,
     E: Equipment,
     requires { IsWithin (meant command) }
-    ensures { Does E.Network.Door.Conn.wire (Some (meant command.entry))
+    ensures { Does E.Network.Door.Conn.wire (AllTell E.Stores.Keeper.told) (Some (meant command.entry))
         (view_of F.shelf O.given O.faults files.old out.old (gear_of E.Network.net E.Children.family E.Console.wire E.Stores.depot E.Sinks.rack things) seed)
         (view_of F.shelf O.given O.faults files.new out.new (gear_of E.Network.net E.Children.family E.Console.wire E.Stores.depot E.Sinks.rack result.2) seed)
         result.1 result.0 }
@@ -144,7 +145,7 @@ where
     F: Files,
     O: Sink,
     E: Equipment,
-    ensures { Obeys E.Network.Door.Conn.wire (asked (map string_bytes words.now))
+    ensures { Obeys E.Network.Door.Conn.wire (AllTell E.Stores.Keeper.told) (asked (map string_bytes words.now))
         (view_of F.shelf O.given O.faults files.old out.old (gear_of E.Network.net E.Children.family E.Console.wire E.Stores.depot E.Sinks.rack things) seed)
         (view_of F.shelf O.given O.faults files.new out.new (gear_of E.Network.net E.Children.family E.Console.wire E.Stores.depot E.Sinks.rack result.2) seed)
         result.1 result.0 }
@@ -164,7 +165,8 @@ where
 /// and leaves its record. `drill SEED EVENTS` plays a script that the two numbers give over a site of
 /// the program's own, prints how many frames of each kind were heard, and leaves its record.
 /// `serve CONFIG --port P --serve N` serves a site whose services are programs, at P of the loopback
-/// address, to N connections. Other words are answered with how the program is called.
+/// address, to N connections, with its rows in memory, or in files that are named after FILE of
+/// `--store FILE`. Other words are answered with how the program is called.
 pub fn okws<R, W>(rt: &R, alloc: Global, words: &[String], world: &mut W) -> (Status, Record)
 where
     R: Wait + Threads + Sync,
@@ -175,7 +177,7 @@ where
     ensures equipped { IsSome (W.equipment world.new) }
     ensures runs { (a b : Outside W.Files W.Out) (s t : Objects W.Equipment.Network W.Equipment.Children W.Equipment.Console W.Equipment.Stores W.Equipment.Sinks W.Equipment.Gate) →
         W.objects world.old ≡ Some a → W.equipment world.old ≡ Some s → W.objects world.new ≡ Some b → W.equipment world.new ≡ Some t →
-        Obeys W.Equipment.Network.Door.Conn.wire (asked (map string_bytes words.now))
+        Obeys W.Equipment.Network.Door.Conn.wire (AllTell W.Equipment.Stores.Keeper.told) (asked (map string_bytes words.now))
         (view_of W.Files.shelf W.Out.given W.Out.faults a.files a.out (gear_of W.Equipment.Network.net W.Equipment.Children.family W.Equipment.Console.wire W.Equipment.Stores.depot W.Equipment.Sinks.rack s) a.seed)
         (view_of W.Files.shelf W.Out.given W.Out.faults b.files b.out (gear_of W.Equipment.Network.net W.Equipment.Children.family W.Equipment.Console.wire W.Equipment.Stores.depot W.Equipment.Sinks.rack t) b.seed)
         result.1 result.0 }

@@ -4,6 +4,7 @@ use okws_outer::children::Children;
 use okws_outer::conn::Conn;
 use okws_outer::door::Door;
 use okws_outer::gate::Gate;
+use okws_outer::keeper::Keeper;
 use okws_outer::network::Network;
 use okws_outer::sinks::Sinks;
 use okws_outer::stores::Stores;
@@ -20,7 +21,7 @@ pub trait Equipment {
     type Console: Conn + Send + Drop;
 
     /// The stores, which make keepers.
-    type Stores: Stores + Drop;
+    type Stores: Stores<Keeper: Keeper<Pin: Send>> + Drop;
 
     /// The sinks by their paths.
     type Sinks: Sinks + Drop;
@@ -61,7 +62,7 @@ impl<
     N: Network<Door: Door<Conn: Send>> + Drop,
     H: Children<Child: Send, Link: Send> + Send + Drop,
     C: Conn + Send + Drop,
-    S: Stores + Drop,
+    S: Stores<Keeper: Keeper<Pin: Send>> + Drop,
     K: Sinks + Drop,
     G: Gate + Sync + Drop,
 > Equipment for Objects<N, H, C, S, K, G> {

@@ -10,6 +10,7 @@ use okws_outer::conn::Conn;
 use okws_outer::door::Door;
 use okws_outer::files::Files;
 use okws_outer::gate::Gate;
+use okws_outer::keeper::Keeper;
 use okws_outer::network::Network;
 use okws_outer::sinks::Sinks;
 use okws_outer::stores::Stores;
@@ -52,7 +53,7 @@ impl<
     N: Network<Door: Door<Conn: Send>> + Drop,
     H: Children<Child: Send, Link: Send> + Send + Drop,
     C: Conn + Send + Drop,
-    S: Stores + Drop,
+    S: Stores<Keeper: Keeper<Pin: Send>> + Drop,
     K: Sinks + Drop,
     G: Gate + Sync + Drop,
 > World for Fitted<F, O, N, H, C, S, K, G> {
@@ -82,7 +83,7 @@ impl<
     N: Network<Door: Door<Conn: Send>> + Drop,
     H: Children<Child: Send, Link: Send> + Send + Drop,
     C: Conn + Send + Drop,
-    S: Stores + Drop,
+    S: Stores<Keeper: Keeper<Pin: Send>> + Drop,
     K: Sinks + Drop,
     G: Gate + Sync + Drop,
 > Equipped for Fitted<F, O, N, H, C, S, K, G> {

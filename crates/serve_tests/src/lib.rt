@@ -14,3 +14,7 @@ mod outside;
 mod requests;
 #[cfg(test)]
 mod services;
+#[cfg(test)]
+mod shaky;
+#[cfg(test)]
+mod stored;

@@ -1,5 +1,6 @@
 //! A server's outside in memory, what is planned of it, and what a run left.
 
+use crate::shaky::Shaking;
 use okws_base::items::Items;
 use okws_outer::gate::Gate;
 use okws_outer::memory::conn::MemoryConn;
@@ -14,7 +15,7 @@ use okws_world::memory::MemoryObjects;
 use outer_memory::children::{ChildPlan, MemoryChildren};
 use outer_memory::door::{Client, MemoryNetwork};
 use outer_memory::sinks::MemorySinks;
-use outer_memory::stores::{Breaking, MemoryStores};
+use outer_memory::stores::MemoryStores;
 use std::alloc::{AllocError, Global};
 use std::sync::Wait;
 use std::test::Fail;
@@ -102,6 +103,10 @@ pub struct Plan<'a> {
     pub reads: &'a [u64],
     /// The numbers of the sinks' openings that fail.
     pub openings: &'a [u64],
+    /// The numbers of the makings of keepers that fail.
+    pub makings: &'a [u64],
+    /// The numbers of each keeper's calls that fail.
+    pub calls: &'a [u64],
     /// What the operator says.
     pub console: &'a [u8],
     /// The numbers of the console's calls that fail.
@@ -123,6 +128,8 @@ pub fn plain() -> Plan<'static> {
         listens: &[],
         reads: &[],
         openings: &[],
+        makings: &[],
+        calls: &[],
         console: b"",
         slips: &[],
         room: 65_536,
@@ -152,12 +159,12 @@ fn objects<'a, G: Drop>(
     alloc: Global,
     plan: &Plan<'a>,
     gate: G,
-) -> Result<MemoryObjects<'a, Breaking, G>, AllocError> {
+) -> Result<MemoryObjects<'a, Shaking<'a>, G>, AllocError> {
     Ok(Objects {
         network: MemoryNetwork::new(alloc, plan.clients, &[], plan.listens),
         children: MemoryChildren::new(alloc, plan.children, plan.starts),
         console: MemoryConn::new(alloc, plan.console, &[], 65_536, plan.slips)?,
-        stores: MemoryStores::new(Breaking, &[]),
+        stores: MemoryStores::new(Shaking { calls: plan.calls }, plan.makings),
         sinks: MemorySinks::new(alloc, 65_536, &[], plan.openings),
         gate,
     })
@@ -209,7 +216,7 @@ fn ending<G>(
     alloc: Global,
     status: Status,
     printed: &[u8],
-    things: &MemoryObjects<'_, Breaking, G>,
+    things: &MemoryObjects<'_, Shaking<'_>, G>,
 ) -> Result<Ended, Fail> {
     Ok(Ended {
         status,

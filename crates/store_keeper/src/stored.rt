@@ -13,7 +13,8 @@ use std::alloc::{AllocError, Global};
 
 /// The rows of some tables in memory, which it tells, beside a store that has the same rows. A write is run
 /// by the store first, and where that fails the rows are as they were. Where the two have parted, since
-/// memory was refused behind a write or they answered differently, each further write fails.
+/// memory was refused behind a write or they answered differently, memory counts as refused to each
+/// further write: no call of the store has failed.
 #[derive(Drop)]
 pub struct StoredKeeper<K: Keeper> {
     rows: IndexKeeper,
@@ -22,7 +23,7 @@ pub struct StoredKeeper<K: Keeper> {
     parted: bool,
     ghost alike: { AreAlike (K.tables store) (⟦<IndexKeeper as Keeper>⟧.tables rows) },
     ghost same: { parted ≡ false → HasRows (K.told store) (⟦<IndexKeeper as Keeper>⟧.told rows) },
-    ghost counted: { parted ≡ false → faults ≤ K.faults store },
+    ghost counted: { faults ≤ K.faults store },
 }
 
 impl<K: Keeper> StoredKeeper<K> {
@@ -62,13 +63,13 @@ impl<K: Keeper> StoredKeeper<K> {
         self.parted
     }
 
-    /// The store, as the keeper left it. Unless the two have parted, it has counted each failed call, and
-    /// where it tells its rows these are the keeper's.
+    /// The store, as the keeper left it. It has counted each failed call, and where it tells its rows these
+    /// are the keeper's, unless the two have parted.
     pub fn into_store(self) -> K
         ensures store { result ≡ self.store }
         ensures alike { AreAlike (K.tables result) (⟦<StoredKeeper<K> as Keeper>⟧.tables self) }
         ensures same { self.parted ≡ false → HasRows (K.told result) (⟦<StoredKeeper<K> as Keeper>⟧.told self) }
-        ensures counted { self.parted ≡ false → ⟦<StoredKeeper<K> as Keeper>⟧.faults self ≤ K.faults result }
+        ensures counted { ⟦<StoredKeeper<K> as Keeper>⟧.faults self ≤ K.faults result }
     {
         self.store
     }
@@ -116,7 +117,7 @@ impl<K: Keeper> Keeper for StoredKeeper<K> {
             return self.rows.run(alloc, statement, args);
         }
         if self.parted {
-            return Err(failed(&mut self.faults));
+            return Err(RunError::NoMemory);
         }
         match self.store.run(alloc, statement, args) {
             Ok(told) => {

@@ -1,7 +1,8 @@
-use Rattle.std.proofs.Common.{inr, refl, subst}
+use Rattle.std.proofs.Common.{List, inr, map, refl, subst}
 use Rattle.std.specs.Prelude.{IfSome}
 use Rattle.std.specs.Arc.{arc_value}
 use Rattle.std.specs.declared.option.Option.{Option}
+use Rattle.site_run.specs.Keepers.{KeeperIs, keeper_of}
 use Rattle.okws_serve.specs.declared.outfit.Ran.{Ran}
 use Rattle.okws_server.specs.Served.{RanAt, serving_of}
 use Rattle.okws_server.specs.Views.{Gear, gear_of}
@@ -13,10 +14,11 @@ returns g c =
     let C = arc_value c.args.ground.stock.site in
     let before : Gear = gear_of g.E.Network.Network.net g.E.Children.Children.family g.E.Console.Conn.wire g.E.Stores.Stores.depot g.E.Sinks.Sinks.rack c.args.things in
     let after : Gear = gear_of g.E.Network.Network.net g.E.Children.Children.family g.E.Console.Conn.wire g.E.Stores.Stores.depot g.E.Sinks.Sinks.rack c.serve_doors-things.result.0 in
+    let left : List KeeperIs = map (keeper_of g.K.Keeper.tables g.K.Keeper.told g.K.Keeper.faults g.K.Keeper.steady) c.serve_doors-things.result.3.items in
     inr (
       c.in-Some.ran,
       c.serve_doors-things.result.2,
-      subst (λ (o : Option Ran). IfSome o (λ ran. RanAt wire (serving_of c.args.server.now) C c.args.ground.seed before after ran c.serve_doors-things.result.2)) c.in-Some.is c.serve_doors-things.ensures.ran,
+      subst (λ (o : Option Ran). IfSome o (λ ran. RanAt wire (serving_of c.args.server.now) C c.args.ground.seed before after left ran c.serve_doors-things.result.2)) c.in-Some.is c.serve_doors-things.ensures.ran,
       refl,
       c.print_end-status.ensures,
     )

@@ -1,7 +1,6 @@
 use Rattle.std.proofs.Common.{List, arith, map, refl}
 use Rattle.std.specs.Prelude.{vec_len}
 use Rattle.std.specs.Arc.{arc_value}
-use Rattle.index_keeper.specs.contracts.keeper.IndexKeeperKeeper.TheImpl as row
 use Rattle.site_run.specs.Keepers.{KeeperIs, are_steady, faults_at, keeper_of}
 use Rattle.okws_server.specs.Served.{serving_of}
 use Rattle.okws_server.specs.Views.{Gear, gear_of}
@@ -22,10 +21,10 @@ returns-clause-ran g c =
       depot = before.depot;
       rack = before.rack;
     } in
-    let keepers : List KeeperIs = map (keeper_of row.tables-value.it row.told-value.it row.faults-value.it row.steady-value.it) c.args.ground.stock.keepers.items in
-    let left : List KeeperIs = map (keeper_of row.tables-value.it row.told-value.it row.faults-value.it row.steady-value.it) c.serve_site-left.result.keepers.items in
+    let keepers : List KeeperIs = map (keeper_of g.K.Keeper.tables g.K.Keeper.told g.K.Keeper.faults g.K.Keeper.steady) c.args.ground.stock.keepers.items in
+    let left : List KeeperIs = map (keeper_of g.K.Keeper.tables g.K.Keeper.told g.K.Keeper.faults g.K.Keeper.steady) c.serve_site-left.result.keepers.items in
     ran_over g.E.Network.Door.Conn.Conn.wire (serving_of c.args.server.now) (arc_value c.args.ground.stock.site) c.args.ground.seed before after c.serve_site-left.result.ran c.serve_site-left.result.log g.S.Sink.given g.S.Sink.faults
     (vec_len c.args.ground.doors) (record { steady = are_steady keepers; keeper_faults = faults_at keepers; sink_faults = g.S.Sink.faults c.args.log; children = before.family }) (map g.E.Network.Door.Door.entrance c.args.ground.doors.items)
     (map g.E.Network.Door.Door.entrance c.serve_site-left.result.doors.items) left c.requires.ground.new
     (omega (arith, c.args.ground.doors.ok.0, doors_many g.E.Network.Door.Door.entrance c.args.ground.doors.items c.args.server.now.doors c.requires.ground.new))
-    c.requires.ground.stock.steady c.requires.log.faults refl c.close.ensures refl c.serve_site-left.ensures.ran
+    c.requires.ground.steady c.requires.log.faults refl c.close.ensures refl c.serve_site-left.ensures.ran

@@ -14,7 +14,7 @@ invariant_of-self-in-Ok g c = record {
       c.agree.ensures c.args.self.now.alike (c.args.self.now.same c.if-self.false)
       (subst (λ r. Runs (g.K.Keeper.tables c.args.self.now.store) c.args.statement.now c.args.args.now (g.K.Keeper.told c.args.self.now.store) (g.K.Keeper.told c.run-2.new.self) r) c.in-Ok.is c.run-2.ensures.rows)
       c.run-answer.ensures.rows;
-  counted = λ _. omega (arith, c.args.self.now.counted c.if-self.false, c.run-2.ensures.faults.later);
+  counted = omega (arith, c.args.self.now.counted, c.run-2.ensures.faults.later);
 }
 
 pub invariant_of-self-in-Err-Failed : goal.invariant_of-self-in-Err-Failed
@@ -22,5 +22,5 @@ invariant_of-self-in-Err-Failed g c = record {
   alike = still_alike (g.K.Keeper.tables c.args.self.now.store) _ _ _ c.run-2.ensures.tables refl c.args.self.now.alike;
   same = λ on. same_failed (g.K.Keeper.tables c.args.self.now.store) c.args.statement.now c.args.args.now (g.K.Keeper.told c.args.self.now.store) (g.K.Keeper.told c.run-2.new.self) _ c.in-Err-Failed.field-0 (c.args.self.now.same on)
       (subst (λ r. Runs (g.K.Keeper.tables c.args.self.now.store) c.args.statement.now c.args.args.now (g.K.Keeper.told c.args.self.now.store) (g.K.Keeper.told c.run-2.new.self) r) c.in-Err-Failed.is c.run-2.ensures.rows);
-  counted = λ on. omega (arith, c.failed-in-Err-Failed.ensures.one, c.args.self.now.counted on, c.run-2.ensures.faults.cause (c.in-Err-Failed.is ∙ ap Err c.in-Err-Failed.field-0-is));
+  counted = omega (arith, c.failed.ensures.one, c.args.self.now.counted, c.run-2.ensures.faults.cause (c.in-Err-Failed.is ∙ ap Err c.in-Err-Failed.field-0-is));
 }

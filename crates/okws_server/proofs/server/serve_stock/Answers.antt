@@ -1,0 +1,29 @@
+use Rattle.std.proofs.Common.{List, ap, map}
+use Rattle.std.specs.Arc.{arc_value}
+use Rattle.okws_outer.specs.Networks.{Net}
+use Rattle.okws_outer.specs.Streams.{Rose}
+use Rattle.site_run.specs.Keepers.{KeeperIs, keeper_of}
+use Rattle.okws_server.specs.Served.{serving_of}
+use Rattle.okws_server.specs.Views.{Gear, gear_of}
+use Rattle.okws_server.proofs.Answered.{listens_on, open_over}
+use Rattle.okws_server.proofs.Grounds.{entrances_new}
+use Rattle.okws_server.proofs.server.serve_stock.Goals as goal
+
+pub serve_open-requires-after_bounds : goal.serve_open-requires-after_bounds
+serve_open-requires-after_bounds g c κs within = record {
+  stock = c.requires.stock;
+  steady = c.requires.steady;
+  words = c.requires.words;
+  new = entrances_new g.E.Network.Door.Door.entrance c.in-Ok.doors.items c.args.server.now.doors c.in-Ok.ensures.count c.in-Ok.ensures.doors;
+}
+
+pub returns-in-Ok : goal.returns-in-Ok
+returns-in-Ok g c =
+    let before : Gear = gear_of g.E.Network.Network.net g.E.Children.Children.family g.E.Console.Conn.wire g.E.Stores.Stores.depot g.E.Sinks.Sinks.rack c.args.things in
+    let middle : Gear = record before { net = g.E.Network.Network.net c.listen.new.self } in
+    let after : Gear = gear_of g.E.Network.Network.net g.E.Children.Children.family g.E.Console.Conn.wire g.E.Stores.Stores.depot g.E.Sinks.Sinks.rack c.serve_open.result.0.2 in
+    let keepers : List KeeperIs = map (keeper_of g.K.Keeper.tables g.K.Keeper.told g.K.Keeper.faults g.K.Keeper.steady) c.args.stock.keepers.items in
+    let left : List KeeperIs = map (keeper_of g.K.Keeper.tables g.K.Keeper.told g.K.Keeper.faults g.K.Keeper.steady) c.serve_open.result.1.items in
+    open_over g.E.Network.Door.Conn.Conn.wire (serving_of c.args.server.now) (arc_value c.args.stock.site) c.args.seed before middle after keepers left (g.O.Sink.given c.args.out.now) (g.O.Sink.given c.serve_open.new.out)
+    (Rose (g.O.Sink.faults c.args.out.now) (g.O.Sink.faults c.serve_open.new.out)) c.serve_open.result.0.1 c.serve_open.result.0.0
+    (ap {A = Net} (λ (n : Net). record before { net = n }) (listens_on (serving_of c.args.server.now) before.net middle.net c.in-Ok.ensures.net.net c.in-Ok.ensures.net.faults)) c.serve_open.ensures

@@ -1,0 +1,54 @@
+use Rattle.std.proofs.Common.{◌∙◌, Err, List, ap, map, refl, subst, arith}
+use Rattle.std.specs.Arc.{arc_value}
+use Rattle.std.proofs.lemmas.List.{length-map}
+use Rattle.okws_base.specs.declared.limit.TheConstants.{MOST_PROXIES}
+use Rattle.okws_outer.specs.Streams.{Rose}
+use Rattle.site_run.specs.Keepers.{KeeperIs, keeper_of}
+use Rattle.store_keeper.specs.contracts.stored.StoredKeeperKeeper.TheImpl as stored
+use Rattle.stored_site.specs.Depots.{GivesBack}
+use Rattle.stored_site.specs.Sites.{AllTell}
+use Rattle.okws_server.specs.Served.{serving_of}
+use Rattle.okws_server.specs.Views.{Gear, gear_of}
+use Rattle.okws_server.proofs.Answered.{counts_of, few_left, missed_config, stored_config}
+use Rattle.okws_server.proofs.Grounds.{proxies_alike}
+use Rattle.okws_server.proofs.server.serve_stored.Goals as goal
+
+pub give_back-requires-after_bounds : goal.give_back-requires-after_bounds
+give_back-requires-after_bounds g c κs within =
+    let before : Gear = gear_of g.E.Network.Network.net g.E.Children.Children.family g.E.Console.Conn.wire g.E.Stores.Stores.depot g.E.Sinks.Sinks.rack c.args.things in
+    let middle : Gear = record before { depot = g.E.Stores.Stores.depot c.stored_stock.new.stores } in
+    let after : Gear = gear_of g.E.Network.Network.net g.E.Children.Children.family g.E.Console.Conn.wire g.E.Stores.Stores.depot g.E.Sinks.Sinks.rack c.serve_beside-ended.result.0.2 in
+    let keepers : List KeeperIs = map (keeper_of (stored.tables-value g.row.E-Stores-Keeper g.row.E-Stores-Keeper-Pin g.E.Stores.Keeper.Keeper g.E.Stores.Keeper.Keeper-dict g.E.Stores.Keeper.Pin.Pinned g.E.Stores.Keeper.Pin.Pinned-dict g.E.Stores.Keeper.Pin.Destruct-dict).it (stored.told-value g.row.E-Stores-Keeper g.row.E-Stores-Keeper-Pin g.E.Stores.Keeper.Keeper g.E.Stores.Keeper.Keeper-dict g.E.Stores.Keeper.Pin.Pinned g.E.Stores.Keeper.Pin.Pinned-dict g.E.Stores.Keeper.Pin.Destruct-dict).it (stored.faults-value g.row.E-Stores-Keeper g.row.E-Stores-Keeper-Pin g.E.Stores.Keeper.Keeper g.E.Stores.Keeper.Keeper-dict g.E.Stores.Keeper.Pin.Pinned g.E.Stores.Keeper.Pin.Pinned-dict g.E.Stores.Keeper.Pin.Destruct-dict).it (stored.steady-value g.row.E-Stores-Keeper g.row.E-Stores-Keeper-Pin g.E.Stores.Keeper.Keeper g.E.Stores.Keeper.Keeper-dict g.E.Stores.Keeper.Pin.Pinned g.E.Stores.Keeper.Pin.Pinned-dict g.E.Stores.Keeper.Pin.Destruct-dict).it) c.in-Ok.stock.keepers.items in
+    let left : List KeeperIs = map (keeper_of (stored.tables-value g.row.E-Stores-Keeper g.row.E-Stores-Keeper-Pin g.E.Stores.Keeper.Keeper g.E.Stores.Keeper.Keeper-dict g.E.Stores.Keeper.Pin.Pinned g.E.Stores.Keeper.Pin.Pinned-dict g.E.Stores.Keeper.Pin.Destruct-dict).it (stored.told-value g.row.E-Stores-Keeper g.row.E-Stores-Keeper-Pin g.E.Stores.Keeper.Keeper g.E.Stores.Keeper.Keeper-dict g.E.Stores.Keeper.Pin.Pinned g.E.Stores.Keeper.Pin.Pinned-dict g.E.Stores.Keeper.Pin.Destruct-dict).it (stored.faults-value g.row.E-Stores-Keeper g.row.E-Stores-Keeper-Pin g.E.Stores.Keeper.Keeper g.E.Stores.Keeper.Keeper-dict g.E.Stores.Keeper.Pin.Pinned g.E.Stores.Keeper.Pin.Pinned-dict g.E.Stores.Keeper.Pin.Destruct-dict).it (stored.steady-value g.row.E-Stores-Keeper g.row.E-Stores-Keeper-Pin g.E.Stores.Keeper.Keeper g.E.Stores.Keeper.Keeper-dict g.E.Stores.Keeper.Pin.Pinned g.E.Stores.Keeper.Pin.Pinned-dict g.E.Stores.Keeper.Pin.Destruct-dict).it) c.serve_beside-ended.result.1.items in
+    let few = few_left g.E.Network.Door.Conn.Conn.wire (serving_of c.args.server.now) (arc_value c.in-Ok.stock.site) c.args.seed middle after keepers left (g.O.Sink.given c.args.out.now) (g.O.Sink.given c.serve_beside-ended.new.out)
+    (Rose (g.O.Sink.faults c.args.out.now) (g.O.Sink.faults c.serve_beside-ended.new.out)) c.serve_beside-ended.result.0.1 c.serve_beside-ended.result.0.0 MOST_PROXIES
+    (omega (arith, c.in-Ok.ensures.stock.many, c.in-Ok.ensures.stock.servable.proxies)) c.in-Ok.ensures.stock.servable.proxies c.serve_beside-ended.ensures in
+    omega (arith, few, length-map c.serve_beside-ended.result.1.items (keeper_of (stored.tables-value g.row.E-Stores-Keeper g.row.E-Stores-Keeper-Pin g.E.Stores.Keeper.Keeper g.E.Stores.Keeper.Keeper-dict g.E.Stores.Keeper.Pin.Pinned g.E.Stores.Keeper.Pin.Pinned-dict g.E.Stores.Keeper.Pin.Destruct-dict).it (stored.told-value g.row.E-Stores-Keeper g.row.E-Stores-Keeper-Pin g.E.Stores.Keeper.Keeper g.E.Stores.Keeper.Keeper-dict g.E.Stores.Keeper.Pin.Pinned g.E.Stores.Keeper.Pin.Pinned-dict g.E.Stores.Keeper.Pin.Destruct-dict).it (stored.faults-value g.row.E-Stores-Keeper g.row.E-Stores-Keeper-Pin g.E.Stores.Keeper.Keeper g.E.Stores.Keeper.Keeper-dict g.E.Stores.Keeper.Pin.Pinned g.E.Stores.Keeper.Pin.Pinned-dict g.E.Stores.Keeper.Pin.Destruct-dict).it (stored.steady-value g.row.E-Stores-Keeper g.row.E-Stores-Keeper-Pin g.E.Stores.Keeper.Keeper g.E.Stores.Keeper.Keeper-dict g.E.Stores.Keeper.Pin.Pinned g.E.Stores.Keeper.Pin.Pinned-dict g.E.Stores.Keeper.Pin.Destruct-dict).it), c.serve_beside-ended.result.1.ok.0)
+
+pub returns-in-Ok : goal.returns-in-Ok
+returns-in-Ok g c =
+    let before : Gear = gear_of g.E.Network.Network.net g.E.Children.Children.family g.E.Console.Conn.wire g.E.Stores.Stores.depot g.E.Sinks.Sinks.rack c.args.things in
+    let middle : Gear = record before { depot = g.E.Stores.Stores.depot c.stored_stock.new.stores } in
+    let after : Gear = gear_of g.E.Network.Network.net g.E.Children.Children.family g.E.Console.Conn.wire g.E.Stores.Stores.depot g.E.Sinks.Sinks.rack c.serve_beside-ended.result.0.2 in
+    let end : Gear = record after { depot = g.E.Stores.Stores.depot c.give_back.new.stores } in
+    let keepers : List KeeperIs = map (keeper_of (stored.tables-value g.row.E-Stores-Keeper g.row.E-Stores-Keeper-Pin g.E.Stores.Keeper.Keeper g.E.Stores.Keeper.Keeper-dict g.E.Stores.Keeper.Pin.Pinned g.E.Stores.Keeper.Pin.Pinned-dict g.E.Stores.Keeper.Pin.Destruct-dict).it (stored.told-value g.row.E-Stores-Keeper g.row.E-Stores-Keeper-Pin g.E.Stores.Keeper.Keeper g.E.Stores.Keeper.Keeper-dict g.E.Stores.Keeper.Pin.Pinned g.E.Stores.Keeper.Pin.Pinned-dict g.E.Stores.Keeper.Pin.Destruct-dict).it (stored.faults-value g.row.E-Stores-Keeper g.row.E-Stores-Keeper-Pin g.E.Stores.Keeper.Keeper g.E.Stores.Keeper.Keeper-dict g.E.Stores.Keeper.Pin.Pinned g.E.Stores.Keeper.Pin.Pinned-dict g.E.Stores.Keeper.Pin.Destruct-dict).it (stored.steady-value g.row.E-Stores-Keeper g.row.E-Stores-Keeper-Pin g.E.Stores.Keeper.Keeper g.E.Stores.Keeper.Keeper-dict g.E.Stores.Keeper.Pin.Pinned g.E.Stores.Keeper.Pin.Pinned-dict g.E.Stores.Keeper.Pin.Destruct-dict).it) c.in-Ok.stock.keepers.items in
+    let left : List KeeperIs = map (keeper_of (stored.tables-value g.row.E-Stores-Keeper g.row.E-Stores-Keeper-Pin g.E.Stores.Keeper.Keeper g.E.Stores.Keeper.Keeper-dict g.E.Stores.Keeper.Pin.Pinned g.E.Stores.Keeper.Pin.Pinned-dict g.E.Stores.Keeper.Pin.Destruct-dict).it (stored.told-value g.row.E-Stores-Keeper g.row.E-Stores-Keeper-Pin g.E.Stores.Keeper.Keeper g.E.Stores.Keeper.Keeper-dict g.E.Stores.Keeper.Pin.Pinned g.E.Stores.Keeper.Pin.Pinned-dict g.E.Stores.Keeper.Pin.Destruct-dict).it (stored.faults-value g.row.E-Stores-Keeper g.row.E-Stores-Keeper-Pin g.E.Stores.Keeper.Keeper g.E.Stores.Keeper.Keeper-dict g.E.Stores.Keeper.Pin.Pinned g.E.Stores.Keeper.Pin.Pinned-dict g.E.Stores.Keeper.Pin.Destruct-dict).it (stored.steady-value g.row.E-Stores-Keeper g.row.E-Stores-Keeper-Pin g.E.Stores.Keeper.Keeper g.E.Stores.Keeper.Keeper-dict g.E.Stores.Keeper.Pin.Pinned g.E.Stores.Keeper.Pin.Pinned-dict g.E.Stores.Keeper.Pin.Destruct-dict).it) c.serve_beside-ended.result.1.items in
+    stored_config g.E.Network.Door.Conn.Conn.wire (AllTell g.E.Stores.Keeper.Keeper.told) (serving_of c.args.server.now) c.args.file.now c.args.config (arc_value c.in-Ok.stock.site) c.args.seed before middle after end keepers left (g.O.Sink.given c.args.out.now) (g.O.Sink.given c.serve_beside-ended.new.out)
+    (Rose (g.O.Sink.faults c.args.out.now) (g.O.Sink.faults c.serve_beside-ended.new.out)) c.serve_beside-ended.result.0.1 c.serve_beside-ended.result.0.0 c.in-Ok.ensures.alike c.in-Ok.ensures.same
+    (record {
+      wanted = c.requires.stores;
+      before = refl;
+      opened = c.in-Ok.ensures.made;
+      after = refl;
+      closed = subst (λ ns. GivesBack ns after.depot end.depot) (counts_of (keeper_of (stored.tables-value g.row.E-Stores-Keeper g.row.E-Stores-Keeper-Pin g.E.Stores.Keeper.Keeper g.E.Stores.Keeper.Keeper-dict g.E.Stores.Keeper.Pin.Pinned g.E.Stores.Keeper.Pin.Pinned-dict g.E.Stores.Keeper.Pin.Destruct-dict).it (stored.told-value g.row.E-Stores-Keeper g.row.E-Stores-Keeper-Pin g.E.Stores.Keeper.Keeper g.E.Stores.Keeper.Keeper-dict g.E.Stores.Keeper.Pin.Pinned g.E.Stores.Keeper.Pin.Pinned-dict g.E.Stores.Keeper.Pin.Destruct-dict).it (stored.faults-value g.row.E-Stores-Keeper g.row.E-Stores-Keeper-Pin g.E.Stores.Keeper.Keeper g.E.Stores.Keeper.Keeper-dict g.E.Stores.Keeper.Pin.Pinned g.E.Stores.Keeper.Pin.Pinned-dict g.E.Stores.Keeper.Pin.Destruct-dict).it (stored.steady-value g.row.E-Stores-Keeper g.row.E-Stores-Keeper-Pin g.E.Stores.Keeper.Keeper g.E.Stores.Keeper.Keeper-dict g.E.Stores.Keeper.Pin.Pinned g.E.Stores.Keeper.Pin.Pinned-dict g.E.Stores.Keeper.Pin.Destruct-dict).it) c.serve_beside-ended.result.1.items) c.give_back.ensures;
+      many = c.in-Ok.ensures.stock.many ∙ proxies_alike c.args.config (arc_value c.in-Ok.stock.site) c.in-Ok.ensures.alike;
+    }) c.serve_beside-ended.ensures
+
+pub returns-in-Err-Failed : goal.returns-in-Err-Failed
+returns-in-Err-Failed g c =
+    let before : Gear = gear_of g.E.Network.Network.net g.E.Children.Children.family g.E.Console.Conn.wire g.E.Stores.Stores.depot g.E.Sinks.Sinks.rack c.args.things in
+    let middle : Gear = record before { depot = g.E.Stores.Stores.depot c.stored_stock.new.stores } in
+    let after : Gear = gear_of g.E.Network.Network.net g.E.Children.Children.family g.E.Console.Conn.wire g.E.Stores.Stores.depot g.E.Sinks.Sinks.rack c.refused.result.2 in
+    missed_config g.E.Network.Door.Conn.Conn.wire (AllTell g.E.Stores.Keeper.Keeper.told) (serving_of c.args.server.now) c.args.file.now c.args.config c.args.seed before middle after (g.O.Sink.given c.args.out.now) (g.O.Sink.given c.refused.new.out)
+    (Rose (g.O.Sink.faults c.args.out.now) (g.O.Sink.faults c.refused.new.out)) c.refused.result.1 c.refused.result.0 c.refused.ensures.status c.requires.stores refl
+    (ap (λ o. gear_of g.E.Network.Network.net g.E.Children.Children.family g.E.Console.Conn.wire g.E.Stores.Stores.depot g.E.Sinks.Sinks.rack o) c.refused.ensures.things) (c.stored_stock.ensures.failed (c.in-Err-Failed.is ∙ ap Err c.in-Err-Failed.field-0-is)) c.refused.ensures.tells

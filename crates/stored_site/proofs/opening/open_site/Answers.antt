@@ -1,0 +1,63 @@
+use Rattle.std.proofs.Common.{◌≡◌, ◌∙◌, ◌+◌, ◌<◌, ℕ, suc, List, Err, Some, ap, arith, length, map, refl, subst, sym}
+use Rattle.okws_outer.specs.Depots.{Depot, with_made}
+use Rattle.okws_outer.specs.declared.error.MakeError.TheVariants.{Failed}
+use Rattle.okws_plan.specs.declared.configuration.ProxyPlan.{ProxyPlan}
+use Rattle.okws_plan.specs.declared.configuration.Table.{Table}
+use Rattle.store_keeper.specs.Alike.{AreAlike}
+use Rattle.store_keeper.specs.contracts.stored.StoredKeeperKeeper.TheImpl as stored
+use Rattle.stored_site.specs.Depots.{with_starts}
+use Rattle.stored_site.specs.Sites.{AllTell, AreOf, SitesAreAlike}
+use Rattle.stored_site.proofs.Given.{err_is, failed_since, still_failed}
+use Rattle.stored_site.proofs.Plans.{opened_all, opened_next, opened_sound, site_alike, site_same}
+use Rattle.stored_site.proofs.opening.open_site.Goals as goal
+
+pub open_proxy-requires-clause-sound : goal.open_proxy-requires-clause-sound
+open_proxy-requires-clause-sound g c κs within =
+    let below : c.loop-proxy.proxy < length c.args.config.proxies =
+    omega (arith, c.loop-proxy-test.true, c.len-count.ensures, c.into_vec-plans.result.ok.0, ap (λ (ps : List ProxyPlan). length ps) c.into_vec-plans.ensures) in
+    opened_sound (stored.tables-value g.row.S-Keeper g.row.S-Keeper-Pin g.S.Keeper.Keeper g.S.Keeper.Keeper-dict g.S.Keeper.Pin.Pinned g.S.Keeper.Pin.Pinned-dict g.S.Keeper.Pin.Destruct-dict).it (stored.told-value g.row.S-Keeper g.row.S-Keeper-Pin g.S.Keeper.Keeper g.S.Keeper.Keeper-dict g.S.Keeper.Pin.Pinned g.S.Keeper.Pin.Pinned-dict g.S.Keeper.Pin.Destruct-dict).it (AllTell g.S.Keeper.Keeper.told) c.args.config.proxies c.loop-proxy.plans.items c.loop-proxy.proxy c.loop-proxy.keepers.items c.index.result.now c.requires.plans below c.index.ensures c.loop-proxy.invariant.opened
+
+pub returns-in-Err-clause-failed : goal.returns-in-Err-clause-failed
+returns-in-Err-clause-failed g c = λ failed.
+    let before : Depot = g.S.Stores.depot c.args.stores.now in
+    let opened : Depot = g.S.Stores.depot c.loop-proxy.stores in
+    let after : Depot = g.S.Stores.depot c.open_proxy.new.stores in
+    still_failed _ before after (g.S.Stores.depot c.give_back.new.stores)
+    (failed_since before opened after (ap (λ (d : Depot). d.finished) c.loop-proxy.invariant.depot) (ap (λ (d : Depot). d.faults) c.loop-proxy.invariant.depot) (c.in-Err.ensures.failed (ap Err (err_is c.in-Err.why Failed failed))))
+    c.give_back.ensures
+
+pub loop-proxy-preserved : goal.loop-proxy-preserved
+loop-proxy-preserved g c =
+    let below : c.loop-proxy.proxy < length c.args.config.proxies =
+    omega (arith, c.loop-proxy-test.true, c.len-count.ensures, c.into_vec-plans.result.ok.0, ap (λ (ps : List ProxyPlan). length ps) c.into_vec-plans.ensures) in
+    let next : suc c.loop-proxy.proxy ≡ c.loop-proxy.proxy + 1 = omega arith in
+    record {
+      opened = opened_next (stored.tables-value g.row.S-Keeper g.row.S-Keeper-Pin g.S.Keeper.Keeper g.S.Keeper.Keeper-dict g.S.Keeper.Pin.Pinned g.S.Keeper.Pin.Pinned-dict g.S.Keeper.Pin.Destruct-dict).it (stored.told-value g.row.S-Keeper g.row.S-Keeper-Pin g.S.Keeper.Keeper g.S.Keeper.Keeper-dict g.S.Keeper.Pin.Pinned g.S.Keeper.Pin.Pinned-dict g.S.Keeper.Pin.Destruct-dict).it (AllTell g.S.Keeper.Keeper.told) c.args.config.proxies c.loop-proxy.plans.items _ c.loop-proxy.proxy c.index.result.now c.index_mut.result.now c.of.result c.loop-proxy.keepers.items _ c.in-Ok.opened.keeper
+          below c.index.ensures c.index_mut.ensures.value (subst (λ (ts : List Table). AreAlike ts c.index.result.now.tables) (sym c.of.ensures) c.in-Ok.ensures.alike) (λ tells. c.of.ensures ∙ c.in-Ok.ensures.same tells) refl
+          c.push_reserved.ensures.items (c.in-Ok.ensures.tables ∙ sym c.of.ensures) (c.in-Ok.ensures.told ∙ ap (λ (ts : List Table). Some (map (λ (t : Table). t.first) ts)) (sym c.of.ensures)) c.loop-proxy.invariant.opened;
+      many = omega (arith, c.push_reserved.ensures.len, c.loop-proxy.invariant.many);
+      room = c.push_reserved.ensures.capacity ∙ c.loop-proxy.invariant.room;
+      plans = c.loop-proxy.invariant.plans;
+      depot = c.in-Ok.ensures.made ∙ ap (with_made c.args.file.now c.loop-proxy.proxy) c.loop-proxy.invariant.depot ∙ ap (λ (n : ℕ). with_starts c.args.file.now n (g.S.Stores.depot c.args.stores.now)) next;
+    }
+
+pub returns-clause-alike : goal.returns-clause-alike
+returns-clause-alike g c =
+    let end : c.loop-proxy.proxy ≡ length c.args.config.proxies =
+    omega (arith, c.loop-proxy-test.false, c.loop-proxy.auto.proxy-end, c.len-count.ensures, c.into_vec-plans.result.ok.0, ap (λ (ps : List ProxyPlan). length ps) c.into_vec-plans.ensures) in
+    subst (λ (ps : List ProxyPlan). SitesAreAlike (record c.args.config { proxies = ps }) c.args.config) (sym c.of-2.ensures)
+    (site_alike (stored.tables-value g.row.S-Keeper g.row.S-Keeper-Pin g.S.Keeper.Keeper g.S.Keeper.Keeper-dict g.S.Keeper.Pin.Pinned g.S.Keeper.Pin.Pinned-dict g.S.Keeper.Pin.Destruct-dict).it (stored.told-value g.row.S-Keeper g.row.S-Keeper-Pin g.S.Keeper.Keeper g.S.Keeper.Keeper-dict g.S.Keeper.Pin.Pinned g.S.Keeper.Pin.Pinned-dict g.S.Keeper.Pin.Destruct-dict).it (AllTell g.S.Keeper.Keeper.told) c.args.config c.loop-proxy.plans.items c.loop-proxy.proxy c.loop-proxy.keepers.items end c.loop-proxy.invariant.opened)
+
+pub returns-clause-same : goal.returns-clause-same
+returns-clause-same g c =
+    let end : c.loop-proxy.proxy ≡ length c.args.config.proxies =
+    omega (arith, c.loop-proxy-test.false, c.loop-proxy.auto.proxy-end, c.len-count.ensures, c.into_vec-plans.result.ok.0, ap (λ (ps : List ProxyPlan). length ps) c.into_vec-plans.ensures) in
+    λ tells. ap (λ (ps : List ProxyPlan). record c.args.config { proxies = ps }) c.of-2.ensures
+    ∙ site_same (stored.tables-value g.row.S-Keeper g.row.S-Keeper-Pin g.S.Keeper.Keeper g.S.Keeper.Keeper-dict g.S.Keeper.Pin.Pinned g.S.Keeper.Pin.Pinned-dict g.S.Keeper.Pin.Destruct-dict).it (stored.told-value g.row.S-Keeper g.row.S-Keeper-Pin g.S.Keeper.Keeper g.S.Keeper.Keeper-dict g.S.Keeper.Pin.Pinned g.S.Keeper.Pin.Pinned-dict g.S.Keeper.Pin.Destruct-dict).it (AllTell g.S.Keeper.Keeper.told) c.args.config c.loop-proxy.plans.items c.loop-proxy.proxy c.loop-proxy.keepers.items end c.loop-proxy.invariant.opened tells
+
+pub returns-clause-keepers : goal.returns-clause-keepers
+returns-clause-keepers g c =
+    let end : c.loop-proxy.proxy ≡ length c.args.config.proxies =
+    omega (arith, c.loop-proxy-test.false, c.loop-proxy.auto.proxy-end, c.len-count.ensures, c.into_vec-plans.result.ok.0, ap (λ (ps : List ProxyPlan). length ps) c.into_vec-plans.ensures) in
+    subst (λ (ps : List ProxyPlan). AreOf ps (map (stored.tables-value g.row.S-Keeper g.row.S-Keeper-Pin g.S.Keeper.Keeper g.S.Keeper.Keeper-dict g.S.Keeper.Pin.Pinned g.S.Keeper.Pin.Pinned-dict g.S.Keeper.Pin.Destruct-dict).it c.loop-proxy.keepers.items) (map (stored.told-value g.row.S-Keeper g.row.S-Keeper-Pin g.S.Keeper.Keeper g.S.Keeper.Keeper-dict g.S.Keeper.Pin.Pinned g.S.Keeper.Pin.Pinned-dict g.S.Keeper.Pin.Destruct-dict).it c.loop-proxy.keepers.items)) (sym c.of-2.ensures)
+    (opened_all (stored.tables-value g.row.S-Keeper g.row.S-Keeper-Pin g.S.Keeper.Keeper g.S.Keeper.Keeper-dict g.S.Keeper.Pin.Pinned g.S.Keeper.Pin.Pinned-dict g.S.Keeper.Pin.Destruct-dict).it (stored.told-value g.row.S-Keeper g.row.S-Keeper-Pin g.S.Keeper.Keeper g.S.Keeper.Keeper-dict g.S.Keeper.Pin.Pinned g.S.Keeper.Pin.Pinned-dict g.S.Keeper.Pin.Destruct-dict).it (AllTell g.S.Keeper.Keeper.told) c.args.config.proxies c.loop-proxy.plans.items c.loop-proxy.proxy c.loop-proxy.keepers.items end c.loop-proxy.invariant.opened)

@@ -1,0 +1,132 @@
+//! The rows of a site's stores.
+
+ghost use Rattle.std.specs.Prelude.{◌≡◌, Some, true, map, length, IfOk, IfErr, IsErrOf, IsSome};
+ghost use Rattle.okws_plan.specs.Sound.{IsSound, is_sound_plan};
+ghost use Rattle.okws_outer.specs.Depots.{IsNewKeeper, with_made};
+ghost use Rattle.okws_outer.specs.Streams.{Rose};
+ghost use Rattle.store_keeper.specs.Alike.{AreAlike};
+ghost use Rattle.stored_site.specs.Depots.{HasFailed, with_starts};
+ghost use Rattle.stored_site.specs.Sites.{AllTell, AreOf, SitesAreAlike};
+
+use crate::giving::give_back;
+use okws_base::items::Items;
+use okws_outer::error::MakeError;
+use okws_outer::keeper::{Keeper, RunError};
+use okws_outer::stores::Stores;
+use okws_plan::configuration::{Config, ProxyPlan, Table};
+use std::alloc::Global;
+use store_keeper::StoredKeeper;
+use store_keeper::loading::read_tables;
+
+/// A site with the rows that its stores have, and the keepers of these rows.
+#[derive(Drop)]
+pub struct StoredSite<K: Keeper> {
+    /// The site; its tables begin with the rows that were read.
+    pub config: Config,
+    /// The keeper of each proxy's rows, by the proxies' numbers.
+    pub keepers: Vec<StoredKeeper<K>>,
+}
+
+/// The tables of a proxy with the rows that its store has, and the keeper of these rows.
+#[derive(Drop)]
+struct Opened<K: Keeper> {
+    tables: Vec<Table>,
+    keeper: StoredKeeper<K>,
+}
+
+// Why a store has no keeper beside it.
+fn refusal(error: RunError) -> MakeError
+    ensures { result ≡ MakeError.Failed → error ≡ RunError.Failed }
+{
+    match error {
+        RunError::Failed => MakeError::Failed,
+        RunError::NoMemory => MakeError::NoMemory,
+    }
+}
+
+// The rows of a new store, in memory beside it.
+fn beside<K: Keeper>(
+    alloc: Global,
+    mut store: K,
+    plan: &ProxyPlan,
+) -> Result<Opened<K>, (MakeError, K)>
+    requires sound { is_sound_plan plan.now ≡ true }
+    requires tables { K.tables store ≡ plan.now.tables }
+    requires new { IsNewKeeper plan.now.tables (K.told store) (K.faults store) }
+    ensures alike { IfOk result (λ o. AreAlike o.tables.items plan.now.tables) }
+    ensures same { IfOk result (λ o. IsSome (K.told store) → o.tables.items ≡ plan.now.tables) }
+    ensures tables { IfOk result (λ o. ⟦<StoredKeeper<K> as Keeper>⟧.tables o.keeper ≡ o.tables.items) }
+    ensures told { IfOk result (λ o. ⟦<StoredKeeper<K> as Keeper>⟧.told o.keeper ≡ Some (map (λ t. t.first) o.tables.items)) }
+    ensures failed { IfErr result (λ e. e.0 ≡ MakeError.Failed → Rose 0 (K.faults e.1)) }
+{
+    let tables = match read_tables(alloc, &mut store, plan.tables.as_slice()) {
+        Ok(tables) => tables,
+        Err(error) => return Err((refusal(error), store)),
+    };
+    match StoredKeeper::new(alloc, store, &tables, plan.queries.as_slice()) {
+        Ok(keeper) => Ok(Opened { tables, keeper }),
+        Err((_, store)) => Err((MakeError::NoMemory, store)),
+    }
+}
+
+// The rows of a proxy's store, in memory beside it. Where they could not be read the store is given back.
+fn open_proxy<S: Stores>(
+    alloc: Global,
+    stores: &mut S,
+    file: &str,
+    proxy: u16,
+    plan: &ProxyPlan,
+) -> Result<Opened<S::Keeper>, MakeError>
+    requires sound { is_sound_plan plan.now ≡ true }
+    ensures alike { IfOk result (λ o. AreAlike o.tables.items plan.now.tables) }
+    ensures same { IfOk result (λ o. AllTell S.Keeper.told → o.tables.items ≡ plan.now.tables) }
+    ensures tables { IfOk result (λ o. ⟦<StoredKeeper<S::Keeper> as Keeper>⟧.tables o.keeper ≡ o.tables.items) }
+    ensures told { IfOk result (λ o. ⟦<StoredKeeper<S::Keeper> as Keeper>⟧.told o.keeper ≡ Some (map (λ t. t.first) o.tables.items)) }
+    ensures made { IfOk result (λ _. S.depot stores.new ≡ with_made file.now proxy (S.depot stores.old)) }
+    ensures failed { IsErrOf result MakeError.Failed → HasFailed (S.depot stores.old) (S.depot stores.new) }
+    ensures spared { IsErrOf result MakeError.NoMemory → (S.depot stores.new).faults ≡ (S.depot stores.old).faults }
+{
+    let store = stores.make(alloc, file, proxy, plan.tables.as_slice())?;
+    match beside(alloc, store, plan) {
+        Ok(opened) => Ok(opened),
+        Err((why, store)) => {
+            stores.finish(proxy, store);
+            Err(why)
+        }
+    }
+}
+
+/// Makes the keepers of a site's rows over stores in a file, by the proxies' numbers. Where one can't be made,
+/// those that were are given back.
+pub fn open_site<S: Stores>(
+    alloc: Global,
+    stores: &mut S,
+    file: &str,
+    mut config: Config,
+) -> Result<StoredSite<S::Keeper>, MakeError>
+    requires { IsSound config }
+    ensures alike { IfOk result (λ s. SitesAreAlike s.config config) }
+    ensures same { IfOk result (λ s. AllTell S.Keeper.told → s.config ≡ config) }
+    ensures keepers { IfOk result (λ s. AreOf s.config.proxies (map ⟦<StoredKeeper<S::Keeper> as Keeper>⟧.tables s.keepers.items) (map ⟦<StoredKeeper<S::Keeper> as Keeper>⟧.told s.keepers.items)) }
+    ensures made { IfOk result (λ _. S.depot stores.new ≡ with_starts file.now (length config.proxies) (S.depot stores.old)) }
+    ensures failed { IsErrOf result MakeError.Failed → HasFailed (S.depot stores.old) (S.depot stores.new) }
+    ensures spared { IsErrOf result MakeError.NoMemory → (S.depot stores.new).faults ≡ (S.depot stores.old).faults }
+{
+    let mut plans = config.proxies.into_vec();
+    let count = plans.len();
+    let mut keepers = Vec::with_capacity(alloc, count)?;
+    for proxy in 0..count {
+        match open_proxy(alloc, stores, file, proxy as u16, &plans[proxy]) {
+            Ok(opened) => {
+                plans[proxy].tables = Items::of(opened.tables);
+                keepers.push_reserved(opened.keeper);
+            }
+            Err(why) => {
+                give_back(stores, keepers);
+                return Err(why);
+            }
+        }
+    }
+    config.proxies = Items::of(plans);
+    Ok(StoredSite { config, keepers })
+}

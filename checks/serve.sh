@@ -275,6 +275,50 @@ def words_and_files_are_judged_first():
     same(said('serve', 'good', '--port', '0', '--serve', '1')[1], 2)
     same(said('serve', 'none', '--port', '1', '--serve', '1'), ('read fault\n', 3))
     same(said('serve', 'bad', '--port', '1', '--serve', '1'), ('refused: config line 3 rule 11\n', 4))
+    same(said('serve', 'good', '--port', '1', '--serve', '1', '--audit', 'record')[1], 2)
+
+def rows_in_a_file_are_there_in_the_next_run():
+    for number, length in [(3, 12), (4, 17)]:
+        with Server(SITE % './svc_probe', 3, '--store', 'rows') as server:
+            shown = get(server.port)
+            same(shown.split(b'Content-Length: ')[1].split(b'\r')[0], b'%d' % length)
+            same(post(server.port, f'id={number}&who=cy&note=ho'), response('303 See Other', '', '/guest'))
+            same(post(server.port, f'id={number}&who=di&note=ho'), response('409 Conflict', 'taken\n'))
+            same(server.ends(), (counts(3, 3, 2, 0, 1), 0))
+    same(shown, response('200 OK', '1 ann\n2 bob\n3 cy\n'))
+
+def a_file_of_rows_is_one_servers():
+    with Server(SITE % './svc_probe', 3, '--store', 'shared') as server:
+        same(get(server.port), ANN_AND_BOB)
+        same(said('serve', 'site', '--port', str(a_port()), '--serve', '1', '--store', 'shared'), ('store fault\n', 6))
+        same(post(server.port, 'id=3&who=cy&note='), response('303 See Other', '', '/guest'))
+        same(get(server.port), response('200 OK', '1 ann\n2 bob\n3 cy\n'))
+        same(server.ends(), (counts(3, 3, 2, 0, 1), 0))
+
+def rows_of_other_columns_are_refused_and_kept():
+    with Server(SITE % './svc_probe', 1, '--store', 'columns') as server:
+        same(post(server.port, 'id=3&who=cy&note='), response('303 See Other', '', '/guest'))
+        same(server.ends(), (counts(1, 1, 2, 0, 1), 0))
+    for columns in ['id INT KEY who TEXT note BYTES', 'id INT who TEXT note TEXT', 'id INT KEY who TEXT']:
+        write('other', f'okws 1\nproxy main\ntable main msgs {columns}\n')
+        same(said('serve', 'other', '--port', str(a_port()), '--serve', '0', '--store', 'columns'), ('store fault\n', 6))
+    with Server(SITE % './svc_probe', 1, '--store', 'columns') as server:
+        same(get(server.port), response('200 OK', '1 ann\n2 bob\n3 cy\n'))
+        same(server.ends(), (counts(1, 1, 2, 0, 0), 0))
+
+def a_file_of_rows_that_cannot_be_opened_is_a_fault():
+    write('good', SITE % './svc_probe')
+    same(said('serve', 'good', '--port', str(a_port()), '--serve', '1', '--store', 'nowhere/rows'), ('store fault\n', 6))
+
+def rows_of_a_file_stay_where_a_port_is_taken():
+    with socket.socket() as taken:
+        taken.bind(('127.0.0.1', 0))
+        taken.listen()
+        write('good', SITE % './svc_probe')
+        same(said('serve', 'good', '--port', str(taken.getsockname()[1]), '--serve', '1', '--store', 'kept_rows'), ('net fault\n', 5))
+    with Server(SITE % './svc_probe', 1, '--store', 'kept_rows') as server:
+        same(get(server.port), ANN_AND_BOB)
+        same(server.ends(), (counts(1, 1, 2, 0, 0), 0))
 
 def two_hundred_clients_are_served_at_once():
     with Server(SITE % './svc_probe', 200, doors=8) as server:
@@ -319,6 +363,8 @@ CHECKS = [
     a_site_of_no_service_is_served, the_console_is_answered, a_published_page_reaches_a_running_service, a_refused_publication_is_dropped,
     a_bad_frame_is_a_bad_gateway_and_three_of_them_give_the_service_up, a_killed_child_is_launched_again, a_service_that_cannot_start_is_given_up,
     a_held_dialog_keeps_no_other_client_waiting, a_taken_port_is_a_fault_and_starts_no_child, words_and_files_are_judged_first,
+    rows_in_a_file_are_there_in_the_next_run, a_file_of_rows_is_one_servers, rows_of_other_columns_are_refused_and_kept,
+    a_file_of_rows_that_cannot_be_opened_is_a_fault, rows_of_a_file_stay_where_a_port_is_taken,
     two_hundred_clients_are_served_at_once, clients_that_reset_harm_no_other, a_run_ends_after_its_connections_and_leaves_no_child,
     a_port_is_free_at_once_after_a_run,
 ]

@@ -11,10 +11,10 @@ use okws_system::files::RealFiles;
 use okws_system::network::RealNetwork;
 use okws_system::output::Writing;
 use okws_system::sinks::RealSinks;
+use okws_system::stores::RealStores;
 use okws_system::system::random_seed;
 use okws_world::equipment::Objects;
 use okws_world::equipped::Fitted;
-use outer_memory::stores::{Breaking, MemoryStores};
 use std::alloc::Global;
 use std::io::Write;
 use std::process::ExitCode;
@@ -55,7 +55,7 @@ fn main(rt: HostRuntime) -> ExitCode {
         network: RealNetwork::new(&rt, alloc),
         children: RealChildren::new(&rt),
         console,
-        stores: MemoryStores::absent(Breaking),
+        stores: RealStores::new(&rt),
         sinks: RealSinks::new(&rt),
         gate: NoGate,
     };

@@ -1,0 +1,3 @@
+pub mod DatabaseCrosses
+pub mod FileCrosses
+pub mod SchemaCrosses

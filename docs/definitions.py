@@ -3,8 +3,8 @@
 contract of `okws` reaches and the others.
 
     docs/definitions.py            writes the file
-    docs/definitions.py --check    says whether the file is what would be written, whether a sentence is missing, and whether docs/MODEL.md quotes
-                                   a definition that doesn't stand so in specs/
+    docs/definitions.py --check    says whether the file is what would be written, whether a sentence is missing, and whether docs/MODEL.md or
+                                   docs/SERVER.md quotes a definition that doesn't stand so in specs/
 """
 import re
 import sys
@@ -116,12 +116,14 @@ def table(modules, chosen):
 
 
 def misquoted():
-    """Returns the quotations of docs/MODEL.md, each a block `antt CRATE/FILE`, that don't stand so in specs/."""
-    text = (ROOT / "docs" / "MODEL.md").read_text()
-    blocks = re.findall(r"^```antt (\w+)/(\w+)\n(.*?)^```$", text, re.M | re.S)
+    """Returns the quotations of docs/MODEL.md and docs/SERVER.md, each a block `antt CRATE/FILE`, that don't stand so in specs/."""
+    found = []
+    for page in ("MODEL.md", "SERVER.md"):
+        text = (ROOT / "docs" / page).read_text()
+        found += [(page, *it) for it in re.findall(r"^```antt (\w+)/(\w+)\n(.*?)^```$", text, re.M | re.S)]
     return [
-        f"docs/MODEL.md quotes {crate}/specs/{module}.antt, which has no such lines: {block.split(chr(10))[0]}"
-        for crate, module, block in blocks
+        f"docs/{page} quotes {crate}/specs/{module}.antt, which has no such lines: {block.split(chr(10))[0]}"
+        for page, crate, module, block in found
         if block not in (ROOT / "crates" / crate / "specs" / f"{module}.antt").read_text()
     ]
 
@@ -136,7 +138,7 @@ def main():
     out = [
         "# Definitions",
         "",
-        "Written by docs/definitions.py from the sentences above the definitions in the crates' specs/. MODEL.md is the text to read; this is the index to look",
+        "Written by docs/definitions.py from the sentences above the definitions in the crates' specs/. MODEL.md and SERVER.md are the texts to read; this is the index to look",
         f"things up in. The contract of `okws` reaches {inner} of {count} definitions: they are the first part, and nothing else has to be believed. The second part is what",
         "the proofs keep on the way.",
         "",

@@ -84,6 +84,7 @@ impl<'a, L: Link> Sending<'a, L> {
 impl<'a, L: Link> Taker for Sending<'a, L> {
     ghost took = { λ start text now. (now.link.ghost_name ≡ start.link.ghost_name) × Gathers (L.wire start.link.now) text now.sent now.gathered.items (L.wire now.link.now) };
 
+    #[inline(always)]
     fn take(&mut self, bytes: &[u8]) {
         if self.gathered.try_extend_from_slice(bytes).is_ok() {
             return;

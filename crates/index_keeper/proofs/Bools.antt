@@ -22,6 +22,15 @@ put_more now before e A later K l n b = n ∙ ap (λ (x : Bool). e || x) b ∙ j
 pub take_more : (now before e A later K : Bool) → later ≡ (A || e) → now ≡ cond e false before → before ≡ (not A && K) → now ≡ (not later && K)
 take_more now before e A later K l n b = n ∙ ap (λ (x : Bool). cond e false x) b ∙ cut e A K ∙ ap (λ (x : Bool). not x && K) (sym l)
 
+-- What isn't taken out.
+pub without : (e K : Bool) → cond e false K ≡ (not e && K)
+without true K = refl
+without false K = refl
+
+-- What is taken out by parts, of what was left.
+pub taken_more : (now before e A later K : Bool) → later ≡ (A || e) → now ≡ (not e && before) → before ≡ (not A && K) → now ≡ (not later && K)
+taken_more now before e A later K l n b = take_more now before e A later K l (n ∙ sym (without e before)) b
+
 -- What was put in is taken out again, where it was not there before.
 pub undone : (now mid before A K : Bool) → now ≡ (not A && mid) → mid ≡ before → before ≡ (A || K) → (A ≡ true → K ≡ false) → now ≡ K
 undone now mid before true K n m b fresh = n ∙ sym (fresh refl)

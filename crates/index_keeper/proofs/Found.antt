@@ -209,7 +209,7 @@ and_true true = refl
 and_true false = refl
 
 -- What the leading condition compares with stands in each row that meets it, and in no other.
-leading_holds : (columns : List ℕ) (args : List Value) (conditions : List Condition) (c : Condition) (row : List Value) → leading columns conditions ≡ Some c → meets args c row ≡ is_value (operand args c.operand) (Some (at_column row c.column))
+pub leading_holds : (columns : List ℕ) (args : List Value) (conditions : List Condition) (c : Condition) (row : List Value) → leading columns conditions ≡ Some c → meets args c row ≡ is_value (operand args c.operand) (Some (at_column row c.column))
 leading_holds columns args conditions c row h =
     equality_passes c.comparison (value_cmp (at_column row c.column) (operand args c.operand))
     (both_left (is_equality c.comparison) (is_indexed columns c.column) (find_passes (λ (d : Condition). is_equality d.comparison && is_indexed columns d.column) conditions c h))
@@ -260,6 +260,14 @@ candidates_are columns rows slots args conditions c index up rise h =
 pub met_leading : (columns : List ℕ) (args : List Value) (conditions : List Condition) (c : Condition) → leading columns conditions ≡ Some c → (row : List Value) → meets_all args conditions row ≡ true → is_value (operand args c.operand) (Some (at_column row c.column)) ≡ true
 met_leading columns args conditions c h row met =
     sym (leading_holds columns args conditions c row h) ∙ find_met (λ (d : Condition). is_equality d.comparison && is_indexed columns d.column) (λ (d : Condition). meets args d row) conditions c h met
+
+-- Where there is but one condition, the leading one is this.
+pub sole_leading : (columns : List ℕ) (d c : Condition) → leading columns (d ∷ []) ≡ Some c → d ≡ c
+sole_leading columns d c h = by (is_equality d.comparison && is_indexed columns d.column) refl h
+  where
+    by : (b : Bool) → (is_equality d.comparison && is_indexed columns d.column) ≡ b → leading columns (d ∷ []) ≡ Some c → d ≡ c
+    by true is led = let first : leading columns (d ∷ []) ≡ Some d = rw is refl in cc
+    by false is led = let none : leading columns (d ∷ []) ≡ None = rw is refl in let never : ⊥ = cc in absurd never
 
 -- Those of the candidates that meet all conditions are the places of all rows that do.
 pub found_by : (columns : List ℕ) (rows : List (ℕ × List Value)) (slots : BTreeSet Slot) (args : List Value) (conditions : List Condition) (c : Condition) → IsIndex columns rows slots → IsStrictlySortedBy nat_cmp (keys_of rows) → sorted.IsOrdered slot_cmp slots → leading columns conditions ≡ Some c

@@ -9,3 +9,4 @@ pub mod Pins
 pub mod Scanned
 pub mod Unstable
 mod Hits
+mod Sole

@@ -25,7 +25,7 @@ equal_of Less e = let never : ⊥ = cc in absurd never
 equal_of Equal e = refl
 equal_of Greater e = let never : ⊥ = cc in absurd never
 
-nat_same : (a b : ℕ) → (a == b) ≡ true → a ≡ b
+pub nat_same : (a b : ℕ) → (a == b) ≡ true → a ≡ b
 nat_same a b h = exact_unsigned a b (equal_of (nat_cmp a b) (unsigned_tied a b ∙ h))
 
 shuffled : (v d p : Bool) → ((v && d) && p) ≡ ((d && p) && v)
@@ -248,6 +248,34 @@ fresh columns at (ch ∷ L) q h = by (comes_with columns (at ch.place) ch q) (ch
     by true false is here e rest = let none : comes_with columns (at ch.place) ch q ≡ false = none_comes columns (at ch.place) ch q here in let never : ⊥ = cc in absurd never
     by false t is here e rest = rest (sym (ap (λ (b : Bool). b || list_any (λ (d : Change). comes_with columns (at d.place) d q) L) is) ∙ e)
 
+-- ---- one change alone
+
+-- After one change the slots are those that are due.
+pub exact_one : (columns : List ℕ) (at : ℕ → Option (List Value)) (ch : Change) (q : Slot)
+    → (not (goes_with columns (at ch.place) ch q) && (comes_with columns (at ch.place) ch q || due columns (at q.place) q)) ≡ due columns (after_change q.place (at q.place) ch) q
+exact_one columns at ch q = by (ch.place == q.place) refl
+  where
+    by : (b : Bool) → (ch.place == q.place) ≡ b → (not (goes_with columns (at ch.place) ch q) && (comes_with columns (at ch.place) ch q || due columns (at q.place) q)) ≡ due columns (after_change q.place (at q.place) ch) q
+    by true is =
+        let here : ch.place ≡ q.place = nat_same ch.place q.place is in
+        ap (λ (p : ℕ). not (goes_with columns (at p) ch q) && (comes_with columns (at p) ch q || due columns (at q.place) q)) here
+        ∙ single columns (at q.place) ch q here
+        ∙ sym (ap (λ (b : Bool). due columns (if b then merged (at q.place) ch.row else at q.place) q) is)
+    by false is =
+        ap (λ (b : Bool). not b && (comes_with columns (at ch.place) ch q || due columns (at q.place) q)) (none_goes columns (at ch.place) ch q is)
+        ∙ ap (λ (b : Bool). b || due columns (at q.place) q) (none_comes columns (at ch.place) ch q is)
+        ∙ sym (ap (λ (b : Bool). due columns (if b then merged (at q.place) ch.row else at q.place) q) is)
+
+-- A slot that comes with it is not due before.
+pub fresh_one : (columns : List ℕ) (at : ℕ → Option (List Value)) (ch : Change) (q : Slot) → comes_with columns (at ch.place) ch q ≡ true → due columns (at q.place) q ≡ false
+fresh_one columns at ch q h = by (ch.place == q.place) refl
+  where
+    by : (b : Bool) → (ch.place == q.place) ≡ b → due columns (at q.place) q ≡ false
+    by true is =
+        let here : ch.place ≡ q.place = nat_same ch.place q.place is in
+        fresh_here columns (at q.place) ch q here (sym (ap (λ (p : ℕ). comes_with columns (at p) ch q) here) ∙ h)
+    by false is = let none : comes_with columns (at ch.place) ch q ≡ false = none_comes columns (at ch.place) ch q is in let never : ⊥ = cc in absurd never
+
 -- ---- a new row
 
 nobody_due : (columns : List ℕ) (o : Option (List Value)) (q : Slot) → o ≡ None → due columns o q ≡ false
@@ -282,3 +310,45 @@ exact_new columns at p row q free = by (p == q.place) refl
     by false is =
         ap (λ (b : Bool). b || due columns (at q.place) q) (comes_new columns p row q false is)
         ∙ sym (ap (λ (b : Bool). due columns (cond b (Some row) (at q.place)) q) (unsigned_tied p q.place ∙ is))
+
+-- ---- a row less
+
+left_out : (b : Bool) → (not b && b) ≡ false
+left_out true = refl
+left_out false = refl
+
+-- Without a row the slots are those that are due.
+pub exact_gone : (columns : List ℕ) (at : ℕ → Option (List Value)) (p : ℕ) (row : List Value) (q : Slot) → at p ≡ Some row
+    → (not (comes columns p None (Some row) q) && due columns (at q.place) q) ≡ due columns (if p == q.place then merged (at q.place) None else at q.place) q
+exact_gone columns at p row q stood = by (p == q.place) refl
+  where
+    by : (b : Bool) → (p == q.place) ≡ b → (not (comes columns p None (Some row) q) && due columns (at q.place) q) ≡ due columns (if p == q.place then merged (at q.place) None else at q.place) q
+    by true is =
+        let here : at q.place ≡ Some row = ap at (sym (nat_same p q.place is)) ∙ stood in
+        ap (λ (b : Bool). not b && due columns (at q.place) q) (comes_new columns p row q true is)
+        ∙ ap (λ (o : Option (List Value)). not (due columns (Some row) q) && due columns o q) here
+        ∙ left_out (due columns (Some row) q)
+        ∙ sym (nothing_at (is_indexed columns q.column))
+        ∙ sym (ap (λ (o : Option (List Value)). due columns (merged o None) q) here)
+        ∙ sym (ap (λ (b : Bool). due columns (if b then merged (at q.place) None else at q.place) q) is)
+    by false is =
+        ap (λ (b : Bool). not b && due columns (at q.place) q) (comes_new columns p row q false is)
+        ∙ sym (ap (λ (b : Bool). due columns (if b then merged (at q.place) None else at q.place) q) is)
+
+-- Where no row stood nothing changes.
+pub nobody_gone : (at : ℕ → Option (List Value)) (p k : ℕ) → at p ≡ None → at k ≡ (if p == k then merged (at k) None else at k)
+nobody_gone at p k none = by (p == k) refl
+  where
+    by : (b : Bool) → (p == k) ≡ b → at k ≡ (if p == k then merged (at k) None else at k)
+    by true is =
+        let here : at k ≡ None = ap at (sym (nat_same p k is)) ∙ none in
+        here ∙ sym (ap (λ (o : Option (List Value)). merged o None) here) ∙ sym (ap (λ (b : Bool). if b then merged (at k) None else at k) is)
+    by false is = sym (ap (λ (b : Bool). if b then merged (at k) None else at k) is)
+
+-- After one change no row stands where none stood.
+pub none_after : (p : ℕ) (o : Option (List Value)) (ch : Change) → o ≡ None → after_change p o ch ≡ None
+none_after p o ch none = ap (λ (w : Option (List Value)). after_change p w ch) none ∙ by (ch.place == p)
+  where
+    by : (b : Bool) → (if b then merged None ch.row else None) ≡ None
+    by true = refl
+    by false = refl

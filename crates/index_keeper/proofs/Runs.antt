@@ -1,6 +1,6 @@
 -- The slots of a value stand next to each other.
 use Rattle.std.proofs.Common.{◌≡◌, ◌∙◌, ℕ, zero, suc, Bool, true, false, List, [], ◌∷◌, length, get_or, take, refl, ap, sym, subst, arith, ◌+◌, ◌<◌}
-use Rattle.std.specs.Prelude.{filter, ◌||◌, ◌&&◌}
+use Rattle.std.specs.Prelude.{filter, map, not, ◌==◌, ◌||◌, ◌&&◌}
 use Rattle.std.specs.List.{take_while, list_any, AllByRecursion}
 use Rattle.std.specs.List.Sorted.{IsStrictlySortedBy}
 use Rattle.std.specs.Cmp.{IsTotalOrder, alike_right, nat_cmp_total, on_total, then_total}
@@ -14,7 +14,7 @@ use Rattle.std.proofs.lemmas.List.Folds.{list_any_more}
 use Rattle.std.proofs.lemmas.Map.Keys.{sorted_head, sorted_tail}
 use Rattle.okws_base.specs.Value.{value_cmp}
 use Rattle.okws_base.specs.declared.value.Value.{Value}
-use Rattle.index_keeper.specs.Slots.{slot_cmp, is_of}
+use Rattle.index_keeper.specs.Slots.{slot_cmp, is_of, any_first}
 use Rattle.index_keeper.specs.Order.{values_total}
 use Rattle.index_keeper.specs.declared.slot.Slot.{Slot}
 
@@ -93,3 +93,19 @@ pub group_at : (c : ℕ) (x v : Value) (ks : List Slot) → x ≡ v → IsStrict
 group_at c x v ks same up =
     let first : Slot = record { column = c; value = x; place = 0 } in
     subst (λ (w : Value). take_while (is_of c w) (filter (range_contains slot_cmp (Included first) Unbounded) ks) ≡ filter (is_of c w) ks) same (group_first first ks refl up)
+
+some_counted : (n : ℕ) → not (suc n == 0) ≡ true
+some_counted n = grind arith
+
+-- There is a first slot that passes a test where any are taken while they pass it.
+pub first_counts : (test : Slot → Bool) (ks : List Slot) → any_first test ks ≡ not (length (map (λ (s : Slot). s.place) (take_while test ks)) == 0)
+first_counts test [] = refl
+first_counts test (k ∷ ks) = by (test k) refl
+  where
+    by : (b : Bool) → test k ≡ b → test k ≡ not (length (map (λ (s : Slot). s.place) (take_while test (k ∷ ks))) == 0)
+    by true is =
+        let taken : take_while test (k ∷ ks) ≡ k ∷ take_while test ks = take_while-cons test k ks ∙ rw is refl in
+        is ∙ sym (ap (λ (list : List Slot). not (length (map (λ (s : Slot). s.place) list) == 0)) taken ∙ some_counted (length (map (λ (s : Slot). s.place) (take_while test ks))))
+    by false is =
+        let none : take_while test (k ∷ ks) ≡ [] = take_while-cons test k ks ∙ rw is refl in
+        is ∙ sym (ap (λ (list : List Slot). not (length (map (λ (s : Slot). s.place) list) == 0)) none)

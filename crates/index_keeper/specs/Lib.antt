@@ -1,4 +1,5 @@
 pub mod Slots
+pub mod Few
 pub mod Order
 pub mod Places
 pub mod Hits

@@ -65,6 +65,12 @@ is_equality comparison.AtLeast = false
 abbrev pub leading : List ℕ → List Condition → Option Condition
 leading columns conditions = find (λ (c : Condition). is_equality c.comparison && is_indexed columns c.column) conditions
 
+-- The conditions that are left to test on rows that were looked up: none where there is but one.
+abbrev pub left_of : List Condition → List Condition
+left_of [] = []
+left_of (c ∷ []) = []
+left_of (c ∷ d ∷ conditions) = c ∷ d ∷ conditions
+
 -- How many rows are tested: those that meet the condition by which rows are looked up, or all where there is none.
 abbrev pub tests_by : Option Condition → List Value → List (List Value) → ℕ
 tests_by None args rows = length rows

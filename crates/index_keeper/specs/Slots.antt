@@ -1,5 +1,5 @@
 -- The slots of an index, and their order.
-use Rattle.std.specs.Prelude.{ℕ, Bool, List, map, filter}
+use Rattle.std.specs.Prelude.{ℕ, Bool, false, List, [], ◌∷◌, map, filter}
 use Rattle.std.specs.List.{list_any}
 use Rattle.std.specs.Ordering.{nat_cmp, ordering_then, is_eq}
 use Rattle.std.specs.declared.cmp.Ordering.{Ordering}
@@ -18,6 +18,11 @@ has_slot slots q = list_any (λ (s : Slot). is_eq (slot_cmp s q)) slots
 -- A slot is of this column and this value.
 abbrev pub is_of : ℕ → Value → Slot → Bool
 is_of c v s = is_eq (ordering_then (value_cmp v s.value) (nat_cmp c s.column))
+
+-- There is a first slot, and it passes a test.
+abbrev pub any_first : (Slot → Bool) → List Slot → Bool
+any_first test [] = false
+any_first test (s ∷ slots) = test s
 
 -- The places in the slots of a column that have this value, in their order.
 abbrev pub places_in : ℕ → Value → List Slot → List ℕ

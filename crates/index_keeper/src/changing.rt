@@ -10,9 +10,12 @@ ghost use Rattle.okws_plan.specs.Meaning.{nothing};
 ghost use Rattle.placed_rows.specs.Places.{row_at};
 ghost use Rattle.index_keeper.specs.Slots.{has_slot};
 ghost use Rattle.index_keeper.specs.Places.{cell, is_value, IsIndex};
-ghost use Rattle.index_keeper.specs.Changes.{same_cell, stands, arrives, departs, comes, goes, comes_with, goes_with, changed};
+ghost use Rattle.index_keeper.specs.Changes.{same_cell, stands, arrives, departs, comes, goes, comes_with, goes_with, changed, after_change};
+ghost use Rattle.index_keeper.specs.Few.{listed};
 ghost use Rattle.index_keeper.specs.declared.slot.Slot.{Slot};
 
+use crate::cells::{put_row, take_row};
+use crate::few::Few;
 use crate::finding::at;
 use crate::slot::Slot;
 use crate::slots::{put_all, take_all};
@@ -37,6 +40,7 @@ pub struct Moves {
     pub going: Vec<Slot>,
 }
 
+#[inline(always)]
 fn same_cells(a: Option<&Value>, b: Option<&Value>) -> bool
     ensures { result ≡ same_cell (option_copied a.entry) (option_copied b.entry) }
 {
@@ -49,6 +53,7 @@ fn same_cells(a: Option<&Value>, b: Option<&Value>) -> bool
     }
 }
 
+#[inline(always)]
 fn cell_of<'a>(row: Option<&'a Row>, column: u8, other: &'a Value) -> Option<&'a Value>
     requires { other.now ≡ nothing }
     ensures { option_copied result ≡ cell column (option_copied row.entry) }
@@ -90,6 +95,7 @@ impl Moves {
         }
     }
 
+    #[inline(always)]
     fn note_cell(
         &mut self,
         alloc: Global,
@@ -110,6 +116,7 @@ impl Moves {
 
     /// Notes the slots that come and go where the row at a place changes; `other` stands for a
     /// column that isn't there.
+    #[inline(always)]
     pub fn note(
         &mut self,
         alloc: Global,
@@ -132,6 +139,7 @@ impl Moves {
     }
 
     // Notes what a change brings, where there is a row to change.
+    #[inline(always)]
     fn note_change(
         &mut self,
         alloc: Global,
@@ -175,7 +183,106 @@ fn moves_of(
 
 /// Makes the changes, in the rows and in their slots, or none of them where memory is refused. No
 /// two are at one place.
+#[inline(always)]
 pub fn apply(
+    alloc: Global,
+    columns: &[u8],
+    rows: &mut PlacedRows,
+    slots: &mut BTreeSet<Slot>,
+    changes: Few<Change>,
+) -> Result<(), AllocError>
+    requires index { IsIndex columns.now rows.old.entries slots.old }
+    requires apart { IsStrictlySortedBy nat_cmp (map (λ ch. ch.place) (listed changes)) }
+    ensures index { IsIndex columns.now rows.new.entries slots.new }
+    ensures ok { OnOk result ((p : ℕ) → row_at rows.new.entries p ≡ changed (listed changes) (row_at rows.old.entries p) p) }
+    ensures err { OnErr result (rows.new ≡ rows.old) }
+    ensures none { (p : ℕ) → row_at rows.old.entries p ≡ None → row_at rows.new.entries p ≡ None }
+    ensures rising { IsStrictlySortedBy nat_cmp (keys_of rows.old.entries) → IsStrictlySortedBy nat_cmp (keys_of rows.new.entries) }
+    ensures next { rows.new.next ≡ rows.old.next }
+{
+    match changes {
+        Few::Sole(None) => Ok(()),
+        Few::Sole(Some(change)) => apply_sole(alloc, columns, rows, slots, change),
+        Few::Many(changes) => apply_all(alloc, columns, rows, slots, changes),
+    }
+}
+
+// Makes one change, or none where memory is refused.
+#[inline(always)]
+fn apply_sole(
+    alloc: Global,
+    columns: &[u8],
+    rows: &mut PlacedRows,
+    slots: &mut BTreeSet<Slot>,
+    change: Change,
+) -> Result<(), AllocError>
+    requires index { IsIndex columns.now rows.old.entries slots.old }
+    ensures index { IsIndex columns.now rows.new.entries slots.new }
+    ensures ok { OnOk result ((p : ℕ) → row_at rows.new.entries p ≡ after_change p (row_at rows.old.entries p) change) }
+    ensures err { OnErr result (rows.new ≡ rows.old) }
+    ensures none { (p : ℕ) → row_at rows.old.entries p ≡ None → row_at rows.new.entries p ≡ None }
+    ensures rising { IsStrictlySortedBy nat_cmp (keys_of rows.old.entries) → IsStrictlySortedBy nat_cmp (keys_of rows.new.entries) }
+    ensures next { rows.new.next ≡ rows.old.next }
+{
+    let Change { place, row } = change;
+    match row {
+        None => {
+            remove(columns, rows, slots, place);
+            Ok(())
+        }
+        Some(row) => {
+            let row = Some(row);
+            replace(alloc, columns, rows, slots, Change { place, row })
+        }
+    }
+}
+
+// Takes the row of a place away, and its slots.
+#[inline(always)]
+fn remove(columns: &[u8], rows: &mut PlacedRows, slots: &mut BTreeSet<Slot>, place: u64)
+    requires index { IsIndex columns.now rows.old.entries slots.old }
+    ensures index { IsIndex columns.now rows.new.entries slots.new }
+    ensures rows { (p : ℕ) → row_at rows.new.entries p ≡ after_change p (row_at rows.old.entries p) (record { place = place; row = None }) }
+    ensures none { (p : ℕ) → row_at rows.old.entries p ≡ None → row_at rows.new.entries p ≡ None }
+    ensures rising { IsStrictlySortedBy nat_cmp (keys_of rows.old.entries) → IsStrictlySortedBy nat_cmp (keys_of rows.new.entries) }
+    ensures next { rows.new.next ≡ rows.old.next }
+{
+    match rows.put(place, None) {
+        None => {}
+        Some(row) => take_row(slots, columns, place, row),
+    }
+    rows.tidy();
+}
+
+// Makes one change.
+#[inline(always)]
+fn replace(
+    alloc: Global,
+    columns: &[u8],
+    rows: &mut PlacedRows,
+    slots: &mut BTreeSet<Slot>,
+    change: Change,
+) -> Result<(), AllocError>
+    requires index { IsIndex columns.now rows.old.entries slots.old }
+    ensures index { IsIndex columns.now rows.new.entries slots.new }
+    ensures ok { OnOk result ((p : ℕ) → row_at rows.new.entries p ≡ after_change p (row_at rows.old.entries p) change) }
+    ensures err { OnErr result (rows.new ≡ rows.old) }
+    ensures none { (p : ℕ) → row_at rows.old.entries p ≡ None → row_at rows.new.entries p ≡ None }
+    ensures rising { IsStrictlySortedBy nat_cmp (keys_of rows.old.entries) → IsStrictlySortedBy nat_cmp (keys_of rows.new.entries) }
+    ensures next { rows.new.next ≡ rows.old.next }
+{
+    let other = Value::Int(0);
+    let mut moves = Moves::none(alloc);
+    let old = rows.get(change.place);
+    moves.note_change(alloc, columns, old, &change, &other)?;
+    put_all(alloc, slots, &moves.coming)?;
+    take_all(slots, &moves.going);
+    let Change { place, row } = change;
+    rows.put(place, row);
+    Ok(())
+}
+
+fn apply_all(
     alloc: Global,
     columns: &[u8],
     rows: &mut PlacedRows,
@@ -217,17 +324,15 @@ pub fn append(
     ensures free { OnOk result ((p : ℕ) → rows.new.next ≤ p → row_at rows.new.entries p ≡ None) }
 {
     let place = rows.next();
-    let other = Value::Int(0);
-    let mut moves = Moves::none(alloc);
-    moves.note(alloc, columns, place, (None, Some(&row)), &other)?;
-    put_all(alloc, slots, &moves.coming)?;
-    if let Err(refused) = rows.push(row) {
-        take_all(slots, &moves.coming);
-        return Err(refused);
+    let row = put_row(alloc, slots, columns, place, row)?;
+    if let Err(row) = rows.push(row) {
+        take_row(slots, columns, place, row);
+        return Err(AllocError);
     }
     Ok(())
 }
 
+#[inline(always)]
 fn carry_out(rows: &mut PlacedRows, changes: Vec<Change>)
     ensures rows { (p : ℕ) → row_at rows.new.entries p ≡ changed changes.items (row_at rows.old.entries p) p }
     ensures rising { IsStrictlySortedBy nat_cmp (keys_of rows.old.entries) → IsStrictlySortedBy nat_cmp (keys_of rows.new.entries) }

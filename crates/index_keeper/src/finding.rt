@@ -7,9 +7,11 @@ ghost use Rattle.okws_plan.specs.Meaning.{meets_all, operand, nothing};
 ghost use Rattle.placed_rows.specs.Places.{row_at};
 ghost use Rattle.placed_rows.specs.Stands.{standing};
 ghost use Rattle.index_keeper.specs.Slots.{slot_cmp, places_in};
-ghost use Rattle.index_keeper.specs.Places.{leading, passes_at, is_indexed, is_equality};
-ghost use Rattle.index_keeper.specs.Hits.{entries_of, entries_at, passing};
+ghost use Rattle.index_keeper.specs.Places.{leading, left_of, passes_at, is_indexed, is_equality};
+ghost use Rattle.index_keeper.specs.Few.{if_any, listed};
+ghost use Rattle.index_keeper.specs.Hits.{entries_of, entry_at, entries_at, passing};
 
+use crate::few::Few;
 use crate::slot::Slot;
 use crate::slots::places_at;
 use crate::steps::Steps;
@@ -28,6 +30,7 @@ pub struct Hit<'a> {
     pub row: &'a Row,
 }
 
+#[inline(always)]
 fn leads(columns: &[u8], condition: &Condition) -> bool
     ensures { result ≡ (is_equality condition.now.comparison && is_indexed columns.now condition.now.column) }
 {
@@ -43,8 +46,21 @@ pub fn leading_of<'a>(columns: &[u8], conditions: &'a [Condition]) -> Option<&'a
         .find(|condition| leads(columns, condition))
 }
 
-// The value of an operand; `other` stands for an argument that isn't there.
-fn value_of<'a>(args: &'a [Value], given: &'a Operand, other: &'a Value) -> &'a Value
+/// The conditions that are left to test on rows that were looked up: none where there is but one.
+#[inline(always)]
+pub fn left_of(conditions: &[Condition]) -> &[Condition]
+    ensures { result.now ≡ left_of conditions.now }
+{
+    if conditions.len() == 1 {
+        &[]
+    } else {
+        conditions
+    }
+}
+
+/// The value of an operand; `other` stands for an argument that isn't there.
+#[inline(always)]
+pub fn value_of<'a>(args: &'a [Value], given: &'a Operand, other: &'a Value) -> &'a Value
     requires { other.now ≡ nothing }
     ensures { result.now ≡ operand args.now given.now }
 {
@@ -55,6 +71,7 @@ fn value_of<'a>(args: &'a [Value], given: &'a Operand, other: &'a Value) -> &'a 
 }
 
 /// The value at a place, or `other` where there is none.
+#[inline(always)]
 pub fn at<'a>(values: &'a [Value], place: usize, other: &'a Value) -> &'a Value
     ensures { result.now ≡ slice_index_or values.now place other.now }
 {
@@ -66,13 +83,14 @@ pub fn at<'a>(values: &'a [Value], place: usize, other: &'a Value) -> &'a Value
 }
 
 /// The places in the slots that have what the condition compares with in its column, ascending.
+#[inline(always)]
 pub fn candidates(
     alloc: Global,
     args: &[Value],
     condition: &Condition,
     slots: &BTreeSet<Slot>,
-) -> Result<Vec<u64>, AllocError>
-    ensures places { IfOk result (λ v. v.items ≡ places_in condition.now.column (operand args.now condition.now.operand) slots.now.keys) }
+) -> Result<Few<u64>, AllocError>
+    ensures places { IfOk result (λ v. listed v ≡ places_in condition.now.column (operand args.now condition.now.operand) slots.now.keys) }
     ensures ordered { OnOk result (IsOrdered slot_cmp slots.now) }
 {
     let other = Value::Int(0);
@@ -109,7 +127,49 @@ pub fn scanned<'a, L: Ledger>(
 }
 
 /// The rows at those of the places where they meet the conditions; only the rows at the places are tested.
-pub fn met_among<'a, L: Ledger>(
+#[inline(always)]
+pub fn met_at<'a, L: Ledger>(
+    alloc: Global,
+    args: &[Value],
+    conditions: &[Condition],
+    rows: &'a PlacedRows,
+    places: Few<u64>,
+    steps: &mut Steps<L>,
+) -> Result<Few<Hit<'a>>, AllocError>
+    ensures entries { IfOk result (λ v. entries_of (listed v) ≡ entries_at (meets_all args.now conditions.now) (λ (p : ℕ). row_at rows.now.entries p) (listed places)) }
+    ensures tested { OnOk result (steps.new ≡ steps.old + length (listed places)) }
+    ensures most { steps.new ≤ steps.old + length (listed places) }
+{
+    match places {
+        Few::Sole(None) => Ok(Few::Sole(None)),
+        Few::Sole(Some(place)) => {
+            steps.tick();
+            Ok(Few::Sole(hit_at(args, conditions, rows, place)))
+        }
+        Few::Many(places) => {
+            let hits = met_among(alloc, args, conditions, rows, &places, steps)?;
+            Ok(Few::Many(hits))
+        }
+    }
+}
+
+// The row at a place, if there is one and it meets the conditions.
+#[inline(always)]
+fn hit_at<'a>(
+    args: &[Value],
+    conditions: &[Condition],
+    rows: &'a PlacedRows,
+    place: u64,
+) -> Option<Hit<'a>>
+    ensures { entries_of (if_any result) ≡ if_any (entry_at (meets_all args.now conditions.now) place (row_at rows.now.entries place)) }
+{
+    match row_met(args, conditions, rows.get(place)) {
+        None => None,
+        Some(row) => Some(Hit { place, row }),
+    }
+}
+
+fn met_among<'a, L: Ledger>(
     alloc: Global,
     args: &[Value],
     conditions: &[Condition],
@@ -133,6 +193,7 @@ pub fn met_among<'a, L: Ledger>(
 }
 
 // The row, if there is one and it meets the conditions.
+#[inline(always)]
 fn row_met<'a>(args: &[Value], conditions: &[Condition], row: Option<&'a Row>) -> Option<&'a Row>
     ensures { option_copied result ≡ passing (meets_all args.now conditions.now) (option_copied row.entry) }
 {

@@ -4,9 +4,11 @@
 #![tactic(auto)]
 
 mod answering;
+mod cells;
 mod changing;
 mod declared;
 mod editing;
+mod few;
 mod finding;
 mod keeper;
 mod pinning;

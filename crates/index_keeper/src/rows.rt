@@ -1,6 +1,6 @@
 //! The rows of one table, with an index.
 
-ghost use Rattle.std.specs.Prelude.{◌≡◌, ◌+◌, ◌≤◌, ◌++◌, ◌∷◌, [], ◌==◌, true, ℕ, IfOk, OnOk, OnErr, length, map, filter, not, Some, None};
+ghost use Rattle.std.specs.Prelude.{◌≡◌, ◌+◌, ◌≤◌, ◌++◌, ◌∷◌, [], ◌==◌, true, ℕ, IfOk, IfSome, OnOk, OnErr, length, map, filter, false, if◌then◌else◌, option_map, slice_set, Some, None};
 ghost use Rattle.std.specs.List.{list_any, filter_map, find};
 ghost use Rattle.std.specs.List.Sorted.{IsStrictlySortedBy};
 ghost use Rattle.std.specs.Ordering.{nat_cmp};
@@ -10,6 +10,7 @@ ghost use Rattle.okws_plan.specs.Meaning.{nothing, mean_on, meets_all, at_column
 ghost use Rattle.okws_plan.specs.Meaning.{hits, misses, updated, assigned, inserted, row_of};
 ghost use Rattle.placed_rows.specs.Places.{row_at};
 ghost use Rattle.placed_rows.specs.Stands.{standing};
+ghost use Rattle.index_keeper.specs.Few.{listed};
 ghost use Rattle.index_keeper.specs.Places.{places_where, passes_at, rows_of, tests, is_indexed};
 ghost use Rattle.index_keeper.specs.Pinning.{AreTested};
 ghost use Rattle.index_keeper.specs.Changes.{row_or, changed, changes_to};
@@ -18,16 +19,16 @@ ghost use Rattle.index_keeper.specs.Hits.{entries_of};
 use crate::answering::answer;
 use crate::changing::{Change, append, apply};
 use crate::declared::key_column;
-use crate::editing::{removals, replacements};
-use crate::finding::{Hit, at, candidates, leading_of, meets_at, met_among, scanned};
+use crate::editing::{operand_of, removals, replacements, row_made, sole_setting};
+use crate::few::Few;
+use crate::finding::{Hit, at, candidates, leading_of, left_of, meets_at, met_at, scanned};
 use crate::scanning::{all_places, any_has};
 use crate::slot::Slot;
-use crate::slots::places_at;
+use crate::slots::has_at;
 use crate::steps::Steps;
 use okws_base::items::{Exact, copies};
 use okws_base::value::{Row, Value};
 use okws_plan::configuration::Column;
-use okws_plan::meaning::new_row;
 use okws_plan::statement::{Action, Answer, Assignment, Condition, Operand, Selection};
 use placed_rows::{PlacedRows, Stand};
 use std::alloc::{AllocError, Global};
@@ -68,28 +69,31 @@ impl TableRows {
         ensures most { steps.new ≤ steps.old + tests self.now.columns args.now conditions.now (rows_of self.now.entries) }
     {
         let found = self.found(alloc, args, conditions, steps)?;
-        places_of(alloc, &found)
+        let hits = found.into_vec(alloc)?;
+        places_of(alloc, &hits)
     }
 
     // The rows that meet the conditions, at their places, ascending. A step is counted for each row
     // that is tested.
+    #[inline(always)]
     fn found<'a, L: Ledger>(
         &'a self,
         alloc: Global,
         args: &[Value],
         conditions: &[Condition],
         steps: &mut Steps<L>,
-    ) -> Result<Vec<Hit<'a>>, AllocError>
-        ensures entries { IfOk result (λ v. entries_of v.items ≡ filter (λ e. meets_all args.now conditions.now e.1) self.now.entries) }
+    ) -> Result<Few<Hit<'a>>, AllocError>
+        ensures entries { IfOk result (λ v. entries_of (listed v) ≡ filter (λ e. meets_all args.now conditions.now e.1) self.now.entries) }
         ensures tested { OnOk result (steps.new ≡ steps.old + tests self.now.columns args.now conditions.now (rows_of self.now.entries)) }
         ensures most { steps.new ≤ steps.old + tests self.now.columns args.now conditions.now (rows_of self.now.entries) }
         ensures rise { IsStrictlySortedBy nat_cmp (keys_of self.now.entries) }
     {
         let Some(condition) = leading_of(&self.columns, conditions) else {
-            return scanned(alloc, args, conditions, self.rows.stands(), steps);
+            let all = scanned(alloc, args, conditions, self.rows.stands(), steps)?;
+            return Ok(Few::Many(all));
         };
         let places = candidates(alloc, args, condition, &self.slots)?;
-        met_among(alloc, args, conditions, &self.rows, &places, steps)
+        met_at(alloc, args, left_of(conditions), &self.rows, places, steps)
     }
 
     /// The places of the rows that are tested for these conditions: those that the leading one leads to,
@@ -107,7 +111,8 @@ impl TableRows {
             return Ok(all);
         };
         let some = candidates(alloc, args, condition, &self.slots)?;
-        Ok(some)
+        let places = some.into_vec(alloc)?;
+        Ok(places)
     }
 
     /// Whether there is a row at the place, and it meets the conditions.
@@ -216,6 +221,7 @@ impl TableRows {
         answer(alloc, selection, found)
     }
 
+    #[inline(always)]
     fn insert(
         &mut self,
         alloc: Global,
@@ -227,7 +233,7 @@ impl TableRows {
         ensures ok { IfOk result (λ answer. (answer, rows_of self.new.entries) ≡ inserted (is_taken columns.now (rows_of self.old.entries) (row_of args.now values.now)) (rows_of self.old.entries) (row_of args.now values.now)) }
         ensures err { OnErr result (self.new ≡ self.old) }
     {
-        let new = new_row(alloc, args, values)?;
+        let new = row_made(alloc, args, values)?;
         if self.is_taken(alloc, columns, new.as_slice())? {
             return Ok(Answer::Duplicate);
         }
@@ -235,6 +241,7 @@ impl TableRows {
         Ok(Answer::Changed(1))
     }
 
+    #[inline(always)]
     fn update<L: Ledger>(
         &mut self,
         alloc: Global,
@@ -248,12 +255,20 @@ impl TableRows {
         ensures rows { OnOk result (rows_of self.new.entries ≡ updated args.now assignments.now conditions.now (rows_of self.old.entries)) }
         ensures err { OnErr result (self.new ≡ self.old) }
     {
-        let changes = self.replacements(alloc, args, assignments, conditions, steps)?;
-        let count = count_of(&changes);
+        let found = self.found(alloc, args, conditions, steps)?;
+        if let Some((place, assignment)) = self.sole_setting(assignments, &found) {
+            let value = operand_of(alloc, args, &assignment.operand)?;
+            drop(found);
+            self.set(place, assignment.column, value);
+            return Ok(Answer::Changed(1));
+        }
+        let changes = replacements(alloc, args, assignments, found)?;
+        let count = changes.len() as u64;
         self.change(alloc, changes)?;
         Ok(Answer::Changed(count))
     }
 
+    #[inline(always)]
     fn delete<L: Ledger>(
         &mut self,
         alloc: Global,
@@ -267,12 +282,13 @@ impl TableRows {
         ensures err { OnErr result (self.new ≡ self.old) }
     {
         let changes = self.removals(alloc, args, conditions, steps)?;
-        let count = count_of(&changes);
+        let count = changes.len() as u64;
         self.change(alloc, changes)?;
         Ok(Answer::Changed(count))
     }
 
     // Whether the KEY value of the new row is in a row already.
+    #[inline(always)]
     fn is_taken(&self, alloc: Global, columns: &[Column], new: &[Value]) -> Result<bool, AllocError>
         ensures { IfOk result (λ b. b ≡ is_taken columns.now (rows_of self.now.entries) new.now) }
     {
@@ -283,6 +299,7 @@ impl TableRows {
     }
 
     // Whether a row has the value of another one in this column.
+    #[inline(always)]
     fn has_value(&self, alloc: Global, column: usize, new: &[Value]) -> Result<bool, AllocError>
         ensures { IfOk result (λ b. b ≡ list_any (λ row. value_eq (at_column row column) (at_column new.now column)) (rows_of self.now.entries)) }
     {
@@ -295,51 +312,63 @@ impl TableRows {
     }
 
     // Whether a row has the value in a column that has an index.
+    #[inline(always)]
     fn has_indexed(&self, alloc: Global, own: u8, value: &Value) -> Result<bool, AllocError>
         requires { is_indexed self.now.columns own ≡ true }
         ensures { IfOk result (λ b. b ≡ list_any (λ row. value_eq (at_column row own) value.now) (rows_of self.now.entries)) }
     {
-        let places = places_at(alloc, &self.slots, own, value)?;
-        let some = has_any(&places);
-        Ok(some)
-    }
-
-    // What is to stand at the places of the hits once the assignments are made.
-    fn replacements<L: Ledger>(
-        &self,
-        alloc: Global,
-        args: &[Value],
-        assignments: &[Assignment],
-        conditions: &[Condition],
-        steps: &mut Steps<L>,
-    ) -> Result<Vec<Change>, AllocError>
-        ensures changes { IfOk result (λ v. v.items ≡ changes_to (λ row. Some (assigned args.now assignments.now row)) (filter (λ e. meets_all args.now conditions.now e.1) self.now.entries)) }
-        ensures rise { IsStrictlySortedBy nat_cmp (keys_of self.now.entries) }
-    {
-        let found = self.found(alloc, args, conditions, steps)?;
-        replacements(alloc, args, assignments, &found)
+        let has = has_at(alloc, &self.slots, own, value)?;
+        Ok(has)
     }
 
     // No row at the places of the hits.
+    #[inline(always)]
     fn removals<L: Ledger>(
         &self,
         alloc: Global,
         args: &[Value],
         conditions: &[Condition],
         steps: &mut Steps<L>,
-    ) -> Result<Vec<Change>, AllocError>
-        ensures changes { IfOk result (λ v. v.items ≡ changes_to (λ _. None) (filter (λ e. meets_all args.now conditions.now e.1) self.now.entries)) }
+    ) -> Result<Few<Change>, AllocError>
+        ensures changes { IfOk result (λ v. listed v ≡ changes_to (λ _. None) (filter (λ e. meets_all args.now conditions.now e.1) self.now.entries)) }
         ensures rise { IsStrictlySortedBy nat_cmp (keys_of self.now.entries) }
     {
         let found = self.found(alloc, args, conditions, steps)?;
-        removals(alloc, &found)
+        removals(alloc, found)
+    }
+
+    // The place of the only hit, and the only assignment, where it is to a column without an index.
+    #[inline(always)]
+    fn sole_setting<'a>(
+        &self,
+        assignments: &'a [Assignment],
+        found: &Few<Hit>,
+    ) -> Option<(u64, &'a Assignment)>
+        ensures hit { IfSome result (λ x. map (λ h. h.place) (listed found.now) ≡ x.0 ∷ []) }
+        ensures assignment { IfSome result (λ x. assignments.now ≡ x.1.now ∷ []) }
+        ensures plain { IfSome result (λ x. is_indexed self.now.columns x.1.now.column ≡ false) }
+    {
+        sole_setting(&self.columns, assignments, found)
+    }
+
+    // Sets a value in the row at a place; the column has no index.
+    #[inline(always)]
+    fn set(&mut self, place: u64, column: u8, value: Value)
+        requires { is_indexed self.old.columns column ≡ false }
+        ensures columns { self.new.columns ≡ self.old.columns }
+        ensures rows { (p : ℕ) → row_at self.new.entries p ≡ (if place == p then option_map (λ row. slice_set row column value) (row_at self.old.entries p) else row_at self.old.entries p) }
+        ensures rose { IsStrictlySortedBy nat_cmp (keys_of self.old.entries) }
+        ensures rises { IsStrictlySortedBy nat_cmp (keys_of self.new.entries) }
+    {
+        self.rows.set(place, column as usize, value);
     }
 
     // Makes the changes, or none of them where memory is refused.
-    fn change(&mut self, alloc: Global, changes: Vec<Change>) -> Result<(), AllocError>
-        requires { IsStrictlySortedBy nat_cmp (map (λ ch. ch.place) changes.items) }
+    #[inline(always)]
+    fn change(&mut self, alloc: Global, changes: Few<Change>) -> Result<(), AllocError>
+        requires { IsStrictlySortedBy nat_cmp (map (λ ch. ch.place) (listed changes)) }
         ensures columns { self.new.columns ≡ self.old.columns }
-        ensures rows { OnOk result ((p : ℕ) → row_at self.new.entries p ≡ changed changes.items (row_at self.old.entries p) p) }
+        ensures rows { OnOk result ((p : ℕ) → row_at self.new.entries p ≡ changed (listed changes) (row_at self.old.entries p) p) }
         ensures rose { IsStrictlySortedBy nat_cmp (keys_of self.old.entries) }
         ensures rises { IsStrictlySortedBy nat_cmp (keys_of self.new.entries) }
         ensures err { OnErr result (self.new ≡ self.old) }
@@ -358,18 +387,6 @@ fn places_of(alloc: Global, hits: &[Hit]) -> Result<Vec<u64>, AllocError>
     ensures { IfOk result (λ v. v.items ≡ map (λ h. h.place) hits.now) }
 {
     hits.iter().map(|hit| hit.place).collect(alloc)
-}
-
-fn has_any(places: &[u64]) -> bool
-    ensures { result ≡ not (length places.now == 0) }
-{
-    !places.is_empty()
-}
-
-fn count_of(changes: &[Change]) -> u64
-    ensures { result ≡ length changes.now }
-{
-    changes.len() as u64
 }
 
 // The number of a column, where it has an index.

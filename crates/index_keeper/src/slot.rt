@@ -1,6 +1,7 @@
 //! The slots of an index.
 
 ghost use Rattle.std.specs.Prelude.{◌≡◌, IfOk};
+ghost use Rattle.okws_base.specs.Value.{value_cmp};
 ghost use Rattle.index_keeper.specs.Slots.{is_of};
 
 use okws_base::items::Exact;
@@ -16,12 +17,27 @@ pub struct Slot {
     pub place: u64,
 }
 
+// How two values are ordered; two INTs are told apart first.
+#[inline(always)]
+fn ordered(a: &Value, b: &Value) -> Ordering
+    ensures { result ≡ value_cmp a.now b.now }
+{
+    match a {
+        Value::Int(x) => match b {
+            Value::Int(y) => x.cmp(y),
+            _ => a.compare(b),
+        },
+        _ => a.compare(b),
+    }
+}
+
 impl Slot {
     /// Whether the slot is of this column and this value.
+    #[inline(always)]
     pub fn is_of(&self, column: u8, value: &Value) -> bool
         ensures { result ≡ is_of column value.now self.now }
     {
-        value.compare(&self.value) == Ordering::Equal && column == self.column
+        ordered(value, &self.value) == Ordering::Equal && column == self.column
     }
 }
 
@@ -48,8 +64,9 @@ impl Ord for Slot {
 
     ghost matches_eq = { λ _ _. refl };
 
+    #[inline(always)]
     fn cmp(&self, other: &Slot) -> Ordering {
-        match self.value.compare(&other.value) {
+        match ordered(&self.value, &other.value) {
             Ordering::Equal => match self.column.cmp(&other.column) {
                 Ordering::Equal => self.place.cmp(&other.place),
                 by_column => by_column,

@@ -270,6 +270,34 @@ put_at stands i p q new row d up low at same is = by (p == q) refl
         rw h (subst (λ (n : ℕ). row_at (standing (set stands i new)) n ≡ merged (row_at (standing stands) n) row) (same_place p q h) (now ∙ sym was))
     by false h = rw h (elsewhere stands i p q new d at same (other_place p q h))
 
+changed_where : (f : List Value → List Value) (o : Option (List Value)) → merged o (option_map f o) ≡ option_map f o
+changed_where f None = refl
+changed_where f (Some row) = refl
+
+-- What stands at a place once the row there was changed, if one stood.
+pub set_at : (stands : List Stand) (i p q : ℕ) (new : Stand) (f : List Value → List Value) (d : Stand) → IsStrictlySortedBy nat_cmp (places_of stands) → i < length stands → (get_or stands i d).place ≡ p → new.place ≡ p → new.row ≡ option_map f (get_or stands i d).row
+    → row_at (standing (set stands i new)) q ≡ (if p == q then option_map f (row_at (standing stands) q) else row_at (standing stands) q)
+set_at stands i p q new f d up low at same is =
+    let o : Option (List Value) = (get_or stands i d).row in
+    put_at stands i p q new (option_map f o) d up low at same (is ∙ sym (changed_where f o)) ∙ by (p == q) refl
+  where
+    by : (b : Bool) → (p == q) ≡ b
+        → (if p == q then merged (row_at (standing stands) q) (option_map f (get_or stands i d).row) else row_at (standing stands) q) ≡ (if p == q then option_map f (row_at (standing stands) q) else row_at (standing stands) q)
+    by true h =
+        let here : row_at (standing stands) q ≡ (get_or stands i d).row = ap (row_at (standing stands)) (sym (same_place p q h)) ∙ stood stands i p d up low at in
+        rw h (ap (λ (o : Option (List Value)). merged (row_at (standing stands) q) (option_map f o)) (sym here) ∙ changed_where f (row_at (standing stands) q))
+    by false h = rw h refl
+
+-- At a place of no stand nothing is changed.
+pub set_nobody : (at : ℕ → Option (List Value)) (p q : ℕ) (f : List Value → List Value) → at p ≡ None → at q ≡ (if p == q then option_map f (at q) else at q)
+set_nobody at p q f none = by (p == q) refl
+  where
+    by : (b : Bool) → (p == q) ≡ b → at q ≡ (if p == q then option_map f (at q) else at q)
+    by true h =
+        let here : at q ≡ None = ap at (sym (same_place p q h)) ∙ none in
+        rw h (here ∙ sym (ap (λ (o : Option (List Value)). option_map f o) here))
+    by false h = rw h refl
+
 -- ---- empty stands
 
 -- The rows that stand are those of the stands that have one.

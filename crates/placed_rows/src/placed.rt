@@ -1,6 +1,6 @@
 //! Rows at their places, in the order of these.
 
-ghost use Rattle.std.specs.Prelude.{◌≡◌, ◌+◌, ◌≤◌, ◌<◌, ℕ, [], ◌∷◌, ◌++◌, cond, if◌then◌else◌, ◌==◌, length, map, true, Some, None, OnOk, OnErr, IfSome, IfNone};
+ghost use Rattle.std.specs.Prelude.{◌≡◌, ◌+◌, ◌≤◌, ◌<◌, ℕ, [], ◌∷◌, ◌++◌, cond, if◌then◌else◌, ◌==◌, length, map, true, Some, None, option_map, slice_set, OnOk, OnErr, IfErr, IfSome, IfNone, IsSome};
 ghost use Rattle.std.specs.Option.{option_copied};
 ghost use Rattle.std.specs.List.{HoldsAt};
 ghost use Rattle.std.specs.List.Sorted.{IsStrictlySortedBy};
@@ -9,9 +9,11 @@ ghost use Rattle.std.specs.Ordering.{nat_cmp, is_eq};
 ghost use Rattle.placed_rows.specs.Places.{row_at, merged};
 ghost use Rattle.placed_rows.specs.Stands.{standing};
 
-use okws_base::value::Row;
-use std::alloc::{AllocError, Global};
+use okws_base::items::Items;
+use okws_base::value::{Row, Value};
+use std::alloc::Global;
 use std::marker::Model;
+use std::mem;
 
 /// A place, and the row that stands there, if it wasn't taken away.
 #[derive(Drop)]
@@ -76,33 +78,53 @@ impl PlacedRows {
         }
     }
 
-    /// Puts a row behind the others, or leaves them as they were where memory is refused.
-    pub fn push(&mut self, row: Row) -> Result<(), AllocError>
+    /// Puts a row behind the others; where memory is refused, it gives the row back, and the others
+    /// are as they were.
+    pub fn push(&mut self, row: Row) -> Result<(), Row>
         ensures entries { OnOk result (self.new.entries ≡ self.old.entries ++ (self.old.next, row) ∷ []) }
         ensures rows { OnOk result ((p : ℕ) → row_at self.new.entries p ≡ cond (is_eq (nat_cmp self.old.next p)) (Some row) (row_at self.old.entries p)) }
         ensures rising { IsStrictlySortedBy nat_cmp (keys_of self.new.entries) }
         ensures free { (p : ℕ) → self.new.next ≤ p → row_at self.new.entries p ≡ None }
+        ensures back { IfErr result (λ given. given ≡ row) }
         ensures err { OnErr result (self.new ≡ self.old) }
     {
         let place = self.next;
         let Some(next) = place.checked_add(1) else {
-            return Err(AllocError);
+            return Err(row);
         };
         let row = Some(row);
-        self.stands.push(Stand { place, row })?;
+        if let Err(refused) = self.stands.push(Stand { place, row }) {
+            return Err(row_in(refused.value));
+        }
         self.next = next;
         Ok(())
     }
 
-    /// Puts another row, or none, where one stands.
-    pub fn put(&mut self, place: u64, row: Option<Row>)
+    /// Puts another row, or none, where one stands, and gives that one.
+    pub fn put(&mut self, place: u64, row: Option<Row>) -> Option<Row>
+        ensures before { result ≡ row_at self.old.entries place }
         ensures rows { (p : ℕ) → row_at self.new.entries p ≡ (if place == p then merged (row_at self.old.entries p) row else row_at self.old.entries p) }
         ensures rising { IsStrictlySortedBy nat_cmp (keys_of self.new.entries) }
         ensures next { self.new.next ≡ self.old.next }
     {
-        if let Some(i) = stand_of(&self.stands, place) {
-            self.empty = self.empty.saturating_add(emptied(&row));
-            put_on(&mut self.stands[i], row);
+        match stand_of(&self.stands, place) {
+            None => None,
+            Some(i) => {
+                self.empty = self.empty.saturating_add(emptied(&row));
+                put_on(&mut self.stands[i], row)
+            }
+        }
+    }
+
+    /// Sets a value in the row that stands at a place, where there is one that has the column.
+    pub fn set(&mut self, place: u64, column: usize, value: Value)
+        ensures rows { (p : ℕ) → row_at self.new.entries p ≡ (if place == p then option_map (λ row. slice_set row column value) (row_at self.old.entries p) else row_at self.old.entries p) }
+        ensures rising { IsStrictlySortedBy nat_cmp (keys_of self.new.entries) }
+        ensures next { self.new.next ≡ self.old.next }
+    {
+        match stand_of(&self.stands, place) {
+            None => {}
+            Some(i) => set_on(&mut self.stands[i], column, value),
         }
     }
 
@@ -125,14 +147,48 @@ fn emptied(row: &Option<Row>) -> usize {
     }
 }
 
-// Puts another row, or none, on a stand that has one.
-fn put_on(stand: &mut Stand, row: Option<Row>)
+// The row of a stand that has one.
+fn row_in(stand: Stand) -> Row
+    requires { IsSome stand.row }
+    ensures { Some result ≡ stand.row }
+{
+    match stand.row {
+        None => unreachable!(),
+        Some(row) => row,
+    }
+}
+
+// Puts another row, or none, on a stand that has one, and gives that one.
+fn put_on(stand: &mut Stand, row: Option<Row>) -> Option<Row>
+    ensures before { result ≡ stand.old.row }
     ensures place { stand.new.place ≡ stand.old.place }
     ensures row { stand.new.row ≡ merged stand.old.row row }
 {
     if stand.row.is_some() {
-        stand.row = row;
+        mem::replace(&mut stand.row, row)
+    } else {
+        None
     }
+}
+
+// Sets a value in the row of a stand, if it has one.
+fn set_on(stand: &mut Stand, column: usize, value: Value)
+    ensures place { stand.new.place ≡ stand.old.place }
+    ensures row { stand.new.row ≡ option_map (λ row. slice_set row column value) stand.old.row }
+{
+    if let Some(row) = mem::replace(&mut stand.row, None) {
+        stand.row = Some(with_value(row, column, value));
+    }
+}
+
+fn with_value(row: Row, column: usize, value: Value) -> Row
+    ensures { result ≡ slice_set row column value }
+{
+    let mut values = row.into_vec();
+    if column < values.len() {
+        values[column] = value;
+    }
+    Items::of(values)
 }
 
 fn place_at(stands: &[Stand], i: usize, place: u64) -> bool

@@ -20,8 +20,8 @@ pub returns-clause-answer : goal.returns-clause-answer
 returns-clause-answer g c =
     let test : List Value → Bool = λ (row : List Value). meets_all c.args.args.now c.args.conditions.now row in
     ap Changed
-    (c.count_of-count.ensures
-    ∙ ap length (c.deref.ensures.value ∙ c.in_ok-changes.ensures.changes)
+    (c.len-count.ensures
+    ∙ ap length c.in_ok-changes.ensures.changes
     ∙ count_listed (λ _. None) test c.args.self.now.entries)
 
 pub returns-clause-rows : goal.returns-clause-rows

@@ -13,7 +13,7 @@ returns c =
     let holds : List Value → Bool = λ (row : List Value). is_value c.args.value.now (Some (at_column row c.args.own)) in
     let has : is_indexed c.self.inside.columns.items c.args.own ≡ true = subst (λ (t : Indexed). is_indexed t.columns c.args.own ≡ true) (sym c.self.view_is) c.requires in
     rw (← c.self.view_is)
-    (c.has_any-some.ensures
-    ∙ ap (λ (ps : List ℕ). not (length ps == 0)) (c.deref.ensures.value ∙ c.in_ok-places.ensures.places ∙ listed c.self.inside.columns.items c.self.inside.rows.entries c.self.inside.slots c.args.own c.args.value.now c.self.invariant.index c.self.invariant.rising c.in_ok-places.ensures.ordered has)
+    (c.in_ok-has.ensures.some
+    ∙ ap (λ (ps : List ℕ). not (length ps == 0)) (listed c.self.inside.columns.items c.self.inside.rows.entries c.self.inside.slots c.args.own c.args.value.now c.self.invariant.index c.self.invariant.rising c.in_ok-has.ensures.ordered has)
     ∙ any_rows holds c.self.inside.rows.entries
     ∙ any_alike holds (λ (row : List Value). value_eq (at_column row c.args.own) c.args.value.now) (rows_of c.self.inside.rows.entries) (λ (row : List Value). value_eq_is (at_column row c.args.own) c.args.value.now))

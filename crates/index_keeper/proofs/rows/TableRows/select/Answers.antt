@@ -4,6 +4,7 @@ use Rattle.okws_plan.specs.Meaning.{meets_all, hits, cut_all, limited, ordered}
 use Rattle.okws_plan.specs.declared.statement.Answer.{Answer}
 use Rattle.okws_plan.specs.declared.statement.Answer.TheVariants.{Rows}
 use Rattle.okws_plan.specs.declared.statement.Condition.{Condition}
+use Rattle.index_keeper.specs.Few.{listed}
 use Rattle.index_keeper.specs.Places.{rows_of}
 use Rattle.index_keeper.specs.Hits.{lent}
 use Rattle.index_keeper.proofs.Found.{rows_where}
@@ -12,8 +13,8 @@ use Rattle.index_keeper.proofs.rows.TableRows.select.Goals as goal
 
 pub returns : goal.returns
 returns g c =
-    let found : lent c.in_ok-found.found.items ≡ hits c.args.args.now c.args.selection.now.conditions (rows_of c.args.self.now.entries) =
-    lent_are c.in_ok-found.found.items
+    let found : lent (listed c.in_ok-found.found) ≡ hits c.args.args.now c.args.selection.now.conditions (rows_of c.args.self.now.entries) =
+    lent_are (listed c.in_ok-found.found)
     ∙ ap rows_of c.in_ok-found.ensures.entries
     ∙ rows_where (meets_all c.args.args.now c.as_slice.result.now) c.args.self.now.entries
     ∙ ap (λ (conditions : List Condition). hits c.args.args.now conditions (rows_of c.args.self.now.entries)) c.as_slice.ensures in

@@ -27,6 +27,6 @@ returns c =
     rw (← c.self.view_is) (record {
       rising = c.self.invariant.rising;
       met =
-          ap (filter (λ (p : ℕ). passes_at test (row_at rows p))) c.in_ok-some.ensures.places
+          ap (filter (λ (p : ℕ). passes_at test (row_at rows p))) (c.in_ok-places.ensures ∙ c.in_ok-some.ensures.places)
           ∙ found_by c.self.inside.columns.items rows c.self.inside.slots c.args.args.now c.args.conditions.now c.in-Some.condition.now c.self.invariant.index c.self.invariant.rising c.in_ok-some.ensures.ordered led;
     })

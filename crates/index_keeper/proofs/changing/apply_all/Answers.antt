@@ -10,7 +10,7 @@ use Rattle.index_keeper.specs.declared.slot.Slot.{Slot}
 use Rattle.index_keeper.specs.declared.changing.Change.{Change}
 use Rattle.index_keeper.proofs.Moved.{exact_after, fresh, due}
 use Rattle.index_keeper.proofs.Entries.{changed_none}
-use Rattle.index_keeper.proofs.changing.apply.Goals as goal
+use Rattle.index_keeper.proofs.changing.apply_all.Goals as goal
 
 pub put_all-requires : goal.put_all-requires
 put_all-requires c = record {

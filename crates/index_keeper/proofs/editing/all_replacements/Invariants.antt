@@ -3,7 +3,7 @@ use Rattle.okws_base.specs.declared.value.Value.{Value}
 use Rattle.okws_plan.specs.Meaning.{assigned}
 use Rattle.index_keeper.specs.Changes.{changes_to}
 use Rattle.index_keeper.specs.Hits.{entries_of}
-use Rattle.index_keeper.proofs.editing.replacements.Given as goal
+use Rattle.index_keeper.proofs.editing.all_replacements.Given as goal
 
 abbrev pub invariant-loop-hit : goal.invariant-loop-hit
 invariant-loop-hit l = l.changes.items ≡ changes_to (λ (row : List Value). Some (assigned l.args l.assignments row)) (entries_of (take l.hit-index l.hits))

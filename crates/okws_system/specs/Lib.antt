@@ -1,1 +1,2 @@
 pub mod Entrances
+pub mod Filed

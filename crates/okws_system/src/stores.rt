@@ -1,7 +1,10 @@
 //! Stores of rows in files of SQLite, one for each proxy.
 
-ghost use Rattle.std.specs.Prelude.{◌≡◌, None, false, [], ◌++◌, IfOk, codes, decimal, string_bytes};
+ghost use Rattle.std.specs.Prelude.{◌≡◌, [], ◌++◌, IfOk, codes, decimal, string_bytes};
+ghost use Rattle.sqlite.specs.State.{HasCleanDisk};
+ghost use Rattle.sqlite.specs.Files.{file_state, IsOpened};
 ghost use Rattle.okws_outer.specs.Depots.{IsNewKeeper};
+ghost use Rattle.okws_system.specs.Filed.{IsFiled};
 
 use crate::trying::count;
 use okws_base::told::{Says, Told};
@@ -23,16 +26,48 @@ pub struct FileKeeper {
     keeper: SqliteKeeper<FileStore<File>>,
 }
 
+impl FileKeeper {
+    ghost use Rattle.std.specs.Prelude.{◌≡◌, ◌⊎◌, IfOk, IfErr};
+    ghost use Rattle.sqlite.specs.State.{HasCleanDisk};
+    ghost use Rattle.sqlite.specs.Files.{file_state, over_files};
+    ghost use Rattle.sqlite_keeper.specs.Asking.{KeepsRows};
+    ghost use Rattle.sqlite_keeper.specs.Making.{IsMade, IsUnmade};
+
+    /// A keeper for these tables over the database of a file, which comes back with an error.
+    fn new(
+        alloc: Global,
+        conn: Connection<FileStore<File>>,
+        tables: &[Table],
+    ) -> Result<FileKeeper, (MakeError, Connection<FileStore<File>>)>
+        ensures tables { IfOk result (λ k. k.keeper.tables.items ≡ tables.now) }
+        ensures faults { IfOk result (λ k. k.keeper.faults ≡ 0) }
+        ensures made { IfOk result (λ k. HasCleanDisk (file_state k.keeper.conn) → IsMade over_files tables.now conn k.keeper.conn) }
+        ensures unmade { IfErr result (λ e. HasCleanDisk (file_state e.1) → ((e.0 ≡ MakeError.NoMemory) × (e.1 ≡ conn)) ⊎ IsUnmade over_files tables.now conn e.1 e.0) }
+        ensures kept { IfErr result (λ e. HasCleanDisk (file_state e.1) → KeepsRows (file_state conn) (file_state e.1)) }
+    {
+        match SqliteKeeper::new(alloc, conn, tables) {
+            Ok(keeper) => Ok(FileKeeper { keeper }),
+            Err(refused) => Err(refused),
+        }
+    }
+}
+
 impl Keeper for FileKeeper {
     type Pin = Listed;
 
-    ghost use Rattle.std.specs.Prelude.{None, false};
+    ghost use Rattle.std.specs.Prelude.{◌≡◌, None, Ok, Err, false, true, IfOk, IfErr, IsErrOf};
+    ghost use Rattle.sqlite.specs.State.{HasCleanDisk};
+    ghost use Rattle.sqlite.specs.Files.{file_state, over_files};
+    ghost use Rattle.okws_outer.specs.Streams.{Counts};
+    ghost use Rattle.okws_outer.specs.Keeping.{Runs, Pins, is_select};
+    ghost use Rattle.sqlite_keeper.specs.Asking.{RunsAs};
+    ghost use Rattle.sqlite_keeper.specs.Pinning.{pinned_answer, untold};
 
-    ghost tables = { λ k. ⟦<SqliteKeeper<FileStore<File>> as Keeper>⟧.tables k.keeper };
+    ghost tables = { λ k. k.keeper.tables.items };
 
-    ghost told = { λ _. None };
+    ghost told = { λ _. untold };
 
-    ghost faults = { λ k. ⟦<SqliteKeeper<FileStore<File>> as Keeper>⟧.faults k.keeper };
+    ghost faults = { λ k. k.keeper.faults };
 
     ghost steady = { λ _. false };
 
@@ -41,7 +76,15 @@ impl Keeper for FileKeeper {
         alloc: Global,
         statement: &Statement,
         args: &[Value],
-    ) -> Result<Answer, RunError> {
+    ) -> Result<Answer, RunError>
+        ensures rows { Runs self.old.keeper.tables.items statement.now args.now untold untold result }
+        ensures tables { self.new.keeper.tables.items ≡ self.old.keeper.tables.items }
+        ensures faults { Counts self.old.keeper.faults self.new.keeper.faults (IsErrOf result RunError.Failed) }
+        ensures spared { IsErrOf result RunError.NoMemory → self.new.keeper.faults ≡ self.old.keeper.faults }
+        ensures sure { false ≡ true → IsErrOf result RunError.Failed → ⊥ }
+        ensures steady { false ≡ false }
+        ensures handed { HasCleanDisk (file_state self.new.keeper.conn) → RunsAs over_files self.old.keeper.tables.items statement.now args.now self.old.keeper.conn self.new.keeper.conn result }
+    {
         self.keeper.run(alloc, statement, args)
     }
 
@@ -50,7 +93,18 @@ impl Keeper for FileKeeper {
         alloc: Global,
         statement: &Statement,
         args: &[Value],
-    ) -> Result<Listed, RunError> {
+    ) -> Result<Listed, RunError>
+        requires select { is_select statement.now.action ≡ true }
+        ensures answer { IfOk result (λ p. Pins self.old.keeper.tables.items statement.now args.now untold (pinned_answer p)) }
+        ensures told { untold ≡ untold }
+        ensures tables { self.new.keeper.tables.items ≡ self.old.keeper.tables.items }
+        ensures faults { Counts self.old.keeper.faults self.new.keeper.faults (IsErrOf result RunError.Failed) }
+        ensures spared { IsErrOf result RunError.NoMemory → self.new.keeper.faults ≡ self.old.keeper.faults }
+        ensures sure { false ≡ true → IsErrOf result RunError.Failed → ⊥ }
+        ensures steady { false ≡ false }
+        ensures pinned { HasCleanDisk (file_state self.new.keeper.conn) → IfOk result (λ p. RunsAs over_files self.old.keeper.tables.items statement.now args.now self.old.keeper.conn self.new.keeper.conn (Ok (pinned_answer p))) }
+        ensures unpinned { HasCleanDisk (file_state self.new.keeper.conn) → IfErr result (λ why. RunsAs over_files self.old.keeper.tables.items statement.now args.now self.old.keeper.conn self.new.keeper.conn (Err why)) }
+    {
         self.keeper.pin(alloc, statement, args)
     }
 }
@@ -63,7 +117,9 @@ fn file_of(alloc: Global, file: &str, proxy: u16) -> Result<String, AllocError>
 }
 
 /// The database of a file, which is made where it is not there.
-fn open(rt: &HostRuntime, name: &str) -> Result<Connection<FileStore<File>>, MakeError> {
+fn open(rt: &HostRuntime, name: &str) -> Result<Connection<FileStore<File>>, MakeError>
+    ensures { IfOk result (λ c. HasCleanDisk (file_state c) → IsOpened c) }
+{
     match Connection::open(rt, name) {
         Ok(conn) => Ok(conn),
         Err(Error::SqliteFailure(ErrorCode::OutOfMemory)) => Err(MakeError::NoMemory),
@@ -80,9 +136,10 @@ fn keeper_over(
 ) -> Result<FileKeeper, MakeError>
     ensures tables { IfOk result (λ k. ⟦<FileKeeper as Keeper>⟧.tables k ≡ tables.now) }
     ensures keeper { IfOk result (λ k. IsNewKeeper tables.now (⟦<FileKeeper as Keeper>⟧.told k) (⟦<FileKeeper as Keeper>⟧.faults k)) }
+    ensures filed { IfOk result (λ k. IsFiled tables.now k.keeper.conn) }
 {
-    match SqliteKeeper::new(alloc, open(rt, name)?, tables) {
-        Ok(keeper) => Ok(FileKeeper { keeper }),
+    match FileKeeper::new(alloc, open(rt, name)?, tables) {
+        Ok(keeper) => Ok(keeper),
         Err((why, _)) => Err(why),
     }
 }
@@ -152,6 +209,7 @@ impl<'r> RealStores<'r> {
     ) -> Result<FileKeeper, MakeError>
         ensures tables { IfOk result (λ k. ⟦<FileKeeper as Keeper>⟧.tables k ≡ tables.now) }
         ensures keeper { IfOk result (λ k. IsNewKeeper tables.now (⟦<FileKeeper as Keeper>⟧.told k) (⟦<FileKeeper as Keeper>⟧.faults k)) }
+        ensures filed { IfOk result (λ k. IsFiled tables.now k.keeper.conn) }
     {
         let name = file_of(alloc, file, proxy)?;
         keeper_over(self.rt, alloc, &name, tables)
@@ -161,6 +219,11 @@ impl<'r> RealStores<'r> {
 impl<'r> Stores for RealStores<'r> {
     type Keeper = FileKeeper;
 
+    ghost use Rattle.std.specs.Prelude.{◌≡◌, IfOk, OnErr};
+    ghost use Rattle.okws_outer.specs.Depots.{IsNewKeeper, with_made};
+    ghost use Rattle.okws_outer.specs.Making.{CountsMade};
+    ghost use Rattle.okws_system.specs.Filed.{IsFiled};
+
     ghost depot = { λ s. record { made = s.made.past; finished = s.finished.past; faults = s.faults } };
 
     fn make(
@@ -169,7 +232,14 @@ impl<'r> Stores for RealStores<'r> {
         file: &str,
         proxy: u16,
         tables: &[Table],
-    ) -> Result<FileKeeper, MakeError> {
+    ) -> Result<FileKeeper, MakeError>
+        ensures tables { IfOk result (λ k. ⟦<FileKeeper as Keeper>⟧.tables k ≡ tables.now) }
+        ensures keeper { IfOk result (λ k. IsNewKeeper tables.now (⟦<FileKeeper as Keeper>⟧.told k) (⟦<FileKeeper as Keeper>⟧.faults k)) }
+        ensures made { IfOk result (λ k. ⟦<RealStores<'r> as Stores>⟧.depot self.new ≡ with_made file.now proxy (⟦<RealStores<'r> as Stores>⟧.depot self.old)) }
+        ensures refused { OnErr result (⟦<RealStores<'r> as Stores>⟧.depot self.new ≡ record (⟦<RealStores<'r> as Stores>⟧.depot self.old) { faults = (⟦<RealStores<'r> as Stores>⟧.depot self.new).faults }) }
+        ensures faults { CountsMade (⟦<RealStores<'r> as Stores>⟧.depot self.old).faults (⟦<RealStores<'r> as Stores>⟧.depot self.new).faults result }
+        ensures filed { IfOk result (λ k. IsFiled tables.now k.keeper.conn) }
+    {
         let made = self.keeper(alloc, file, proxy, tables);
         match &made {
             Ok(_) => self.made = self.made.and(&Made { file, proxy }),

@@ -1,0 +1,4 @@
+use Rattle.okws_system.proofs.stores.keeper_over.Goals as goal
+
+pub returns-in-Ok-clause-filed : goal.returns-in-Ok-clause-filed
+returns-in-Ok-clause-filed c = (c.in_ok-open.field-0, c.in_ok-open.ensures, c.in-Ok.ensures.made)

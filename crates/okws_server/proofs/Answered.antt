@@ -1,19 +1,25 @@
 -- What a server answers, from what its parts answer.
-use Rattle.std.proofs.Common.{◌≡◌, ◌∙◌, ℕ, ◌≤◌, Bool, List, [], ◌∷◌, length, map, refl, sym, ap, subst, arith, inl, inr, Some, None}
-use Rattle.std.specs.Prelude.{IsSome}
+use Rattle.std.proofs.Common.{◌≡◌, ◌∙◌, ℕ, suc, ◌≤◌, Bool, List, [], ◌∷◌, length, map, refl, sym, ap, subst, arith, inl, inr, Result, Ok, Err, Some, None}
+use Rattle.std.specs.Prelude.{IsSome, OnErr}
 use Rattle.std.specs.declared.option.Option.{Option}
-use Rattle.std.proofs.lemmas.List.{length-map}
 use Rattle.command_line.specs.Asked.{Serving}
 use Rattle.okws_outer.specs.Conns.{ConnWire}
 use Rattle.okws_outer.specs.Depots.{Depot}
+use Rattle.okws_outer.specs.Making.{CountsMade}
 use Rattle.okws_outer.specs.Networks.{Net}
+use Rattle.okws_outer.specs.declared.error.MakeError.{MakeError}
+use Rattle.okws_outer.specs.declared.error.MakeError.TheVariants as make
+use Rattle.okws_base.specs.declared.value.Value.{Value}
 use Rattle.okws_plan.specs.declared.configuration.Config.{Config}
+use Rattle.okws_plan.specs.declared.configuration.Table.{Table}
 use Rattle.monitor_model.specs.declared.record.Record.{Record}
-use Rattle.site_run.specs.Keepers.{KeeperIs}
-use Rattle.stored_site.specs.Depots.{GivesBack, HasFailed, with_starts}
+use Rattle.site_making.specs.Keepers.{KeeperIs, AreKeepers, keeper_of}
+use Rattle.stored_site.specs.Depots.{Beside, GivesBack, HasAsked, HasFailed, beside_of, with_starts}
+use Rattle.stored_site.proofs.Given.{asked_all}
 use Rattle.stored_site.specs.Sites.{SitesAreAlike}
 use Rattle.okws_serve.specs.declared.outfit.Ran.{Ran}
-use Rattle.okws_server.specs.Served.{EndsAs, IsSpared, IsUntouched, MissesDoors, MissesPort, RanAt, RanFrom, ServesConfig, ServesFrom, ServesOpen, ServesOver, ServesSite, Tells, store_fault_line, with_listened}
+use Rattle.okws_server.specs.Served.{AreBeside, EndsAs, IsSpared, IsUntouched, MissesDoors, MissesPort, NeverRan, RanAt, RanFrom, ServesConfig, ServesFrom, ServesOpen, ServesOver, ServesSite, Tells, listened, store_fault_line, with_listened}
+use Rattle.okws_server.specs.Ending.{no_memory_line}
 use Rattle.okws_server.specs.Views.{Gear}
 use Rattle.okws_server.specs.declared.status.Status.{Status}
 use Rattle.okws_server.specs.declared.status.Status.TheVariants as status
@@ -44,14 +50,9 @@ ends_over wire server C seed a b keepers left old new rose R _ h = h
 pub open_over : {X : Type 0} (wire : X → ConnWire) (server : Serving) (C : Config) (seed : List ℕ) (a m b : Gear) (keepers left : List KeeperIs) (old new : Option (List ℕ)) (rose : Type 0) (R : Record) (how : Status) →
     m ≡ record a { net = with_listened server a.net } → ServesOpen wire server C seed m b left old new rose R how → ServesOver wire server C seed a b keepers left old new rose R how
 open_over wire server C seed a m b keepers left old new rose R how e (inl h) =
-    let untouched : IsUntouched a b = record {
-      faults = h.1.faults ∙ ap (λ (x : Gear). (x.net).faults) e;
-      family = h.1.family ∙ ap (λ (x : Gear). x.family) e;
-      console = h.1.console ∙ ap (λ (x : Gear). x.console) e;
-      depot = h.1.depot ∙ ap (λ (x : Gear). x.depot) e;
-    } in
+    let never : NeverRan server a b = inr (subst (λ (x : Gear). IsUntouched server x b) e h.1) in
     let few : length left ≤ length keepers = omega (arith, ap (λ (xs : List KeeperIs). length xs) h.2) in
-    subst (λ s. ServesOver wire server C seed a b keepers left old new rose R s) (sym h.0) (inl (untouched, few, h.3))
+    subst (λ s. ServesOver wire server C seed a b keepers left old new rose R s) (sym h.0) (inl (never, few, h.3))
 open_over wire server C seed a m b keepers left old new rose R how e (inr h) =
     ends_over wire server C seed a b keepers left old new rose R how (from_by wire server C seed a m b left old new rose R how e h)
 
@@ -67,6 +68,33 @@ few_left wire server C seed a b keepers left old new rose R status.NetFault most
 few_left wire server C seed a b keepers left old new rose R status.NoMemory most few many (inl h) = omega (arith, few, h.1)
 few_left wire server C seed a b keepers left old new rose R status.NoMemory most few many (inr h) = few_from wire server C seed a b left old new rose R status.NoMemory most many h
 few_left wire server C seed a b keepers left old new rose R how most few many h = few_from wire server C seed a b left old new rose R how most many h
+
+-- ---- no run began
+
+-- the stores were not touched
+never_depot : (server : Serving) (a b : Gear) → NeverRan server a b → b.depot ≡ a.depot
+never_depot server a b (inl e) = ap (λ (x : Gear). x.depot) e
+never_depot server a b (inr h) = ap (λ (x : Gear). x.depot) h.gear
+
+-- whatever they are
+never_beside : (server : Serving) (depot : Depot) (a b : Gear) → NeverRan server a b → NeverRan server (record a { depot = depot }) (record b { depot = depot })
+never_beside server depot a b (inl e) = inl (ap {A = Gear} (λ (x : Gear). record x { depot = depot }) e)
+never_beside server depot a b (inr h) = inr (record { gear = ap {A = Gear} (λ (x : Gear). record x { depot = depot }) h.gear; log = h.log })
+
+-- a listen to which memory was refused counted nothing
+pub listened_starved : {V : Type 0} (result : Result V MakeError) (before now : ℕ) → result ≡ Err make.NoMemory → CountsMade before now result → now ≡ before
+listened_starved {V} result before now is counts = subst (λ (r : Result V MakeError). CountsMade before now r) is counts
+
+-- what holds of a call that was refused
+pub err_holds : {T E : Type 0} (result : Result T E) (e : E) (P : Type 0) → result ≡ Err e → OnErr result P → P
+err_holds (Ok x) e P is h = cc
+err_holds (Err y) e P is h = h
+
+-- the doors could not be had for want of memory
+pub starved_over : {X : Type 0} (wire : X → ConnWire) (server : Serving) (C : Config) (seed : List ℕ) (a m b : Gear) (keepers : List KeeperIs) (old new : Option (List ℕ)) (rose : Type 0) (R : Record) (how : Status) →
+    how ≡ status.NoMemory → m ≡ listened server a → b ≡ m → Tells old new no_memory_line rose R → ServesOver wire server C seed a b keepers keepers old new rose R how
+starved_over wire server C seed a m b keepers old new rose R how is listen same told =
+    subst (λ s. ServesOver wire server C seed a b keepers keepers old new rose R s) (sym is) (inl (inl (same ∙ listen), omega arith, told))
 
 -- ---- with rows in memory
 
@@ -90,32 +118,55 @@ memory_site wire tells server C seed a b left old new rose R how memory h =
       ends = h.ends;
     }
 
-memory_port : (server : Serving) (C : Config) (a b : Gear) (keepers : List KeeperIs) → server.store ≡ None → length keepers ≡ length C.proxies → MissesDoors server a b → MissesPort server C a b
-memory_port server C a b keepers memory many h =
+memory_port : (tells : Type 0) (server : Serving) (C : Config) (a b : Gear) (keepers : List KeeperIs) → server.store ≡ None → length keepers ≡ length C.proxies → AreKeepers C 0 keepers → MissesDoors server a b → MissesPort tells server C a b
+memory_port tells server C a b keepers memory many are h =
     let depot : b.depot ≡ a.depot = ap (λ (x : Gear). x.depot) h.gear in
     record {
+      site = C;
+      sited = rw memory refl;
       depot = a.depot;
       opened = rw memory refl;
       doors = subst (λ (x : Gear). MissesDoors server a x) (ap (λ (d : Depot). record b { depot = d }) depot) h;
-      counts = map (λ (k : KeeperIs). k.faults) keepers;
-      many = length-map keepers (λ (k : KeeperIs). k.faults) ∙ many;
+      keepers = keepers;
+      many = many;
+      keepers_are = are;
       closed = rw memory depot;
     }
 
+memory_spared : (server : Serving) (C : Config) (a b : Gear) → server.store ≡ None → NeverRan server a b → IsSpared server C a b
+memory_spared server C a b memory h =
+    let depot : b.depot ≡ a.depot = never_depot server a b h in
+    record {
+      gear = inr (subst (λ (x : Gear). NeverRan server a x) (ap (λ (d : Depot). record b { depot = d }) depot) h);
+      depot = record { asks = rw memory depot; faults = ap (λ (d : Depot). d.faults) depot };
+    }
+
+-- memory was refused to the keepers
+pub memory_starved : {X : Type 0} (wire : X → ConnWire) (tells : Type 0) (server : Serving) (C : Config) (seed : List ℕ) (a b : Gear) (old new : Option (List ℕ)) (rose : Type 0) (R : Record) (how : Status) →
+    how ≡ status.NoMemory → server.store ≡ None → b ≡ a → Tells old new no_memory_line rose R → ServesConfig wire tells server C seed a b old new rose R how
+memory_starved wire tells server C seed a b old new rose R how is memory same told =
+    let depot : b.depot ≡ a.depot = ap (λ (x : Gear). x.depot) same in
+    subst (λ s. ServesConfig wire tells server C seed a b old new rose R s) (sym is) (inl (
+      record {
+        gear = inl (same ∙ ap (λ (d : Depot). record a { depot = d }) (sym depot));
+        depot = record { asks = rw memory depot; faults = ap (λ (d : Depot). d.faults) depot };
+      },
+      told,
+    ))
+
 pub memory_config : {X : Type 0} (wire : X → ConnWire) (tells : Type 0) (server : Serving) (C : Config) (seed : List ℕ) (a b : Gear) (keepers left : List KeeperIs) (old new : Option (List ℕ)) (rose : Type 0) (R : Record) (how : Status) →
-    server.store ≡ None → length keepers ≡ length C.proxies → ServesOver wire server C seed a b keepers left old new rose R how → ServesConfig wire tells server C seed a b old new rose R how
-memory_config wire tells server C seed a b keepers left old new rose R status.NetFault memory many h = (memory_port server C a b keepers memory many h.0, h.2)
-memory_config wire tells server C seed a b keepers left old new rose R status.NoMemory memory many (inl h) =
-    inl (record { faults = h.0.faults; family = h.0.family; console = h.0.console; depot = rw memory h.0.depot }, h.2)
-memory_config wire tells server C seed a b keepers left old new rose R status.NoMemory memory many (inr h) = inr (memory_site wire tells server C seed a b left old new rose R status.NoMemory memory h)
-memory_config wire tells server C seed a b keepers left old new rose R status.StoreFault memory many h = absurd h.ends
-memory_config wire tells server C seed a b keepers left old new rose R how memory many h = memory_site wire tells server C seed a b left old new rose R how memory h
+    server.store ≡ None → length keepers ≡ length C.proxies → AreKeepers C 0 keepers → ServesOver wire server C seed a b keepers left old new rose R how → ServesConfig wire tells server C seed a b old new rose R how
+memory_config wire tells server C seed a b keepers left old new rose R status.NetFault memory many are h = (memory_port tells server C a b keepers memory many are h.0, h.2)
+memory_config wire tells server C seed a b keepers left old new rose R status.NoMemory memory many are (inl h) = inl (memory_spared server C a b memory h.0, h.2)
+memory_config wire tells server C seed a b keepers left old new rose R status.NoMemory memory many are (inr h) = inr (memory_site wire tells server C seed a b left old new rose R status.NoMemory memory h)
+memory_config wire tells server C seed a b keepers left old new rose R status.StoreFault memory many are h = absurd h.ends
+memory_config wire tells server C seed a b keepers left old new rose R how memory many are h = memory_site wire tells server C seed a b left old new rose R how memory h
 
 -- the same of the site that was shared
 pub memory_at : {X : Type 0} (wire : X → ConnWire) (tells : Type 0) (server : Serving) (C D : Config) (seed : List ℕ) (a b : Gear) (keepers left : List KeeperIs) (old new : Option (List ℕ)) (rose : Type 0) (R : Record) (how : Status) →
-    D ≡ C → server.store ≡ None → length keepers ≡ length C.proxies → ServesOver wire server D seed a b keepers left old new rose R how → ServesConfig wire tells server C seed a b old new rose R how
-memory_at wire tells server C D seed a b keepers left old new rose R how same memory many h =
-    memory_config wire tells server C seed a b keepers left old new rose R how memory many (subst (λ x. ServesOver wire server x seed a b keepers left old new rose R how) same h)
+    D ≡ C → server.store ≡ None → length keepers ≡ length C.proxies → AreKeepers C 0 keepers → ServesOver wire server D seed a b keepers left old new rose R how → ServesConfig wire tells server C seed a b old new rose R how
+memory_at wire tells server C D seed a b keepers left old new rose R how same memory many are h =
+    memory_config wire tells server C seed a b keepers left old new rose R how memory many are (subst (λ x. ServesOver wire server x seed a b keepers left old new rose R how) same h)
 
 -- ---- with rows in files
 
@@ -125,7 +176,9 @@ pub record IsStored (server : Serving) (file : List ℕ) (C : Config) (a m b e :
   pub before : m ≡ record a { depot = m.depot }
   pub opened : m.depot ≡ with_starts file (length C.proxies) a.depot
   pub after : e ≡ record b { depot = e.depot }
-  pub closed : GivesBack (map (λ (k : KeeperIs). k.faults) left) b.depot e.depot
+  pub besides : List Beside
+  pub beside : AreBeside left besides
+  pub closed : GivesBack besides b.depot e.depot
   pub many : length keepers ≡ length C.proxies
 
 -- but for the stores all is left as what was done left it
@@ -147,56 +200,87 @@ stored_served wire tells server file C D seed a m b e keepers left old new rose 
         keepers = left;
         from = subst (λ (x : Gear). RanFrom wire server D seed x (record e { depot = m.depot }) left h.ran h.missed) is.before
             (subst (λ (x : Gear). RanFrom wire server D seed m x left h.ran h.missed) (as_left m b e is.after kept) h.from);
-        closed = rw is.wanted (subst (λ (d : Depot). GivesBack (map (λ (k : KeeperIs). k.faults) left) d e.depot) kept is.closed);
+        closed = rw is.wanted (is.besides, is.beside, subst (λ (d : Depot). GivesBack is.besides d e.depot) kept is.closed);
       };
       record_is = h.record_is;
       ends = h.ends;
     }
 
-stored_port : (server : Serving) (file : List ℕ) (C : Config) (a m b e : Gear) (keepers left : List KeeperIs) → left ≡ keepers → IsStored server file C a m b e keepers left → MissesDoors server m b → MissesPort server C a e
-stored_port server file C a m b e keepers left all is h =
+stored_port : (tells : Type 0) (server : Serving) (file : List ℕ) (C D : Config) (a m b e : Gear) (keepers left : List KeeperIs) → SitesAreAlike D C → (tells → D ≡ C) → AreKeepers D 0 keepers → left ≡ keepers → IsStored server file C a m b e keepers left →
+    MissesDoors server m b → MissesPort tells server C a e
+stored_port tells server file C D a m b e keepers left alike same are all is h =
     let kept : b.depot ≡ m.depot = ap (λ (x : Gear). x.depot) h.gear in
     record {
+      site = D;
+      sited = rw is.wanted (alike, same);
       depot = m.depot;
       opened = rw is.wanted is.opened;
       doors = subst (λ (x : Gear). MissesDoors server x (record e { depot = m.depot })) is.before (subst (λ (x : Gear). MissesDoors server m x) (as_left m b e is.after kept) h);
-      counts = map (λ (k : KeeperIs). k.faults) left;
-      many = length-map left (λ (k : KeeperIs). k.faults) ∙ ap (λ (xs : List KeeperIs). length xs) all ∙ is.many;
-      closed = rw is.wanted (subst (λ (d : Depot). GivesBack (map (λ (k : KeeperIs). k.faults) left) d e.depot) kept is.closed);
+      keepers = left;
+      many = ap (λ (xs : List KeeperIs). length xs) all ∙ is.many;
+      keepers_are = subst (AreKeepers D 0) (sym all) are;
+      closed = rw is.wanted (is.besides, is.beside, subst (λ (d : Depot). GivesBack is.besides d e.depot) kept is.closed);
     }
 
-stored_spared : (server : Serving) (file : List ℕ) (C : Config) (a m b e : Gear) (keepers left : List KeeperIs) → IsStored server file C a m b e keepers left → IsUntouched m b → IsSpared server a e
-stored_spared server file C a m b e keepers left is h = record {
-  faults = ap (λ (x : Gear). (x.net).faults) is.after ∙ h.faults ∙ ap (λ (x : Gear). (x.net).faults) is.before;
-  family = ap (λ (x : Gear). x.family) is.after ∙ h.family ∙ ap (λ (x : Gear). x.family) is.before;
-  console = ap (λ (x : Gear). x.console) is.after ∙ h.console ∙ ap (λ (x : Gear). x.console) is.before;
-  depot = rw is.wanted (is.closed.faults ∙ ap (λ (d : Depot). d.faults) h.depot ∙ ap (λ (d : Depot). d.faults) is.opened);
-}
+-- as many keepers as are given back
+many_beside : (keepers : List KeeperIs) (besides : List Beside) → AreBeside keepers besides → length besides ≡ length keepers
+many_beside [] [] h = refl
+many_beside [] (x ∷ besides) h = absurd h
+many_beside (k ∷ keepers) [] h = absurd h
+many_beside (k ∷ keepers) (x ∷ besides) h = ap suc (many_beside keepers besides h.2)
+
+stored_spared : (server : Serving) (file : List ℕ) (C : Config) (a m b e : Gear) (keepers left : List KeeperIs) → IsStored server file C a m b e keepers left → length left ≤ length keepers → NeverRan server m b → IsSpared server C a e
+stored_spared server file C a m b e keepers left is few h =
+    let kept : b.depot ≡ m.depot = never_depot server m b h in
+    let back : GivesBack is.besides m.depot e.depot = subst (λ (d : Depot). GivesBack is.besides d e.depot) kept is.closed in
+    let asked : HasAsked file (length C.proxies) a.depot e.depot =
+    asked_all file (length C.proxies) (length C.proxies) is.besides a.depot m.depot e.depot is.opened (omega arith) (omega (arith, few, is.many, many_beside left is.besides is.beside)) back in
+    record {
+      gear = inr (subst (λ (x : Gear). NeverRan server x (record e { depot = a.depot })) (ap {A = Gear} (λ (x : Gear). record x { depot = a.depot }) is.before)
+          (subst (λ (x : Gear). NeverRan server (record m { depot = a.depot }) x) (sym (ap {A = Gear} (λ (x : Gear). record x { depot = a.depot }) is.after)) (never_beside server a.depot m b h)));
+      depot = record { asks = rw is.wanted asked; faults = back.faults ∙ ap (λ (d : Depot). d.faults) is.opened };
+    }
 
 pub stored_config : {X : Type 0} (wire : X → ConnWire) (tells : Type 0) (server : Serving) (file : List ℕ) (C D : Config) (seed : List ℕ) (a m b e : Gear) (keepers left : List KeeperIs) (old new : Option (List ℕ)) (rose : Type 0) (R : Record) (how : Status) →
-    SitesAreAlike D C → (tells → D ≡ C) → IsStored server file C a m b e keepers left → ServesOver wire server D seed m b keepers left old new rose R how → ServesConfig wire tells server C seed a e old new rose R how
-stored_config wire tells server file C D seed a m b e keepers left old new rose R status.NetFault alike same is h = (stored_port server file C a m b e keepers left h.1 is h.0, h.2)
-stored_config wire tells server file C D seed a m b e keepers left old new rose R status.NoMemory alike same is (inl h) = inl (stored_spared server file C a m b e keepers left is h.0, h.2)
-stored_config wire tells server file C D seed a m b e keepers left old new rose R status.NoMemory alike same is (inr h) =
+    SitesAreAlike D C → (tells → D ≡ C) → AreKeepers D 0 keepers → IsStored server file C a m b e keepers left → ServesOver wire server D seed m b keepers left old new rose R how → ServesConfig wire tells server C seed a e old new rose R how
+stored_config wire tells server file C D seed a m b e keepers left old new rose R status.NetFault alike same are is h = (stored_port tells server file C D a m b e keepers left alike same are h.1 is h.0, h.2)
+stored_config wire tells server file C D seed a m b e keepers left old new rose R status.NoMemory alike same are is (inl h) = inl (stored_spared server file C a m b e keepers left is h.1 h.0, h.2)
+stored_config wire tells server file C D seed a m b e keepers left old new rose R status.NoMemory alike same are is (inr h) =
     inr (stored_served wire tells server file C D seed a m b e keepers left old new rose R status.NoMemory alike same is h)
-stored_config wire tells server file C D seed a m b e keepers left old new rose R status.StoreFault alike same is h = absurd h.ends
-stored_config wire tells server file C D seed a m b e keepers left old new rose R how alike same is h =
+stored_config wire tells server file C D seed a m b e keepers left old new rose R status.StoreFault alike same are is h = absurd h.ends
+stored_config wire tells server file C D seed a m b e keepers left old new rose R how alike same are is h =
     stored_served wire tells server file C D seed a m b e keepers left old new rose R how alike same is h
 
 -- a store could not be made
 pub missed_config : {X : Type 0} (wire : X → ConnWire) (tells : Type 0) (server : Serving) (file : List ℕ) (C : Config) (seed : List ℕ) (a m b : Gear) (old new : Option (List ℕ)) (rose : Type 0) (R : Record) (how : Status) → how ≡ status.StoreFault →
-    server.store ≡ Some file → m ≡ record a { depot = m.depot } → b ≡ m → HasFailed a.depot m.depot → Tells old new store_fault_line rose R → ServesConfig wire tells server C seed a b old new rose R how
-missed_config wire tells server file C seed a m b old new rose R how is wanted gear same failed told =
+    server.store ≡ Some file → m ≡ record a { depot = m.depot } → b ≡ m → HasAsked file (length C.proxies) a.depot m.depot → HasFailed a.depot m.depot → Tells old new store_fault_line rose R → ServesConfig wire tells server C seed a b old new rose R how
+missed_config wire tells server file C seed a m b old new rose R how is wanted gear same asked failed told =
     subst (λ s. ServesConfig wire tells server C seed a b old new rose R s) (sym is) (
       record {
         wanted = subst (λ (o : Option (List ℕ)). IsSome o) (sym wanted) refl;
         gear = subst (λ (x : Gear). x ≡ record a { depot = x.depot }) (sym same) gear;
+        asked = rw wanted (subst (λ (x : Gear). HasAsked file (length C.proxies) a.depot x.depot) (sym same) asked);
         failed = subst (λ (x : Gear). HasFailed a.depot x.depot) (sym same) failed;
       },
       told,
     )
 
--- the counts of keepers
-pub counts_of : {K : Type 0} (f : K → KeeperIs) (ks : List K) → map (λ k. (f k).faults) ks ≡ map (λ (x : KeeperIs). x.faults) (map f ks)
-counts_of f [] = refl
-counts_of f (k ∷ ks) = ap (λ (xs : List ℕ). (f k).faults ∷ xs) (counts_of f ks)
+-- memory was refused as the stores were made
+pub stored_starved : {X : Type 0} (wire : X → ConnWire) (tells : Type 0) (server : Serving) (file : List ℕ) (C : Config) (seed : List ℕ) (a m b : Gear) (old new : Option (List ℕ)) (rose : Type 0) (R : Record) (how : Status) → how ≡ status.NoMemory →
+    server.store ≡ Some file → m ≡ record a { depot = m.depot } → b ≡ m → HasAsked file (length C.proxies) a.depot m.depot → (m.depot).faults ≡ (a.depot).faults → Tells old new no_memory_line rose R → ServesConfig wire tells server C seed a b old new rose R how
+stored_starved wire tells server file C seed a m b old new rose R how is wanted gear same asked spared told =
+    subst (λ s. ServesConfig wire tells server C seed a b old new rose R s) (sym is) (inl (
+      record {
+        gear = inl (subst (λ (x : Gear). x ≡ record a { depot = x.depot }) (sym same) gear);
+        depot = record {
+          asks = rw wanted (subst (λ (x : Gear). HasAsked file (length C.proxies) a.depot x.depot) (sym same) asked);
+          faults = ap (λ (x : Gear). (x.depot).faults) same ∙ spared;
+        };
+      },
+      told,
+    ))
+
+-- keepers as they are given back
+pub are_beside : {K : Type 0} (tables : K → List Table) (told : K → Option (List (List (List Value)))) (faults : K → ℕ) (steady parted : K → Bool) (ks : List K) → AreBeside (map (keeper_of tables told faults steady) ks) (map (beside_of faults told parted) ks)
+are_beside tables told faults steady parted [] = tt
+are_beside tables told faults steady parted (k ∷ ks) = (refl, refl, are_beside tables told faults steady parted ks)

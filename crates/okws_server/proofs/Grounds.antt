@@ -19,8 +19,8 @@ use Rattle.okws_plan.specs.declared.configuration.Table.{Table}
 use Rattle.command_line.specs.Asked.{Serving}
 use Rattle.config_reader.specs.Ruled.{AreRuled}
 use Rattle.site_run.specs.Places.{AllIdle}
-use Rattle.site_run.specs.Keepers.{KeeperIs, IsKeeper, AreKeepers, are_steady}
-use Rattle.site_run.specs.Making.{IsServable}
+use Rattle.site_making.specs.Keepers.{KeeperIs, IsKeeper, AreKeepers, are_steady}
+use Rattle.site_making.specs.Making.{IsServable}
 use Rattle.store_keeper.specs.Alike.{AreAlike, bare}
 use Rattle.store_keeper.proofs.Alike.{rules_alike}
 use Rattle.stored_site.specs.Sites.{AreOf, SitesAreAlike, bare_plan, rows_of_plan}

@@ -1,5 +1,5 @@
 -- What a run did, from its own contract to that of the server.
-use Rattle.std.proofs.Common.{◌≡◌, ◌∙◌, ℕ, suc, ◌+◌, true, false, Bool, List, [], ◌∷◌, length, replicate, refl, sym, ap, subst, Some, None}
+use Rattle.std.proofs.Common.{◌≡◌, ◌∙◌, ℕ, suc, ◌+◌, true, false, Bool, List, [], ◌∷◌, length, replicate, refl, sym, ap, subst, inl, inr, Some, None}
 use Rattle.std.specs.Prelude.{IfSome, IfNone, IsSome, IsNone, is_some}
 use Rattle.std.specs.declared.option.Option.{Option}
 use Rattle.std.proofs.lemmas.Bool.{false≢true}
@@ -8,14 +8,16 @@ use Rattle.okws_base.specs.declared.journal.Entry.{Entry}
 use Rattle.command_line.specs.Asked.{Serving}
 use Rattle.okws_outer.specs.Conns.{ConnWire}
 use Rattle.okws_outer.specs.Doors.{Entrance, new_entrance}
-use Rattle.okws_outer.specs.Racks.{Misses, with_opened, with_closed}
+use Rattle.okws_outer.specs.Families.{Family}
+use Rattle.okws_outer.specs.Networks.{Net}
+use Rattle.okws_outer.specs.Racks.{Misses, Rack, with_opened, with_closed}
 use Rattle.okws_plan.specs.declared.configuration.Config.{Config}
 use Rattle.okws_plan.specs.declared.event.ProxyEvent.{ProxyEvent}
 use Rattle.site_run.specs.Closing.{AllKept}
-use Rattle.site_run.specs.Keepers.{KeeperIs}
+use Rattle.site_making.specs.Keepers.{KeeperIs}
 use Rattle.okws_serve.specs.Runs.{Runs, StartIs}
 use Rattle.okws_serve.specs.declared.outfit.Ran.{Ran}
-use Rattle.okws_server.specs.Served.{IsUntouched, RanAt, RanLogged, RanOver, RanUnlogged}
+use Rattle.okws_server.specs.Served.{IsUntouched, RanAt, RanLogged, RanOver, RanUnlogged, shut}
 use Rattle.okws_server.specs.Views.{Gear}
 
 over_by : {X : Type 0} (wire : X → ConnWire) (server : Serving) (C : Config) (seed : List ℕ) (a b : Gear) (ran : Ran) (given : Option (List ℕ)) (faults m : ℕ) (start : StartIs) (old new : List Entrance) (keepers : List KeeperIs) →
@@ -47,11 +49,43 @@ ran_over wire server C seed a b (Some r) None given faults m start old new keepe
 ran_over wire server C seed a b (Some r) (Some l) given faults m start old new keepers o many steady none family net depot h =
     over_by wire server C seed a b r (given l) (faults l) m start old new keepers o many steady none family net depot h
 
--- a run that never began
-pub untouched_by : (P : Type 0) (a b : Gear) (ran : Option Ran) (new : List Entrance) → b.net ≡ record (a.net) { doors = new } → b.depot ≡ a.depot → IfNone ran (P × (b.console ≡ a.console) × (b.family ≡ a.family)) →
-    IsNone ran → IsUntouched a b
-untouched_by P a b None new net depot h none = record { faults = ap (λ n. n.faults) net; family = h.2; console = h.1; depot = depot }
-untouched_by P a b (Some r) new net depot h none = cc
+-- ---- a run that never began
+
+-- its doors were closed
+pub unran_by : (server : Serving) (a : Gear) (net : Net) (family : Family) (console : ConnWire) (ran : Option Ran) (old new : List Entrance) → old ≡ replicate server.doors new_entrance → net ≡ record (a.net) { doors = new } →
+    IfNone ran ((new ≡ old) × (console ≡ a.console) × (family ≡ a.family)) → IsNone ran → record a { net = net; family = family; console = console } ≡ shut server a
+unran_by server a net family console None old new o is h none =
+    let closed : net ≡ record (a.net) { doors = replicate server.doors new_entrance } = is ∙ ap {A = List Entrance} (λ (doors : List Entrance). record (a.net) { doors = doors }) (h.0 ∙ o) in
+    ap {A = Net} (λ (x : Net). record a { net = x; family = family; console = console }) closed
+    ∙ ap {A = Family} (λ (x : Family). record (shut server a) { family = x; console = console }) h.2
+    ∙ ap {A = ConnWire} (λ (x : ConnWire). record (shut server a) { console = x }) h.1
+unran_by server a net family console (Some r) old new o is h none = cc
+
+-- no log was wanted
+pub untouched_none : (server : Serving) (a b : Gear) → server.log ≡ None → b ≡ shut server a → IsUntouched server a b
+untouched_none server a b none is =
+    let kept : b.rack ≡ a.rack = ap (λ (x : Gear). x.rack) is in
+    record { gear = is ∙ ap {A = Rack} (λ (x : Rack). record (shut server a) { rack = x }) (sym kept); log = rw none kept }
+
+-- no sink could be opened for it
+pub untouched_missed : (server : Serving) (path : List ℕ) (a m b : Gear) → server.log ≡ Some path → m ≡ record a { rack = m.rack } → Misses a.rack m.rack path → b ≡ shut server m → IsUntouched server a b
+untouched_missed server path a m b wanted opened missed is =
+    let kept : b.rack ≡ m.rack = ap (λ (x : Gear). x.rack) is in
+    record {
+      gear = is ∙ ap {A = Gear} (λ (x : Gear). shut server x) opened ∙ ap {A = Rack} (λ (x : Rack). record (shut server a) { rack = x }) (sym kept);
+      log = rw wanted (inr (subst (λ (x : Rack). Misses a.rack x path) (sym kept) missed));
+    }
+
+-- its sink was opened
+pub untouched_logged : (server : Serving) (path : List ℕ) (a m b : Gear) → server.log ≡ Some path → m ≡ record a { rack = with_opened path true a.rack } → b ≡ shut server m → IsUntouched server a b
+untouched_logged server path a m b wanted opened is =
+    let kept : b.rack ≡ with_opened path true a.rack = ap (λ (x : Gear). x.rack) is ∙ ap (λ (x : Gear). x.rack) opened in
+    record {
+      gear = is ∙ ap {A = Gear} (λ (x : Gear). shut server x) opened ∙ ap {A = Rack} (λ (x : Rack). record (shut server a) { rack = x }) (sym kept);
+      log = rw wanted (inl kept);
+    }
+
+-- ---- a run
 
 -- what a run is over begins and ends as other objects, but for their sinks
 over_alike : {X : Type 0} (wire : X → ConnWire) (server : Serving) (C : Config) (seed : List ℕ) (a b c d : Gear) (keepers : List KeeperIs) (ran : Ran) (given : Option (List ℕ)) (faults : ℕ) →

@@ -15,9 +15,9 @@ use Rattle.okws_outer.specs.Shelf.{Reads}
 use Rattle.okws_outer.specs.Streams.{AppendsPrefix, Rose}
 use Rattle.okws_plan.specs.declared.configuration.Config.{Config}
 use Rattle.monitor_model.specs.declared.record.Record.{Record}
-use Rattle.site_run.specs.Keepers.{KeeperIs, AreKeepers, are_steady}
-use Rattle.site_run.specs.Making.{IsServable}
-use Rattle.stored_site.specs.Depots.{GivesBack, HasFailed, with_starts}
+use Rattle.site_making.specs.Keepers.{KeeperIs, AreKeepers, are_steady}
+use Rattle.site_making.specs.Making.{IsServable}
+use Rattle.stored_site.specs.Depots.{Beside, GivesBack, HasAsked, HasFailed, with_starts}
 use Rattle.stored_site.specs.Sites.{SitesAreAlike}
 use Rattle.okws_serve.specs.Runs.{Runs, StartIs}
 use Rattle.okws_serve.specs.declared.outfit.Ran.{Ran}
@@ -66,6 +66,11 @@ LogAt None a b given faults missed = (b ≡ a) × (faults ≡ 0) × (missed ≡ 
 LogAt (Some path) a b given faults false = b ≡ with_closed path given faults (with_opened path true a)
 LogAt (Some path) a b given faults true = Misses a b path
 
+-- The log in a run that never began: none was wanted; or a sink was opened at its path and let go; or none could be opened there, which was counted.
+abbrev pub LogUnused : Option (List ℕ) → Rack → Rack → Type 0
+LogUnused None a b = b ≡ a
+LogUnused (Some path) a b = (b ≡ with_opened path true a) ⊎ Misses a b path
+
 -- ---- the stores
 
 -- The site that is served of one that was read, where all keepers of the stores tell their rows if `tells`: with rows in memory that one; with rows in files one that is the same but for the rows with which its tables begin, and the same also in these where the keepers tell.
@@ -78,15 +83,27 @@ abbrev pub Opens : Option (List ℕ) → ℕ → Depot → Depot → Type 0
 Opens None n a b = b ≡ a
 Opens (Some file) n a b = b ≡ with_starts file n a
 
--- They were given back, and had counted at least so many faults.
-abbrev pub Closes : Option (List ℕ) → List ℕ → Depot → Depot → Type 0
-Closes None counts a b = b ≡ a
-Closes (Some file) counts a b = GivesBack counts a b
+-- Keepers as they are given back tell what is told of them.
+abbrev pub AreBeside : List KeeperIs → List Beside → Type 0
+AreBeside [] [] = Unit {0}
+AreBeside [] (x ∷ besides) = ⊥
+AreBeside (k ∷ keepers) [] = ⊥
+AreBeside (k ∷ keepers) (x ∷ besides) = (x.faults ≡ k.faults) × (x.told ≡ k.told) × AreBeside keepers besides
 
--- The stores were not asked for anything; or, where rows in files are asked for, no making failed.
-abbrev pub Spares : Option (List ℕ) → Depot → Depot → Type 0
-Spares None a b = b ≡ a
-Spares (Some file) a b = b.faults ≡ a.faults
+-- The stores of these keepers were given back, which had counted at least their faults; where one tells its rows these are its keeper's, unless the two have parted.
+abbrev pub Closes : Option (List ℕ) → List KeeperIs → Depot → Depot → Type 0
+Closes None keepers a b = b ≡ a
+Closes (Some file) keepers a b = (besides : List Beside) × AreBeside keepers besides × GivesBack besides a b
+
+-- The stores were not asked for anything; or, where rows in files are asked for, keepers of so many proxies were made of that file, or of some of the first of them, and some were given back.
+abbrev pub Asks : Option (List ℕ) → ℕ → Depot → Depot → Type 0
+Asks None n a b = b ≡ a
+Asks (Some file) n a b = HasAsked file n a b
+
+-- The same, and no making failed.
+pub record Spares (store : Option (List ℕ)) (n : ℕ) (a b : Depot) : Type 0 where
+  pub asks : Asks store n a b
+  pub faults : b.faults ≡ a.faults
 
 -- ---- a run
 
@@ -100,19 +117,27 @@ pub record IsServing (server : Serving) : Type 0 where
   pub some : 0 < server.doors
   pub few : server.doors ≤ MOST_DOORS
 
--- No service was started, the console and the stores were not touched, and no call of the network failed.
-pub record IsUntouched (a b : Gear) : Type 0 where
-  pub faults : (b.net).faults ≡ (a.net).faults
-  pub family : b.family ≡ a.family
-  pub console : b.console ≡ a.console
-  pub depot : b.depot ≡ a.depot
+-- The same objects, but that the server's doors were asked of the network.
+abbrev pub listened : Serving → Gear → Gear
+listened server a = record a { net = with_listened server a.net }
 
--- The same, but that keepers may have been made and given back, of which no making failed.
-pub record IsSpared (server : Serving) (a b : Gear) : Type 0 where
-  pub faults : (b.net).faults ≡ (a.net).faults
-  pub family : b.family ≡ a.family
-  pub console : b.console ≡ a.console
-  pub depot : Spares server.store a.depot b.depot
+-- The same objects, but that the server's doors were closed, at which nothing had come.
+abbrev pub shut : Serving → Gear → Gear
+shut server a = record a { net = record (a.net) { doors = replicate server.doors new_entrance } }
+
+-- A run over doors that were open never began: they were closed, and nothing had come at them; and nothing else was touched, but that a sink may have been opened for the log.
+pub record IsUntouched (server : Serving) (a b : Gear) : Type 0 where
+  pub gear : b ≡ record (shut server a) { rack = b.rack }
+  pub log : LogUnused server.log a.rack b.rack
+
+-- No run began over keepers of a site's rows: the server's doors were asked for and not opened, or they were opened and closed.
+abbrev pub NeverRan : Serving → Gear → Gear → Type 0
+NeverRan server a b = (b ≡ listened server a) ⊎ IsUntouched server (listened server a) b
+
+-- No run began: nothing was touched but the stores, and the server's doors if all of them stood open. No making of a keeper failed.
+pub record IsSpared (server : Serving) (C : Config) (a b : Gear) : Type 0 where
+  pub gear : (b ≡ record a { depot = b.depot }) ⊎ NeverRan server a (record b { depot = a.depot })
+  pub depot : Spares server.store (length C.proxies) a.depot b.depot
 
 -- A site that can be served, and keepers of its rows.
 pub record IsStock (C : Config) (keepers : List KeeperIs) : Type 0 where
@@ -169,7 +194,7 @@ pub record HasServed {X : Type 0} (wire : X → ConnWire) (tells : Type 0) (serv
   pub opened : Opens server.store (length C.proxies) a.depot depot
   pub keepers : List KeeperIs
   pub from : RanFrom wire server site seed (record a { depot = depot }) (record b { depot = depot }) keepers ran missed
-  pub closed : Closes server.store (map (λ (k : KeeperIs). k.faults) keepers) depot b.depot
+  pub closed : Closes server.store keepers depot b.depot
 
 -- How a run ends, and what is printed at its end: its counts, and a last line where the log or, else, the console failed. Where memory was refused, that alone.
 abbrev pub EndsAs : Ran → Bool → Option (List ℕ) → Option (List ℕ) → Type 0 → Status → Type 0
@@ -195,19 +220,23 @@ pub record MissesDoors (server : Serving) (a b : Gear) : Type 0 where
   pub net : b.net ≡ record (with_listened server a.net) { faults = (b.net).faults }
   pub rose : Rose (a.net).faults (b.net).faults
 
--- The same but for the stores, which were opened and given back.
-pub record MissesPort (server : Serving) (C : Config) (a b : Gear) : Type 0 where
+-- The same but for the stores, which were opened and given back with the rows that they had.
+pub record MissesPort (tells : Type 0) (server : Serving) (C : Config) (a b : Gear) : Type 0 where
+  pub site : Config
+  pub sited : IsSited tells server.store C site
   pub depot : Depot
   pub opened : Opens server.store (length C.proxies) a.depot depot
   pub doors : MissesDoors server (record a { depot = depot }) (record b { depot = depot })
-  pub counts : List ℕ
-  pub many : length counts ≡ length C.proxies
-  pub closed : Closes server.store counts depot b.depot
+  pub keepers : List KeeperIs
+  pub many : length keepers ≡ length C.proxies
+  pub keepers_are : AreKeepers site 0 keepers
+  pub closed : Closes server.store keepers depot b.depot
 
--- A keeper of rows could not be made, which was counted, and nothing but the stores was touched.
-pub record MissesStore (server : Serving) (a b : Gear) : Type 0 where
+-- A keeper of rows could not be made of the file that is asked for, which was counted, and nothing but the stores was touched.
+pub record MissesStore (server : Serving) (C : Config) (a b : Gear) : Type 0 where
   pub wanted : IsSome server.store
   pub gear : b ≡ record a { depot = b.depot }
+  pub asked : Asks server.store (length C.proxies) a.depot b.depot
   pub failed : HasFailed a.depot b.depot
 
 -- A site whose stores are open was served, and left these keepers: the record is the run's, which ended so.
@@ -229,22 +258,22 @@ pub record ServesSite {X : Type 0} (wire : X → ConnWire) (tells : Type 0) (ser
 -- The same over doors that are open, which left these keepers, unless memory was refused before the run began, where none was left.
 abbrev pub ServesOpen : {X : Type 0} → (X → ConnWire) → Serving → Config → List ℕ → Gear → Gear → List KeeperIs → Option (List ℕ) → Option (List ℕ) → Type 0 → Record → Status → Type 0
 ServesOpen wire server C seed a b keepers old new rose R how =
-    ((how ≡ status.NoMemory) × IsUntouched a b × (keepers ≡ []) × Tells old new no_memory_line rose R)
+    ((how ≡ status.NoMemory) × IsUntouched server a b × (keepers ≡ []) × Tells old new no_memory_line rose R)
     ⊎ ((ran : Ran) × (missed : Bool) × RanAt wire server C seed a b keepers ran missed × (R ≡ ran.record) × EndsAs ran missed old new rose how)
 
 -- What is done of a site over keepers of its rows, and which of them are left: its doors could not be opened; or memory was refused before the run began; or it was served.
 abbrev pub ServesOver : {X : Type 0} → (X → ConnWire) → Serving → Config → List ℕ → Gear → Gear → List KeeperIs → List KeeperIs → Option (List ℕ) → Option (List ℕ) → Type 0 → Record → Status → Type 0
 ServesOver wire server C seed a b keepers left old new rose R status.NetFault = MissesDoors server a b × (left ≡ keepers) × Tells old new net_fault_line rose R
 ServesOver wire server C seed a b keepers left old new rose R status.NoMemory =
-    (IsUntouched a b × (length left ≤ length keepers) × Tells old new no_memory_line rose R) ⊎ ServesFrom wire server C seed a b left old new rose R status.NoMemory
+    (NeverRan server a b × (length left ≤ length keepers) × Tells old new no_memory_line rose R) ⊎ ServesFrom wire server C seed a b left old new rose R status.NoMemory
 ServesOver wire server C seed a b keepers left old new rose R how = ServesFrom wire server C seed a b left old new rose R how
 
 -- What is done of a site that was read: its stores or its doors could not be opened; or memory was refused before the run began; or it was served.
 abbrev pub ServesConfig : {X : Type 0} → (X → ConnWire) → Type 0 → Serving → Config → List ℕ → Gear → Gear → Option (List ℕ) → Option (List ℕ) → Type 0 → Record → Status → Type 0
-ServesConfig wire tells server C seed a b old new rose R status.StoreFault = MissesStore server a b × Tells old new store_fault_line rose R
-ServesConfig wire tells server C seed a b old new rose R status.NetFault = MissesPort server C a b × Tells old new net_fault_line rose R
+ServesConfig wire tells server C seed a b old new rose R status.StoreFault = MissesStore server C a b × Tells old new store_fault_line rose R
+ServesConfig wire tells server C seed a b old new rose R status.NetFault = MissesPort tells server C a b × Tells old new net_fault_line rose R
 ServesConfig wire tells server C seed a b old new rose R status.NoMemory =
-    (IsSpared server a b × Tells old new no_memory_line rose R) ⊎ ServesSite wire tells server C seed a b old new rose R status.NoMemory
+    (IsSpared server C a b × Tells old new no_memory_line rose R) ⊎ ServesSite wire tells server C seed a b old new rose R status.NoMemory
 ServesConfig wire tells server C seed a b old new rose R how = ServesSite wire tells server C seed a b old new rose R how
 
 -- ---- the answers

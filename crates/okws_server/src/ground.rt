@@ -1,12 +1,12 @@
 //! What a server's run is over: its site, the keepers of its rows, its tokens' seed and its doors.
 
-ghost use Rattle.std.specs.Prelude.{◌≡◌, ◌≤◌, true, IfOk, IsErrOf, length, map, vec_len};
+ghost use Rattle.std.specs.Prelude.{◌≡◌, ◌≤◌, true, IfOk, IsErrOf, OnErr, length, map, vec_len};
 ghost use Rattle.std.specs.Arc.{arc_value};
 ghost use Rattle.okws_base.specs.declared.limit.TheConstants.{MOST_PROXIES};
 ghost use Rattle.okws_plan.specs.Sound.{IsSound};
 ghost use Rattle.config_reader.specs.Ruled.{AreRuled};
-ghost use Rattle.site_run.specs.Keepers.{AreKeepers, IsKeeper, are_steady, keeper_of};
-ghost use Rattle.stored_site.specs.Depots.{HasFailed, with_starts};
+ghost use Rattle.site_making.specs.Keepers.{AreKeepers, IsKeeper, are_steady, keeper_of};
+ghost use Rattle.stored_site.specs.Depots.{HasAsked, HasFailed, with_starts};
 ghost use Rattle.stored_site.specs.Sites.{AllTell, SitesAreAlike};
 ghost use Rattle.okws_server.specs.Served.{IsStock};
 
@@ -94,6 +94,7 @@ pub fn stored_stock<S: Stores>(
     ensures alike { IfOk result (λ s. SitesAreAlike (arc_value s.site) config) }
     ensures same { IfOk result (λ s. AllTell S.Keeper.told → arc_value s.site ≡ config) }
     ensures made { IfOk result (λ _. S.depot stores.new ≡ with_starts file.now (length config.proxies) (S.depot stores.old)) }
+    ensures asked { OnErr result (HasAsked file.now (length config.proxies) (S.depot stores.old) (S.depot stores.new)) }
     ensures failed { IsErrOf result MakeError.Failed → HasFailed (S.depot stores.old) (S.depot stores.new) }
     ensures spared { IsErrOf result MakeError.NoMemory → (S.depot stores.new).faults ≡ (S.depot stores.old).faults }
 {

@@ -5,7 +5,7 @@ ghost use Rattle.std.specs.Arc.{arc_value};
 ghost use Rattle.okws_plan.specs.Sound.{IsSound};
 ghost use Rattle.config_reader.specs.Ruled.{AreRuled};
 ghost use Rattle.okws_outer.specs.Streams.{Rose};
-ghost use Rattle.site_run.specs.Keepers.{are_steady, keeper_of};
+ghost use Rattle.site_making.specs.Keepers.{are_steady, keeper_of};
 ghost use Rattle.stored_site.specs.Sites.{AllTell};
 ghost use Rattle.okws_server.specs.Served.{EndsAs, IsGround, IsServing, IsStock, ServesConfig, ServesOpen, ServesOver, ServesWords, Tells, serving_of};
 ghost use Rattle.okws_server.specs.Views.{gear_of, view_of};

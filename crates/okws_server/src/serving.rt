@@ -3,8 +3,8 @@
 ghost use Rattle.std.specs.Prelude.{◌≡◌, IfSome, IsNone, IsSome, map};
 ghost use Rattle.std.specs.Arc.{arc_value};
 ghost use Rattle.okws_outer.specs.Racks.{IsNewSink};
-ghost use Rattle.site_run.specs.Keepers.{keeper_of};
-ghost use Rattle.okws_server.specs.Served.{IsGround, IsUntouched, RanAt, RanLogged, RanOver, RanUnlogged, serving_of};
+ghost use Rattle.site_making.specs.Keepers.{keeper_of};
+ghost use Rattle.okws_server.specs.Served.{IsGround, IsUntouched, RanAt, RanLogged, RanOver, RanUnlogged, serving_of, shut};
 ghost use Rattle.okws_server.specs.Views.{gear_of};
 
 use crate::ground::{Ground, Stock};
@@ -42,7 +42,7 @@ where
     ensures sinks { E.Sinks.rack result.0.sinks ≡ E.Sinks.rack things.sinks }
     ensures ran { IfSome result.2 (λ ran. IfSome result.1 (λ log. RanOver E.Network.Door.Conn.wire (serving_of server.now) (arc_value ground.stock.site) ground.seed (gear_of E.Network.net E.Children.family E.Console.wire E.Stores.depot E.Sinks.rack things) (gear_of E.Network.net E.Children.family E.Console.wire E.Stores.depot E.Sinks.rack result.0) (map (keeper_of K.tables K.told K.faults K.steady) result.3.items) ran (S.given log) (S.faults log))) }
     ensures both { IsSome result.2 → IsSome result.1 }
-    ensures unran { IsNone result.2 → IsUntouched (gear_of E.Network.net E.Children.family E.Console.wire E.Stores.depot E.Sinks.rack things) (gear_of E.Network.net E.Children.family E.Console.wire E.Stores.depot E.Sinks.rack result.0) }
+    ensures unran { IsNone result.2 → gear_of E.Network.net E.Children.family E.Console.wire E.Stores.depot E.Sinks.rack result.0 ≡ shut (serving_of server.now) (gear_of E.Network.net E.Children.family E.Console.wire E.Stores.depot E.Sinks.rack things) }
 {
     let Ground { stock, seed, doors } = ground;
     let Stock { site, keepers } = stock;
@@ -79,7 +79,8 @@ where
     (things, left.log, left.ran, left.keepers)
 }
 
-// The same with the log in a sink that was opened at a path, which is closed at the end.
+// The same with the log in a sink that was opened at a path, which is closed at the end of a run, and let go
+// where none began.
 fn serve_logged<R, E, K>(
     rt: &R,
     alloc: Global,
@@ -97,17 +98,20 @@ where
     requires ground { IsGround (serving_of server.now) (arc_value ground.stock.site) (map (keeper_of K.tables K.told K.faults K.steady) ground.stock.keepers.items) (map E.Network.Door.entrance ground.doors.items) }
     requires sink { IsNewSink (E.Sinks.Sink.given sink) (E.Sinks.Sink.faults sink) }
     ensures ran { IfSome result.1 (RanLogged E.Network.Door.Conn.wire (serving_of server.now) (arc_value ground.stock.site) ground.seed path.now (gear_of E.Network.net E.Children.family E.Console.wire E.Stores.depot E.Sinks.rack things) (gear_of E.Network.net E.Children.family E.Console.wire E.Stores.depot E.Sinks.rack result.0) (map (keeper_of K.tables K.told K.faults K.steady) result.2.items)) }
-    ensures unran { IsNone result.1 → IsUntouched (gear_of E.Network.net E.Children.family E.Console.wire E.Stores.depot E.Sinks.rack things) (gear_of E.Network.net E.Children.family E.Console.wire E.Stores.depot E.Sinks.rack result.0) }
+    ensures unran { IsNone result.1 → gear_of E.Network.net E.Children.family E.Console.wire E.Stores.depot E.Sinks.rack result.0 ≡ shut (serving_of server.now) (gear_of E.Network.net E.Children.family E.Console.wire E.Stores.depot E.Sinks.rack things) }
 {
     let (mut things, log, ran, keepers) = serve_over::<R, E, K, _>(
         rt, alloc, server, ground, sink, things,
     );
+    let Some(ran) = ran else {
+        return (things, None, keepers);
+    };
     match log {
         Some(sink) => {
             things.sinks.close(path, sink);
-            (things, ran, keepers)
+            (things, Some(ran), keepers)
         }
-        None => (things, ran, keepers),
+        None => (things, Some(ran), keepers),
     }
 }
 
@@ -126,7 +130,7 @@ where
     K::Pin: Send,
     requires { IsGround (serving_of server.now) (arc_value ground.stock.site) (map (keeper_of K.tables K.told K.faults K.steady) ground.stock.keepers.items) (map E.Network.Door.entrance ground.doors.items) }
     ensures ran { IfSome result.1 (RanUnlogged E.Network.Door.Conn.wire (serving_of server.now) (arc_value ground.stock.site) ground.seed (gear_of E.Network.net E.Children.family E.Console.wire E.Stores.depot E.Sinks.rack things) (gear_of E.Network.net E.Children.family E.Console.wire E.Stores.depot E.Sinks.rack result.0) (map (keeper_of K.tables K.told K.faults K.steady) result.2.items)) }
-    ensures unran { IsNone result.1 → IsUntouched (gear_of E.Network.net E.Children.family E.Console.wire E.Stores.depot E.Sinks.rack things) (gear_of E.Network.net E.Children.family E.Console.wire E.Stores.depot E.Sinks.rack result.0) }
+    ensures unran { IsNone result.1 → gear_of E.Network.net E.Children.family E.Console.wire E.Stores.depot E.Sinks.rack result.0 ≡ shut (serving_of server.now) (gear_of E.Network.net E.Children.family E.Console.wire E.Stores.depot E.Sinks.rack things) }
 {
     let (things, _, ran, keepers) = serve_over::<R, E, K, _>(
         rt,
@@ -155,7 +159,7 @@ where
     K::Pin: Send,
     requires { IsGround (serving_of server.now) (arc_value ground.stock.site) (map (keeper_of K.tables K.told K.faults K.steady) ground.stock.keepers.items) (map E.Network.Door.entrance ground.doors.items) }
     ensures ran { IfSome result.1 (λ ran. RanAt E.Network.Door.Conn.wire (serving_of server.now) (arc_value ground.stock.site) ground.seed (gear_of E.Network.net E.Children.family E.Console.wire E.Stores.depot E.Sinks.rack things) (gear_of E.Network.net E.Children.family E.Console.wire E.Stores.depot E.Sinks.rack result.0) (map (keeper_of K.tables K.told K.faults K.steady) result.3.items) ran result.2) }
-    ensures unran { IsNone result.1 → IsUntouched (gear_of E.Network.net E.Children.family E.Console.wire E.Stores.depot E.Sinks.rack things) (gear_of E.Network.net E.Children.family E.Console.wire E.Stores.depot E.Sinks.rack result.0) }
+    ensures unran { IsNone result.1 → IsUntouched (serving_of server.now) (gear_of E.Network.net E.Children.family E.Console.wire E.Stores.depot E.Sinks.rack things) (gear_of E.Network.net E.Children.family E.Console.wire E.Stores.depot E.Sinks.rack result.0) }
 {
     let Some(path) = server.log else {
         let (things, ran, keepers) = serve_unlogged::<R, E, K>(rt, alloc, server, ground, things);

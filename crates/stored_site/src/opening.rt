@@ -1,11 +1,11 @@
 //! The rows of a site's stores.
 
-ghost use Rattle.std.specs.Prelude.{◌≡◌, Some, true, map, length, IfOk, IfErr, IsErrOf, IsSome};
+ghost use Rattle.std.specs.Prelude.{◌≡◌, Some, true, map, length, IfOk, IfErr, IsErrOf, IsSome, OnErr};
 ghost use Rattle.okws_plan.specs.Sound.{IsSound, is_sound_plan};
 ghost use Rattle.okws_outer.specs.Depots.{IsNewKeeper, with_made};
 ghost use Rattle.okws_outer.specs.Streams.{Rose};
 ghost use Rattle.store_keeper.specs.Alike.{AreAlike};
-ghost use Rattle.stored_site.specs.Depots.{HasFailed, with_starts};
+ghost use Rattle.stored_site.specs.Depots.{HasAsked, HasFailed, HasTried, with_starts};
 ghost use Rattle.stored_site.specs.Sites.{AllTell, AreOf, SitesAreAlike};
 
 use crate::giving::give_back;
@@ -83,6 +83,7 @@ fn open_proxy<S: Stores>(
     ensures tables { IfOk result (λ o. ⟦<StoredKeeper<S::Keeper> as Keeper>⟧.tables o.keeper ≡ o.tables.items) }
     ensures told { IfOk result (λ o. ⟦<StoredKeeper<S::Keeper> as Keeper>⟧.told o.keeper ≡ Some (map (λ t. t.first) o.tables.items)) }
     ensures made { IfOk result (λ _. S.depot stores.new ≡ with_made file.now proxy (S.depot stores.old)) }
+    ensures tried { OnErr result (HasTried file.now proxy (S.depot stores.old) (S.depot stores.new)) }
     ensures failed { IsErrOf result MakeError.Failed → HasFailed (S.depot stores.old) (S.depot stores.new) }
     ensures spared { IsErrOf result MakeError.NoMemory → (S.depot stores.new).faults ≡ (S.depot stores.old).faults }
 {
@@ -109,6 +110,7 @@ pub fn open_site<S: Stores>(
     ensures same { IfOk result (λ s. AllTell S.Keeper.told → s.config ≡ config) }
     ensures keepers { IfOk result (λ s. AreOf s.config.proxies (map ⟦<StoredKeeper<S::Keeper> as Keeper>⟧.tables s.keepers.items) (map ⟦<StoredKeeper<S::Keeper> as Keeper>⟧.told s.keepers.items)) }
     ensures made { IfOk result (λ _. S.depot stores.new ≡ with_starts file.now (length config.proxies) (S.depot stores.old)) }
+    ensures asked { OnErr result (HasAsked file.now (length config.proxies) (S.depot stores.old) (S.depot stores.new)) }
     ensures failed { IsErrOf result MakeError.Failed → HasFailed (S.depot stores.old) (S.depot stores.new) }
     ensures spared { IsErrOf result MakeError.NoMemory → (S.depot stores.new).faults ≡ (S.depot stores.old).faults }
 {

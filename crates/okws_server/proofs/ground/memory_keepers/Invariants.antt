@@ -1,7 +1,7 @@
 use Rattle.std.proofs.Common.{◌≡◌, true, map}
 use Rattle.std.specs.Prelude.{vec_len, vec_capacity}
 use Rattle.index_keeper.specs.contracts.keeper.IndexKeeperKeeper.TheImpl as row
-use Rattle.site_run.specs.Keepers.{AreKeepers, are_steady, keeper_of}
+use Rattle.site_making.specs.Keepers.{AreKeepers, are_steady, keeper_of}
 use Rattle.okws_server.proofs.ground.memory_keepers.Given as goal
 
 abbrev pub invariant-loop-proxy : goal.invariant-loop-proxy

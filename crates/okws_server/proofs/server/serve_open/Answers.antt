@@ -2,7 +2,7 @@ use Rattle.std.proofs.Common.{List, inr, map, refl, subst}
 use Rattle.std.specs.Prelude.{IfSome}
 use Rattle.std.specs.Arc.{arc_value}
 use Rattle.std.specs.declared.option.Option.{Option}
-use Rattle.site_run.specs.Keepers.{KeeperIs, keeper_of}
+use Rattle.site_making.specs.Keepers.{KeeperIs, keeper_of}
 use Rattle.okws_serve.specs.declared.outfit.Ran.{Ran}
 use Rattle.okws_server.specs.Served.{RanAt, serving_of}
 use Rattle.okws_server.specs.Views.{Gear, gear_of}

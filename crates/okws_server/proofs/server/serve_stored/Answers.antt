@@ -3,13 +3,13 @@ use Rattle.std.specs.Arc.{arc_value}
 use Rattle.std.proofs.lemmas.List.{length-map}
 use Rattle.okws_base.specs.declared.limit.TheConstants.{MOST_PROXIES}
 use Rattle.okws_outer.specs.Streams.{Rose}
-use Rattle.site_run.specs.Keepers.{KeeperIs, keeper_of}
+use Rattle.site_making.specs.Keepers.{KeeperIs, keeper_of}
 use Rattle.store_keeper.specs.contracts.stored.StoredKeeperKeeper.TheImpl as stored
-use Rattle.stored_site.specs.Depots.{GivesBack}
+use Rattle.stored_site.specs.Depots.{beside_of}
 use Rattle.stored_site.specs.Sites.{AllTell}
 use Rattle.okws_server.specs.Served.{serving_of}
 use Rattle.okws_server.specs.Views.{Gear, gear_of}
-use Rattle.okws_server.proofs.Answered.{counts_of, few_left, missed_config, stored_config}
+use Rattle.okws_server.proofs.Answered.{are_beside, err_holds, few_left, missed_config, stored_config, stored_starved}
 use Rattle.okws_server.proofs.Grounds.{proxies_alike}
 use Rattle.okws_server.proofs.server.serve_stored.Goals as goal
 
@@ -35,12 +35,14 @@ returns-in-Ok g c =
     let left : List KeeperIs = map (keeper_of (stored.tables-value g.row.E-Stores-Keeper g.row.E-Stores-Keeper-Pin g.E.Stores.Keeper.Keeper g.E.Stores.Keeper.Keeper-dict g.E.Stores.Keeper.Pin.Pinned g.E.Stores.Keeper.Pin.Pinned-dict g.E.Stores.Keeper.Pin.Destruct-dict).it (stored.told-value g.row.E-Stores-Keeper g.row.E-Stores-Keeper-Pin g.E.Stores.Keeper.Keeper g.E.Stores.Keeper.Keeper-dict g.E.Stores.Keeper.Pin.Pinned g.E.Stores.Keeper.Pin.Pinned-dict g.E.Stores.Keeper.Pin.Destruct-dict).it (stored.faults-value g.row.E-Stores-Keeper g.row.E-Stores-Keeper-Pin g.E.Stores.Keeper.Keeper g.E.Stores.Keeper.Keeper-dict g.E.Stores.Keeper.Pin.Pinned g.E.Stores.Keeper.Pin.Pinned-dict g.E.Stores.Keeper.Pin.Destruct-dict).it (stored.steady-value g.row.E-Stores-Keeper g.row.E-Stores-Keeper-Pin g.E.Stores.Keeper.Keeper g.E.Stores.Keeper.Keeper-dict g.E.Stores.Keeper.Pin.Pinned g.E.Stores.Keeper.Pin.Pinned-dict g.E.Stores.Keeper.Pin.Destruct-dict).it) c.serve_beside-ended.result.1.items in
     stored_config g.E.Network.Door.Conn.Conn.wire (AllTell g.E.Stores.Keeper.Keeper.told) (serving_of c.args.server.now) c.args.file.now c.args.config (arc_value c.in-Ok.stock.site) c.args.seed before middle after end keepers left (g.O.Sink.given c.args.out.now) (g.O.Sink.given c.serve_beside-ended.new.out)
     (Rose (g.O.Sink.faults c.args.out.now) (g.O.Sink.faults c.serve_beside-ended.new.out)) c.serve_beside-ended.result.0.1 c.serve_beside-ended.result.0.0 c.in-Ok.ensures.alike c.in-Ok.ensures.same
-    (record {
+    c.in-Ok.ensures.stock.keepers_are (record {
       wanted = c.requires.stores;
       before = refl;
       opened = c.in-Ok.ensures.made;
       after = refl;
-      closed = subst (λ ns. GivesBack ns after.depot end.depot) (counts_of (keeper_of (stored.tables-value g.row.E-Stores-Keeper g.row.E-Stores-Keeper-Pin g.E.Stores.Keeper.Keeper g.E.Stores.Keeper.Keeper-dict g.E.Stores.Keeper.Pin.Pinned g.E.Stores.Keeper.Pin.Pinned-dict g.E.Stores.Keeper.Pin.Destruct-dict).it (stored.told-value g.row.E-Stores-Keeper g.row.E-Stores-Keeper-Pin g.E.Stores.Keeper.Keeper g.E.Stores.Keeper.Keeper-dict g.E.Stores.Keeper.Pin.Pinned g.E.Stores.Keeper.Pin.Pinned-dict g.E.Stores.Keeper.Pin.Destruct-dict).it (stored.faults-value g.row.E-Stores-Keeper g.row.E-Stores-Keeper-Pin g.E.Stores.Keeper.Keeper g.E.Stores.Keeper.Keeper-dict g.E.Stores.Keeper.Pin.Pinned g.E.Stores.Keeper.Pin.Pinned-dict g.E.Stores.Keeper.Pin.Destruct-dict).it (stored.steady-value g.row.E-Stores-Keeper g.row.E-Stores-Keeper-Pin g.E.Stores.Keeper.Keeper g.E.Stores.Keeper.Keeper-dict g.E.Stores.Keeper.Pin.Pinned g.E.Stores.Keeper.Pin.Pinned-dict g.E.Stores.Keeper.Pin.Destruct-dict).it) c.serve_beside-ended.result.1.items) c.give_back.ensures;
+      besides = map (beside_of (stored.faults-value g.row.E-Stores-Keeper g.row.E-Stores-Keeper-Pin g.E.Stores.Keeper.Keeper g.E.Stores.Keeper.Keeper-dict g.E.Stores.Keeper.Pin.Pinned g.E.Stores.Keeper.Pin.Pinned-dict g.E.Stores.Keeper.Pin.Destruct-dict).it (stored.told-value g.row.E-Stores-Keeper g.row.E-Stores-Keeper-Pin g.E.Stores.Keeper.Keeper g.E.Stores.Keeper.Keeper-dict g.E.Stores.Keeper.Pin.Pinned g.E.Stores.Keeper.Pin.Pinned-dict g.E.Stores.Keeper.Pin.Destruct-dict).it (λ k. k.parted)) c.serve_beside-ended.result.1.items;
+      beside = are_beside (stored.tables-value g.row.E-Stores-Keeper g.row.E-Stores-Keeper-Pin g.E.Stores.Keeper.Keeper g.E.Stores.Keeper.Keeper-dict g.E.Stores.Keeper.Pin.Pinned g.E.Stores.Keeper.Pin.Pinned-dict g.E.Stores.Keeper.Pin.Destruct-dict).it (stored.told-value g.row.E-Stores-Keeper g.row.E-Stores-Keeper-Pin g.E.Stores.Keeper.Keeper g.E.Stores.Keeper.Keeper-dict g.E.Stores.Keeper.Pin.Pinned g.E.Stores.Keeper.Pin.Pinned-dict g.E.Stores.Keeper.Pin.Destruct-dict).it (stored.faults-value g.row.E-Stores-Keeper g.row.E-Stores-Keeper-Pin g.E.Stores.Keeper.Keeper g.E.Stores.Keeper.Keeper-dict g.E.Stores.Keeper.Pin.Pinned g.E.Stores.Keeper.Pin.Pinned-dict g.E.Stores.Keeper.Pin.Destruct-dict).it (stored.steady-value g.row.E-Stores-Keeper g.row.E-Stores-Keeper-Pin g.E.Stores.Keeper.Keeper g.E.Stores.Keeper.Keeper-dict g.E.Stores.Keeper.Pin.Pinned g.E.Stores.Keeper.Pin.Pinned-dict g.E.Stores.Keeper.Pin.Destruct-dict).it (λ k. k.parted) c.serve_beside-ended.result.1.items;
+      closed = c.give_back.ensures;
       many = c.in-Ok.ensures.stock.many ∙ proxies_alike c.args.config (arc_value c.in-Ok.stock.site) c.in-Ok.ensures.alike;
     }) c.serve_beside-ended.ensures
 
@@ -51,4 +53,14 @@ returns-in-Err-Failed g c =
     let after : Gear = gear_of g.E.Network.Network.net g.E.Children.Children.family g.E.Console.Conn.wire g.E.Stores.Stores.depot g.E.Sinks.Sinks.rack c.refused.result.2 in
     missed_config g.E.Network.Door.Conn.Conn.wire (AllTell g.E.Stores.Keeper.Keeper.told) (serving_of c.args.server.now) c.args.file.now c.args.config c.args.seed before middle after (g.O.Sink.given c.args.out.now) (g.O.Sink.given c.refused.new.out)
     (Rose (g.O.Sink.faults c.args.out.now) (g.O.Sink.faults c.refused.new.out)) c.refused.result.1 c.refused.result.0 c.refused.ensures.status c.requires.stores refl
-    (ap (λ o. gear_of g.E.Network.Network.net g.E.Children.Children.family g.E.Console.Conn.wire g.E.Stores.Stores.depot g.E.Sinks.Sinks.rack o) c.refused.ensures.things) (c.stored_stock.ensures.failed (c.in-Err-Failed.is ∙ ap Err c.in-Err-Failed.field-0-is)) c.refused.ensures.tells
+    (ap (λ o. gear_of g.E.Network.Network.net g.E.Children.Children.family g.E.Console.Conn.wire g.E.Stores.Stores.depot g.E.Sinks.Sinks.rack o) c.refused.ensures.things) (err_holds c.stored_stock.result _ _ c.in-Err-Failed.is c.stored_stock.ensures.asked) (c.stored_stock.ensures.failed (c.in-Err-Failed.is ∙ ap Err c.in-Err-Failed.field-0-is)) c.refused.ensures.tells
+
+pub returns-in-Err-NoMemory : goal.returns-in-Err-NoMemory
+returns-in-Err-NoMemory g c =
+    let before : Gear = gear_of g.E.Network.Network.net g.E.Children.Children.family g.E.Console.Conn.wire g.E.Stores.Stores.depot g.E.Sinks.Sinks.rack c.args.things in
+    let middle : Gear = record before { depot = g.E.Stores.Stores.depot c.stored_stock.new.stores } in
+    let after : Gear = gear_of g.E.Network.Network.net g.E.Children.Children.family g.E.Console.Conn.wire g.E.Stores.Stores.depot g.E.Sinks.Sinks.rack c.refused-in-Err-NoMemory.result.2 in
+    stored_starved g.E.Network.Door.Conn.Conn.wire (AllTell g.E.Stores.Keeper.Keeper.told) (serving_of c.args.server.now) c.args.file.now c.args.config c.args.seed before middle after (g.O.Sink.given c.args.out.now) (g.O.Sink.given c.refused-in-Err-NoMemory.new.out)
+    (Rose (g.O.Sink.faults c.args.out.now) (g.O.Sink.faults c.refused-in-Err-NoMemory.new.out)) c.refused-in-Err-NoMemory.result.1 c.refused-in-Err-NoMemory.result.0 c.refused-in-Err-NoMemory.ensures.status c.requires.stores refl
+    (ap (λ o. gear_of g.E.Network.Network.net g.E.Children.Children.family g.E.Console.Conn.wire g.E.Stores.Stores.depot g.E.Sinks.Sinks.rack o) c.refused-in-Err-NoMemory.ensures.things) (err_holds c.stored_stock.result _ _ c.in-Err-NoMemory.is c.stored_stock.ensures.asked)
+    (c.stored_stock.ensures.spared (c.in-Err-NoMemory.is ∙ ap Err c.in-Err-NoMemory.field-0-is)) c.refused-in-Err-NoMemory.ensures.tells

@@ -1,11 +1,11 @@
 use Rattle.std.proofs.Common.{List, arith, map, refl}
 use Rattle.std.specs.Prelude.{vec_len}
 use Rattle.std.specs.Arc.{arc_value}
-use Rattle.site_run.specs.Keepers.{KeeperIs, are_steady, faults_at, keeper_of}
+use Rattle.site_making.specs.Keepers.{KeeperIs, are_steady, faults_at, keeper_of}
 use Rattle.okws_server.specs.Served.{serving_of}
 use Rattle.okws_server.specs.Views.{Gear, gear_of}
 use Rattle.okws_server.proofs.Grounds.{doors_many, new_idle}
-use Rattle.okws_server.proofs.Over.{ran_over}
+use Rattle.okws_server.proofs.Over.{ran_over, unran_by}
 use Rattle.okws_server.proofs.serving.serve_over.Goals as goal
 
 pub serve_site-left-requires-clause-idle : goal.serve_site-left-requires-clause-idle
@@ -28,3 +28,9 @@ returns-clause-ran g c =
     (map g.E.Network.Door.Door.entrance c.serve_site-left.result.doors.items) left c.requires.ground.new
     (omega (arith, c.args.ground.doors.ok.0, doors_many g.E.Network.Door.Door.entrance c.args.ground.doors.items c.args.server.now.doors c.requires.ground.new))
     c.requires.ground.steady c.requires.log.faults refl c.close.ensures refl c.serve_site-left.ensures.ran
+
+pub returns-clause-unran : goal.returns-clause-unran
+returns-clause-unran g c = λ none.
+    let before : Gear = gear_of g.E.Network.Network.net g.E.Children.Children.family g.E.Console.Conn.wire g.E.Stores.Stores.depot g.E.Sinks.Sinks.rack c.args.things in
+    unran_by (serving_of c.args.server.now) before (g.E.Network.Network.net c.close.new.self) (g.E.Children.Children.family c.serve_site-left.result.children) (g.E.Console.Conn.wire c.serve_site-left.result.console) c.serve_site-left.result.ran
+    (map g.E.Network.Door.Door.entrance c.args.ground.doors.items) (map g.E.Network.Door.Door.entrance c.serve_site-left.result.doors.items) c.requires.ground.new c.close.ensures c.serve_site-left.ensures.unserved none

@@ -1,13 +1,14 @@
 use Rattle.std.proofs.Common.{◌≡◌, ◌∙◌, ◌+◌, ◌<◌, ℕ, suc, List, Err, Some, ap, arith, length, map, refl, subst, sym}
+use Rattle.std.proofs.lemmas.List.{length-map}
 use Rattle.okws_outer.specs.Depots.{Depot, with_made}
 use Rattle.okws_outer.specs.declared.error.MakeError.TheVariants.{Failed}
 use Rattle.okws_plan.specs.declared.configuration.ProxyPlan.{ProxyPlan}
 use Rattle.okws_plan.specs.declared.configuration.Table.{Table}
 use Rattle.store_keeper.specs.Alike.{AreAlike}
 use Rattle.store_keeper.specs.contracts.stored.StoredKeeperKeeper.TheImpl as stored
-use Rattle.stored_site.specs.Depots.{with_starts}
+use Rattle.stored_site.specs.Depots.{beside_of, with_starts}
 use Rattle.stored_site.specs.Sites.{AllTell, AreOf, SitesAreAlike}
-use Rattle.stored_site.proofs.Given.{err_is, failed_since, still_failed}
+use Rattle.stored_site.proofs.Given.{asked_back, asked_none, err_is, failed_since, on_err, still_failed}
 use Rattle.stored_site.proofs.Plans.{opened_all, opened_next, opened_sound, site_alike, site_same}
 use Rattle.stored_site.proofs.opening.open_site.Goals as goal
 
@@ -25,6 +26,17 @@ returns-in-Err-clause-failed g c = λ failed.
     still_failed _ before after (g.S.Stores.depot c.give_back.new.stores)
     (failed_since before opened after (ap (λ (d : Depot). d.finished) c.loop-proxy.invariant.depot) (ap (λ (d : Depot). d.faults) c.loop-proxy.invariant.depot) (c.in-Err.ensures.failed (ap Err (err_is c.in-Err.why Failed failed))))
     c.give_back.ensures
+
+pub returns-in_err-keepers-clause-asked : goal.returns-in_err-keepers-clause-asked
+returns-in_err-keepers-clause-asked g c = on_err c.from_residual.result _ (asked_none c.args.file.now (length c.args.config.proxies) (g.S.Stores.depot c.args.stores.now))
+
+pub returns-in-Err-clause-asked : goal.returns-in-Err-clause-asked
+returns-in-Err-clause-asked g c =
+    let below : c.loop-proxy.proxy < length c.args.config.proxies =
+    omega (arith, c.loop-proxy-test.true, c.len-count.ensures, c.into_vec-plans.result.ok.0, ap (λ (ps : List ProxyPlan). length ps) c.into_vec-plans.ensures) in
+    asked_back c.args.file.now c.loop-proxy.proxy (length c.args.config.proxies) (map (beside_of (stored.faults-value g.row.S-Keeper g.row.S-Keeper-Pin g.S.Keeper.Keeper g.S.Keeper.Keeper-dict g.S.Keeper.Pin.Pinned g.S.Keeper.Pin.Pinned-dict g.S.Keeper.Pin.Destruct-dict).it (stored.told-value g.row.S-Keeper g.row.S-Keeper-Pin g.S.Keeper.Keeper g.S.Keeper.Keeper-dict g.S.Keeper.Pin.Pinned g.S.Keeper.Pin.Pinned-dict g.S.Keeper.Pin.Destruct-dict).it (λ k. k.parted)) c.loop-proxy.keepers.items)
+    (g.S.Stores.depot c.args.stores.now) (g.S.Stores.depot c.loop-proxy.stores) (g.S.Stores.depot c.open_proxy.new.stores) (g.S.Stores.depot c.give_back.new.stores)
+    c.loop-proxy.invariant.depot below (omega (arith, length-map c.loop-proxy.keepers.items (beside_of (stored.faults-value g.row.S-Keeper g.row.S-Keeper-Pin g.S.Keeper.Keeper g.S.Keeper.Keeper-dict g.S.Keeper.Pin.Pinned g.S.Keeper.Pin.Pinned-dict g.S.Keeper.Pin.Destruct-dict).it (stored.told-value g.row.S-Keeper g.row.S-Keeper-Pin g.S.Keeper.Keeper g.S.Keeper.Keeper-dict g.S.Keeper.Pin.Pinned g.S.Keeper.Pin.Pinned-dict g.S.Keeper.Pin.Destruct-dict).it (λ k. k.parted)), c.loop-proxy.invariant.many, c.loop-proxy.keepers.ok.0)) c.in-Err.ensures.tried c.give_back.ensures
 
 pub loop-proxy-preserved : goal.loop-proxy-preserved
 loop-proxy-preserved g c =

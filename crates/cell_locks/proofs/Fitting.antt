@@ -6,7 +6,7 @@ use Rattle.std.proofs.lemmas.Bool.{and_parts, leb-true}
 use Rattle.std.proofs.lemmas.Grind.{common_steps}
 use Rattle.http_text.specs.Status.{phrase}
 use Rattle.frame_codec.specs.declared.frame.ServiceFrame.TheVariants as said
-use Rattle.frame_codec.specs.Spelling.{size, service_parts, is_reply_status, is_content_type, is_location, is_printable, is_visible, is_trimmed}
+use Rattle.frame_codec.specs.Spelling.{size, service_parts, is_reply_status, is_printable, is_visible, is_trimmed}
 use Rattle.frame_codec.proofs.Sizes.{sizes}
 use Rattle.frame_codec.proofs.Whole.{lawful_bounds}
 use Rattle.service_cell.specs.Ending.{IsSpelledReply}

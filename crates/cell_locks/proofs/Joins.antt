@@ -9,25 +9,25 @@ use Rattle.turn_lock.specs.Rows.{RowHas, GrownRow, JoinedRow}
 use Rattle.turn_lock.proofs.Rows.{grown-joined}
 use Rattle.turn_lock.proofs.Gathers.{has_sight-append}
 use Rattle.cell_locks.specs.Row.{AllAlone, CellsSeen}
-use Rattle.cell_locks.specs.Closing.{CellsGrow, AllCellsGrow, HasNumber, Joining}
-use Rattle.cell_locks.proofs.Places.{seen_of}
+use Rattle.cell_locks.specs.Closing.{cell_seat, CellsGrow, AllCellsGrow, HasNumber, Joining}
+use Rattle.cell_locks.proofs.Places.{events_at, seen_of}
 
 -- what a row of one number's seats tells of it
-row_grows : (k n : ℕ) (as' : List (SeatIs CellEvent)) (Js : List (List CellEvent)) → AllAlone n as' → GrownRow (by_event k) as' Js → CellsGrow k n (map (λ a. a.seen) as') Js
+row_grows : (k n : ℕ) (as' : List (SeatIs CellEvent)) (Js : List (List CellEvent)) → AllAlone n as' → GrownRow (by_event k) (map cell_seat as') Js → CellsGrow k n (map events_at as') Js
 row_grows k n [] [] h g = tt
 row_grows k n [] (J ∷ Js) h g = absurd g
 row_grows k n (a ∷ as') [] h g = absurd g
-row_grows k n (a ∷ as') (J ∷ Js) h g = (subst (λ m. GrowsBy (by_event k) m a.seen J) h.0 g.0.0, row_grows k n as' Js h.2 g.1)
+row_grows k n (a ∷ as') (J ∷ Js) h g = (subst (λ m. GrowsBy (by_event k) m (events_at a) J) h.0 g.0.0, row_grows k n as' Js h.2 g.1)
 
-pub own_grows : (k n : ℕ) (as' : List (SeatIs CellEvent)) (a : CellsSeen) (Js : List (List CellEvent)) → AllAlone n as' → seen_of n as' ≡ a → GrownRow (by_event k) as' Js → CellsGrow k a.number a.cells Js
+pub own_grows : (k n : ℕ) (as' : List (SeatIs CellEvent)) (a : CellsSeen) (Js : List (List CellEvent)) → AllAlone n as' → seen_of n as' ≡ a → GrownRow (by_event k) (map cell_seat as') Js → CellsGrow k a.number a.cells Js
 own_grows k n as' a Js h is g = subst (λ (x : CellsSeen). CellsGrow k x.number x.cells Js) is (row_grows k n as' Js h g)
 
-row_has : (n : ℕ) (as' : List (SeatIs CellEvent)) → AllAlone n as' → RowHas n as'
+row_has : (n : ℕ) (as' : List (SeatIs CellEvent)) → AllAlone n as' → RowHas n (map cell_seat as')
 row_has n [] h = tt
 row_has n (a ∷ as') h = (inl h.0, row_has n as' h.2)
 
-pub own_has : (n : ℕ) (as' : List (SeatIs CellEvent)) (a : CellsSeen) → AllAlone n as' → seen_of n as' ≡ a → RowHas a.number as'
-own_has n as' a h is = subst (λ m. RowHas m as') (ap (λ (x : CellsSeen). x.number) is) (row_has n as' h)
+pub own_has : (n : ℕ) (as' : List (SeatIs CellEvent)) (a : CellsSeen) → AllAlone n as' → seen_of n as' ≡ a → RowHas a.number (map cell_seat as')
+own_has n as' a h is = subst (λ m. RowHas m (map cell_seat as')) (ap (λ (x : CellsSeen). x.number) is) (row_has n as' h)
 
 -- a joined row has what both rows had
 has_joined : (by : CellEvent → ℕ) (k : ℕ) (os as' bs : List (SeatIs CellEvent)) → JoinedRow by os as' bs → RowHas k os ⊎ RowHas k as' → RowHas k bs
@@ -41,15 +41,15 @@ has_joined by k (o ∷ os) (a ∷ as') (b ∷ bs) j (inl h) =
 has_joined by k (o ∷ os) (a ∷ as') (b ∷ bs) j (inr h) =
     (subst (λ (x : SeatIs CellEvent). HasSight k (sights x)) (sym j.0.is) (⊎_elim (λ (y : a.number ≡ k). inl y) (λ (y : HasSight k a.olds). inr (has_sight-append k (sights o) a.olds (inr y))) h.0), has_joined by k os as' bs j.1 (inr h.1))
 
-module _ (k n : ℕ) (os old new : List (SeatIs CellEvent)) (a : CellsSeen) (alone : AllAlone n os) (is : seen_of n os ≡ a) (joined : JoinedRow (by_event k) os old new) where
+module _ (k n : ℕ) (os old new : List (SeatIs CellEvent)) (a : CellsSeen) (alone : AllAlone n os) (is : seen_of n os ≡ a) (joined : JoinedRow (by_event k) (map cell_seat os) old new) where
   pub told_both : (Js : List (List CellEvent)) → GrownRow (by_event k) new Js → GrownRow (by_event k) old Js × CellsGrow k a.number a.cells Js
-  told_both Js g = let h = grown-joined (by_event k) os old new Js joined g in (h.1, own_grows k n os a Js alone is h.0)
+  told_both Js g = let h = grown-joined (by_event k) (map cell_seat os) old new Js joined g in (h.1, own_grows k n os a Js alone is h.0)
 
   pub has_other : RowHas a.number new
-  has_other = has_joined (by_event k) a.number os old new joined (inl (own_has n os a alone is))
+  has_other = has_joined (by_event k) a.number (map cell_seat os) old new joined (inl (own_has n os a alone is))
 
   pub has_still : (m : ℕ) → RowHas m old → RowHas m new
-  has_still m h = has_joined (by_event k) m os old new joined (inr h)
+  has_still m h = has_joined (by_event k) m (map cell_seat os) old new joined (inr h)
 
 grow-push : (k : ℕ) (Js : List (List CellEvent)) (as' : List CellsSeen) (a : CellsSeen) → AllCellsGrow k as' Js → CellsGrow k a.number a.cells Js → AllCellsGrow k (as' ++ a ∷ []) Js
 grow-push k Js [] a g h = (h, tt)

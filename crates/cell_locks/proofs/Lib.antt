@@ -1,4 +1,6 @@
 pub mod Stays
+pub mod Entered
+pub mod Seated
 pub mod Places
 pub mod Names
 pub mod Joins

@@ -1,13 +1,14 @@
 -- Rows of fresh seats, which get names from their end.
-use Rattle.std.proofs.Common.{◌≡◌, ℕ, suc, ◌+◌, List, [], ◌∷◌, ◌++◌, map, reverse, length, refl, sym, ap, ◌∙◌, subst, arith}
+use Rattle.std.proofs.Common.{◌≡◌, ℕ, zero, suc, ◌+◌, List, [], ◌∷◌, ◌++◌, map, reverse, length, get_or, false, refl, sym, ap, ◌∙◌, subst, arith}
 use Rattle.std.proofs.lemmas.List.{length-map, length-reverse, reverse-append}
 use Rattle.monitor_model.specs.declared.record.CellEvent.{CellEvent}
+use Rattle.site_cell.specs.Held.{events_in, is_booted}
 use Rattle.turn_lock.specs.Seats.{TurnIs, SeatIs}
 use Rattle.turn_lock.specs.Rows.{RestRow, IsFreshRow, FreshRows, AllNone}
 use Rattle.turn_lock.proofs.Reversed.{push_length}
 use Rattle.cell_locks.specs.Row.{AllAlone, CellsSeen, AreSeats, IsNew, AreNew}
 use Rattle.cell_locks.specs.Making.{Naming}
-use Rattle.cell_locks.proofs.Places.{seen_of}
+use Rattle.cell_locks.proofs.Places.{booted_at, events_at, seen_of}
 
 fresh_pop : (ts : List TurnIs) (last : ℕ) (rs : List (List (SeatIs CellEvent))) (r : List (SeatIs CellEvent)) → FreshRows ts last (rs ++ r ∷ []) → FreshRows ts (suc last) rs × IsFreshRow ts last r
 fresh_pop ts last [] r f = (tt, subst (λ n. IsFreshRow ts n r) (let q : 0 + last ≡ last = omega arith in q) f.0)
@@ -29,11 +30,11 @@ row_alone [] n (a ∷ r) f = absurd f
 row_alone (t ∷ ts) n [] f = absurd f
 row_alone (t ∷ ts) n (a ∷ r) f = (f.0.number_is, f.0.alone, row_alone ts n r f.1)
 
-row_none : (ts : List TurnIs) (n : ℕ) (r : List (SeatIs CellEvent)) → IsFreshRow ts n r → AllNone (map (λ a. a.seen) r)
+row_none : (ts : List TurnIs) (n : ℕ) (r : List (SeatIs CellEvent)) → IsFreshRow ts n r → AllNone (map events_at r)
 row_none [] n [] f = tt
 row_none [] n (a ∷ r) f = absurd f
 row_none (t ∷ ts) n [] f = absurd f
-row_none (t ∷ ts) n (a ∷ r) f = (f.0.seen, row_none ts n r f.1)
+row_none (t ∷ ts) n (a ∷ r) f = (ap events_in f.0.seen, row_none ts n r f.1)
 
 row_size : (ts : List TurnIs) (n : ℕ) (r : List (SeatIs CellEvent)) → IsFreshRow ts n r → length r ≡ length ts
 row_size [] n [] f = refl
@@ -41,8 +42,15 @@ row_size [] n (a ∷ r) f = absurd f
 row_size (t ∷ ts) n [] f = absurd f
 row_size (t ∷ ts) n (a ∷ r) f = ap suc (row_size ts n r f.1)
 
+row_unlinked : (ts : List TurnIs) (n : ℕ) (r : List (SeatIs CellEvent)) → IsFreshRow ts n r → (s : ℕ) → get_or (map booted_at r) s false ≡ false
+row_unlinked [] n [] f s = refl
+row_unlinked [] n (a ∷ r) f s = absurd f
+row_unlinked (t ∷ ts) n [] f s = absurd f
+row_unlinked (t ∷ ts) n (a ∷ r) f zero = ap is_booted f.0.seen
+row_unlinked (t ∷ ts) n (a ∷ r) f (suc s) = row_unlinked ts n r f.1 s
+
 is_new : (ts : List TurnIs) (n : ℕ) (r : List (SeatIs CellEvent)) → IsFreshRow ts n r → IsNew (length ts) n (seen_of n r)
-is_new ts n r f = record { number_is = refl; cells_are = length-map r (λ a. a.seen) ∙ row_size ts n r f; none = row_none ts n r f }
+is_new ts n r f = record { number_is = refl; cells_are = length-map r events_at ∙ row_size ts n r f; none = row_none ts n r f; unlinked = row_unlinked ts n r f }
 
 module _ (ts : List TurnIs) where
   pub naming_first : (rows : List (List (SeatIs CellEvent))) (n : ℕ) (done : List CellsSeen) → n ≡ length rows → done ≡ [] → FreshRows ts 0 rows → Naming ts n rows done 0

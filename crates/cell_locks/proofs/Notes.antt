@@ -6,13 +6,13 @@ use Rattle.turn_lock.specs.Seats.{TurnIs, SeatIs, NoteIs}
 use Rattle.turn_lock.proofs.Rows.{rest_length, rest_at}
 use Rattle.cell_locks.specs.Row.{CellsSeen, AreLocks, AreSeats}
 use Rattle.cell_locks.specs.Notes.{IsNoteAt}
-use Rattle.cell_locks.proofs.Places.{seen_of, within}
+use Rattle.cell_locks.proofs.Places.{events_at, seen_of, within}
 
 -- a note is of a cell at which the row has a seat
 pub note_short : (names : List TurnIs) (n : ℕ) (as' : List (SeatIs CellEvent)) (seen : CellsSeen) → AreSeats names n as' → seen_of n as' ≡ seen → (s : ℕ) (m : NoteIs CellEvent) → IsNoteAt names s m → (s < length as') × (s < length seen.cells)
 note_short names n as' seen seats is s m h =
     let a = ap (λ (x : CellsSeen). length x.cells) is in
-    let k = length-map as' (λ a. a.seen) in
+    let k = length-map as' events_at in
     let r = rest_length names as' seats.rest in
     let w = h.within in
     (omega arith, omega arith)

@@ -1,11 +1,11 @@
 -- Laws for callers: what calls at one cell leave of what was seen at the others, and seats of which nothing was seen.
-use Rattle.std.proofs.Common.{◌≡◌, ◌≢◌, inl, inr, ℕ, zero, suc, ◌+◌, ◌<◌, List, [], ◌∷◌, ◌++◌, length, get_or, set, refl, ap, ◌∙◌, subst, arith}
+use Rattle.std.proofs.Common.{◌≡◌, ◌≢◌, inl, inr, ℕ, zero, suc, ◌+◌, ◌<◌, false, List, [], ◌∷◌, ◌++◌, length, get_or, set, refl, ap, ◌∙◌, subst, arith}
 use mathlib.Core.Logic.{dite}
 use native.Mathlib.Decide.{ℕ_discrete}
 use Rattle.monitor_model.specs.declared.record.CellEvent.{CellEvent}
 use Rattle.turn_lock.specs.Rows.{AllNone}
 use Rattle.turn_lock.proofs.Reversed.{push_length}
-use Rattle.cell_locks.specs.Row.{CellsSeen, OnlyAt, IsNew, AreNew, seen_at}
+use Rattle.cell_locks.specs.Row.{CellsSeen, OnlyAt, IsNew, AreNew, seen_at, link_at}
 use Rattle.cell_locks.specs.Closing.{HasNumber}
 
 set_length : {A : Type 0} (xs : List A) (i : ℕ) (x : A) → length (set xs i x) ≡ length xs
@@ -34,11 +34,20 @@ only_length s a b h = ap (λ (x : CellsSeen). length x.cells) h ∙ set_length a
 pub only_else : (s r : ℕ) (a b : CellsSeen) → r ≢ s → OnlyAt s a b → seen_at b r ≡ seen_at a r
 only_else s r a b ne h = ap (λ (x : CellsSeen). seen_at x r) h ∙ get_else a.cells s r (seen_at b s) [] ne
 
+pub link_else : (s r : ℕ) (a b : CellsSeen) → r ≢ s → OnlyAt s a b → link_at b r ≡ link_at a r
+link_else s r a b ne h = ap (λ (x : CellsSeen). link_at x r) h ∙ get_else a.links s r (link_at b s) false ne
+
 pub only_on : (s : ℕ) (a b c : CellsSeen) → OnlyAt s a b → OnlyAt s b c → OnlyAt s a c
 only_on s a b c p q =
     let n = only_number s a b p in
     let l = ap (λ (x : CellsSeen). x.cells) p in
-    q ∙ (λ i. record { number = n i; cells = (ap (λ l. set l s (seen_at c s)) l ∙ set_twice a.cells s (seen_at b s) (seen_at c s)) i })
+    let m = ap (λ (x : CellsSeen). x.links) p in
+    q
+    ∙ (λ i. record {
+      number = n i;
+      cells = (ap (λ l. set l s (seen_at c s)) l ∙ set_twice a.cells s (seen_at b s) (seen_at c s)) i;
+      links = (ap (λ l. set l s (link_at c s)) m ∙ set_twice a.links s (link_at b s) (link_at c s)) i;
+    })
 
 none_at : (Js : List (List CellEvent)) (s : ℕ) → AllNone Js → get_or Js s [] ≡ []
 none_at [] s h = refl

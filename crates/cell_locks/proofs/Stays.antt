@@ -1,6 +1,6 @@
 -- What the events of others leave of a cell, and what one turn adds.
-use Rattle.std.proofs.Common.{if◌then◌else◌, ◌≡◌, ◌≢◌, ℕ, Bool, true, List, [], ◌∷◌, ◌++◌, refl, sym, ap, ◌∙◌, subst, append_assoc, eq-eqb, ne_eqb}
-use Rattle.std.specs.Prelude.{◌==◌}
+use Rattle.std.proofs.Common.{if◌then◌else◌, ◌≡◌, ◌≢◌, ℕ, Bool, true, false, List, [], ◌∷◌, ◌++◌, Option, Some, None, refl, sym, ap, ◌∙◌, subst, append-nil, append_assoc, eq-eqb, ne_eqb}
+use Rattle.std.specs.Prelude.{IfSome, ◌==◌}
 use mathlib.Core.Logic.{dite}
 use native.Mathlib.Decide.{ℕ_discrete}
 use Rattle.okws_base.specs.Turns.{of, AllBy, AddsBy, GrowsBy}
@@ -8,19 +8,22 @@ use Rattle.monitor_model.specs.declared.record.CellEvent.{CellEvent}
 use Rattle.monitor_model.specs.declared.record.CellEvent.TheVariants as cell
 use Rattle.monitor_model.specs.declared.record.End.{End}
 use Rattle.monitor_model.specs.declared.record.End.TheVariants as end
-use Rattle.monitor_model.specs.Cell.{incarnation, last_booted, after_end}
-use Rattle.site_cell.specs.Held.{by_event}
+use Rattle.okws_plan.specs.declared.configuration.Config.{Config}
+use Rattle.okws_outer.specs.Wire.{Wire}
+use Rattle.monitor_model.specs.Cell.{heard, incarnation, last_booted, after_end}
+use Rattle.monitor_model.specs.Sent.{IsGiven, broken_in}
+use Rattle.site_cell.specs.Held.{by_event, IsLinkOf}
 use Rattle.turn_lock.specs.Seats.{SeatIs}
 
-cons_nil : {A : Type 0} (x : A) (xs : List A) → x ∷ xs ≡ [] → ⊥
+pub cons_nil : {A : Type 0} (x : A) (xs : List A) → x ∷ xs ≡ [] → ⊥
 cons_nil x xs e = absurd (cc)
 
-tail_none : (n : ℕ) (e : CellEvent) (more : List CellEvent) → of (by_event n) n (e ∷ more) ≡ [] → (by_event n e ≢ n) × (of (by_event n) n more ≡ [])
+pub tail_none : (n : ℕ) (e : CellEvent) (more : List CellEvent) → of (by_event n) n (e ∷ more) ≡ [] → (by_event n e ≢ n) × (of (by_event n) n more ≡ [])
 tail_none n e more none = dite (ℕ_discrete (by_event n e) n)
     (λ is. let t = eq-eqb (by_event n e) n is in absurd (cons_nil e (of (by_event n) n more) (subst (λ (b : Bool). (if b then e ∷ of (by_event n) n more else of (by_event n) n more) ≡ []) t none)))
     (λ not. let t = ne_eqb (by_event n e) n not in (not, subst (λ (b : Bool). (if b then e ∷ of (by_event n) n more else of (by_event n) n more) ≡ []) t none))
 
-ends_empty : (how : End) (k : ℕ) → k ≡ 0 → after_end how k ≡ 0
+pub ends_empty : (how : End) (k : ℕ) → k ≡ 0 → after_end how k ≡ 0
 ends_empty end.Reply k e = e
 ends_empty (end.Superseded shown) k e = e
 ends_empty end.BadFrame k e = refl
@@ -66,6 +69,18 @@ pub retired_last : (J : List CellEvent) → last_booted (retired_past J) ≡ las
 retired_last J = dite (ℕ_discrete (incarnation J) 0)
     (λ is. let t = eq-eqb (incarnation J) 0 is in subst (λ (b : Bool). last_booted (if b then J else cell.Retired ∷ J) ≡ last_booted J) (sym t) refl)
     (λ not. let t = ne_eqb (incarnation J) 0 not in subst (λ (b : Bool). last_booted (if b then J else cell.Retired ∷ J) ≡ last_booted J) (sym t) refl)
+
+-- the link of a cell that was retired heard no more
+still_link : (C : Config) (seed : List ℕ) (s : ℕ) (b : Bool) (J : List CellEvent) (wire : Wire) → IsLinkOf C seed s J wire → IsLinkOf C seed s (if b then J else cell.Retired ∷ J) wire
+still_link C seed s true J wire h = h
+still_link C seed s false J wire h = record {
+  given = subst (λ (text : List ℕ). IsGiven text (broken_in (last_booted J) J) wire.given) (sym (append-nil (heard C seed s (last_booted J) J))) h.given;
+  faults = h.faults;
+}
+
+pub retired_link : (C : Config) (seed : List ℕ) (s : ℕ) (J : List CellEvent) (link : Option Wire) → IfSome link (IsLinkOf C seed s J) → IfSome link (IsLinkOf C seed s (retired_past J))
+retired_link C seed s J None h = tt
+retired_link C seed s J (Some wire) h = still_link C seed s (incarnation J == 0) J wire h
 
 module _ {E : Type 0} (by : E → ℕ) where
   all_by-append : (n : ℕ) (xs ys : List E) → AllBy by n xs → AllBy by n ys → AllBy by n (xs ++ ys)

@@ -1,11 +1,19 @@
 -- Closing the locks of a site's cells with the seats of all numbers.
-use Rattle.std.specs.Prelude.{◌≡◌, ◌⊎◌, ℕ, List, [], ◌∷◌}
+use Rattle.std.specs.Prelude.{◌≡◌, ◌⊎◌, ℕ, List, [], ◌∷◌, map}
 use Rattle.okws_base.specs.Turns.{GrowsBy}
 use Rattle.monitor_model.specs.declared.record.CellEvent.{CellEvent}
-use Rattle.site_cell.specs.Held.{by_event}
-use Rattle.turn_lock.specs.Seats.{SeatIs}
+use Rattle.site_cell.specs.Held.{by_event, events_in}
+use Rattle.turn_lock.specs.Seats.{SeatIs, Sight}
 use Rattle.turn_lock.specs.Rows.{RowHas, GrownRow}
 use Rattle.cell_locks.specs.Row.{CellsSeen}
+
+-- A number, and what it has seen of the events of a cell, by what it has seen of what was entered.
+abbrev pub cell_sight : Sight CellEvent → Sight CellEvent
+cell_sight m = record m { seen = events_in m.seen }
+
+-- The same of a seat, and of those that were joined into it.
+abbrev pub cell_seat : SeatIs CellEvent → SeatIs CellEvent
+cell_seat a = record a { seen = events_in a.seen; olds = map cell_sight a.olds }
 
 -- The events of each cell go on from what number n had seen there by events of others alone. Number k launches.
 abbrev pub CellsGrow : ℕ → ℕ → List (List CellEvent) → List (List CellEvent) → Type 0

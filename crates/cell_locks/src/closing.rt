@@ -2,7 +2,7 @@
 
 ghost use Rattle.std.specs.Prelude.{◌≡◌, ◌⊎◌, ℕ, ◌<◌, ◌≤◌, List, [], map, reverse, length, vec_len, vec_capacity};
 ghost use Rattle.monitor_model.specs.declared.record.CellEvent.{CellEvent};
-ghost use Rattle.site_cell.specs.Held.{by_event};
+ghost use Rattle.site_cell.specs.Held.{by_event, events_in};
 ghost use Rattle.turn_lock.specs.Rows.{AllCount, RowHas, GrownRow, NoneFrom};
 ghost use Rattle.cell_locks.specs.Row.{Rise};
 ghost use Rattle.cell_locks.specs.Closing.{CellsGrow, AllCellsGrow, HasNumber};
@@ -16,7 +16,8 @@ use site_cell::named::Numbered;
 use std::marker::{Model, PhantomData};
 use turn_lock::{Seat, end_row, join_row};
 
-/// The seats at a site's cells into which those of all numbers are joined. Contracts see the row of seats.
+/// The seats at a site's cells into which those of all numbers are joined. Contracts see the row of seats, with
+/// what was seen of the cells' events.
 #[derive(Drop)]
 pub struct CellEnds<N: Numbered, C: CellNames, L: Link> {
     seats: Vec<Seat<SiteCell<N, L>>>,
@@ -24,14 +25,15 @@ pub struct CellEnds<N: Numbered, C: CellNames, L: Link> {
 }
 
 impl<N: Numbered, C: CellNames, L: Link> Model for CellEnds<N, C, L> {
-    ghost use Rattle.std.specs.Prelude.{List};
+    ghost use Rattle.std.specs.Prelude.{List, map};
     ghost use Rattle.monitor_model.specs.declared.record.CellEvent.{CellEvent};
     ghost use Rattle.turn_lock.specs.Seats.{SeatIs};
     ghost use Rattle.turn_lock.specs.Rows.{RestRow};
+    ghost use Rattle.cell_locks.specs.Closing.{cell_seat};
 
     ghost Value = { List (SeatIs CellEvent) };
 
-    ghost view = { λ e. e.seats.items };
+    ghost view = { λ e. map cell_seat e.seats.items };
 
     ghost invariant = { λ e. RestRow C.cell_turns e.seats.items };
 }
@@ -68,6 +70,15 @@ impl<N: Numbered, C: CellNames, L: Link> CellEnds<N, C, L> {
     }
 }
 
+// What the types of these cells tell of them.
+fn keep_all<N: Numbered, L: Link>(cells: &[SiteCell<N, L>])
+    ensures { map (λ c. c.standing.past) cells.now ≡ map events_in (map (λ c. c.entered) cells.now) }
+{
+    for cell in cells {
+        cell.keeps();
+    }
+}
+
 // The same, the last first.
 fn turned<T>(mut items: Vec<T>) -> Vec<T>
     ensures { result.items ≡ reverse items.items }
@@ -101,6 +112,7 @@ pub fn end_cells<N: Numbered, C: CellNames, L: Link>(
     let CellEnds { seats, of: _ } = ends;
     let mut done = done;
     end_row(turns, seats, &mut done, count);
+    keep_all(&done);
     turned(done)
 }
 

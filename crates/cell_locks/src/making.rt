@@ -62,7 +62,7 @@ pub fn make_cells<N: Numbered, L: Link + Drop>(
     count: u16,
 ) -> Result<NewCells<N, L>, AllocError>
     requires count { 0 < count }
-    requires new { AllNone (map (λ c. c.standing.past) cells.items) }
+    requires new { AllNone (map (λ c. c.entered) cells.items) }
     requires services { Rise 0 (map (λ c. c.standing.service) cells.items) }
     ensures locks { IfOk result (λ m. (length m.turns ≡ vec_len cells) × AllCount count m.turns) }
     ensures numbers { IfOk result (λ m. m.numbers ≡ count) }

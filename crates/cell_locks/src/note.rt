@@ -2,6 +2,7 @@
 
 ghost use Rattle.std.specs.Prelude.{◌≡◌};
 
+use crate::locks::CellLocks;
 use crate::named::CellNames;
 use okws_outer::stream::Link;
 use site_cell::cell::SiteCell;
@@ -19,11 +20,12 @@ pub struct CellNote<N: Numbered, C: CellNames, L: Link> {
 }
 
 impl<N: Numbered, C: CellNames, L: Link> Model for CellNote<N, C, L> {
+    ghost use Rattle.site_cell.specs.Held.{events_in};
     ghost use Rattle.cell_locks.specs.Notes.{CellNoteIs, IsNoteAt};
 
     ghost Value = { CellNoteIs };
 
-    ghost view = { λ n. record { service = n.service; seen = n.note.seen } };
+    ghost view = { λ n. record { service = n.service; seen = events_in n.note.seen } };
 
     ghost invariant = { λ n. IsNoteAt C.cell_turns n.service n.note };
 }
@@ -34,5 +36,19 @@ impl<N: Numbered, C: CellNames, L: Link> CellNote<N, C, L> {
         ensures { result ≡ self.now.service }
     {
         self.service
+    }
+
+    /// Another note of the same. It takes no turn and no memory.
+    pub fn again(&mut self, locks: &CellLocks<N, C, L>) -> CellNote<N, C, L>
+        ensures same { self.new ≡ self.old }
+        ensures again { result ≡ self.old }
+    {
+        let i = self.service as usize;
+        let lock = &locks.turns[i];
+        CellNote {
+            service: self.service,
+            note: lock.again(&mut self.note),
+            of: PhantomData,
+        }
     }
 }

@@ -1,13 +1,13 @@
 //! The seats of one number at a site's cells.
 
-ghost use Rattle.std.specs.Prelude.{◌≡◌, ◌≤◌, ◌<◌, ◌+◌, length, IfOk};
+ghost use Rattle.std.specs.Prelude.{◌≡◌, ◌≤◌, ◌<◌, ℕ, ◌+◌, false, length, is_some, option_map, IfOk, IfSome};
 ghost use Rattle.okws_base.specs.Turns.{GrowsBy, Behind};
 ghost use Rattle.okws_base.specs.declared.limit.TheConstants.{LONGEST_FRAME, MOST_INCARNATIONS, MOST_PROXIES};
-ghost use Rattle.monitor_model.specs.Cell.{incarnation, last_booted, boot_frame};
+ghost use Rattle.monitor_model.specs.Cell.{CellLaw, incarnation, last_booted, boot_frame};
 ghost use Rattle.service_cell.specs.Asking.{KeepsBoard};
 ghost use Rattle.service_cell.specs.Standing.{IsFresh};
-ghost use Rattle.site_cell.specs.Held.{by_event};
-ghost use Rattle.cell_locks.specs.Row.{seen_at, OnlyAt};
+ghost use Rattle.site_cell.specs.Held.{by_event, has_booted, IsLinkOf};
+ghost use Rattle.cell_locks.specs.Row.{seen_at, link_at, OnlyAt};
 ghost use Rattle.cell_locks.specs.Turns.{GivesLast, HasTalked, HasLaunched, HasRetired};
 
 use crate::answer::Launched;
@@ -29,7 +29,7 @@ use std::sync::Wait;
 use turn_lock::Seat;
 
 /// The seats of one number at all cells of a site, none of which holds its turn. Contracts see the number,
-/// and what was seen at each cell: its events, the newest first.
+/// and what was seen at each cell: its events, the newest first, and whether it had its link.
 #[derive(Drop)]
 pub struct CellSeats<N: Numbered, C: CellNames, L: Link> {
     pub(crate) number: u16,
@@ -39,11 +39,12 @@ pub struct CellSeats<N: Numbered, C: CellNames, L: Link> {
 
 impl<N: Numbered, C: CellNames, L: Link> Model for CellSeats<N, C, L> {
     ghost use Rattle.std.specs.Prelude.{map};
+    ghost use Rattle.site_cell.specs.Held.{events_in, is_booted};
     ghost use Rattle.cell_locks.specs.Row.{CellsSeen, AreSeats};
 
     ghost Value = { CellsSeen };
 
-    ghost view = { λ s. record { number = s.number; cells = map (λ a. a.seen) s.seats.items } };
+    ghost view = { λ s. record { number = s.number; cells = map (λ a. events_in a.seen) s.seats.items; links = map (λ a. is_booted a.seen) s.seats.items } };
 
     ghost invariant = { λ s. AreSeats C.cell_turns s.number s.seats.items };
 }
@@ -62,6 +63,13 @@ impl<N: Numbered, C: CellNames, L: Link> CellSeats<N, C, L> {
         ensures locks { result ≡ length C.cell_turns }
     {
         self.seats.len()
+    }
+
+    /// What the seats' type tells of what was seen: a cell whose link is out has no incarnation.
+    pub fn keeps(&self)
+        ensures { (s : ℕ) → link_at self.now s ≡ false → incarnation (seen_at self.now s) ≡ 0 }
+    {
+        let _seats = &self.seats;
     }
 
     /// A whole dialog of a worker at the cell of a service, in one turn. Where the service replies, the Reply
@@ -99,6 +107,7 @@ impl<N: Numbered, C: CellNames, L: Link> CellSeats<N, C, L> {
         requires { service < length self.old.cells }
         ensures incarnation { result ≡ incarnation (seen_at self.new service) }
         ensures grows { GrowsBy (by_event N.launcher) self.old.number (seen_at self.old service) (seen_at self.new service) }
+        ensures link { self.old.number ≡ N.launcher → link_at self.new service ≡ link_at self.old service }
         ensures only { OnlyAt service self.old self.new }
     {
         let i = service as usize;
@@ -122,6 +131,7 @@ impl<N: Numbered, C: CellNames, L: Link> CellSeats<N, C, L> {
         ensures tokens { IfOk result (λ v. ServerFrame.Boot service number v.items ≡ boot_frame N.site N.run_seed service number) }
         ensures few { IfOk result (λ v. length v.items ≤ MOST_PROXIES) }
         ensures grows { GrowsBy (by_event N.launcher) self.old.number (seen_at self.old service) (seen_at self.new service) }
+        ensures link { self.old.number ≡ N.launcher → link_at self.new service ≡ link_at self.old service }
         ensures only { OnlyAt service self.old self.new }
     {
         let i = service as usize;
@@ -149,6 +159,7 @@ impl<N: Numbered, C: CellNames, L: Link> CellSeats<N, C, L> {
         requires tokens { ServerFrame.Boot service number tokens ≡ boot_frame N.site N.run_seed service number }
         requires fresh { IsFresh (L.wire link) }
         ensures launched { HasLaunched L.wire N.launcher link (ServerFrame.Boot service number tokens) number service (seen_at self.old service) result (seen_at self.new service) }
+        ensures link { link_at self.new service ≡ has_booted result.booting }
         ensures only { OnlyAt service self.old self.new }
     {
         let i = service as usize;
@@ -158,7 +169,8 @@ impl<N: Numbered, C: CellNames, L: Link> CellSeats<N, C, L> {
     }
 
     /// Retires the incarnation at the cell of a service, where there is one, in one turn, and takes the link
-    /// out. Tells which incarnation was there, 0 for none. Takes no memory.
+    /// out, which is there where the launcher has booted the cell since it took one out last, and was given
+    /// what the last incarnation heard. Tells which incarnation was there, 0 for none. Takes no memory.
     pub fn retire<R: Wait>(
         &mut self,
         rt: &R,
@@ -170,6 +182,10 @@ impl<N: Numbered, C: CellNames, L: Link> CellSeats<N, C, L> {
         ensures retired { HasRetired L.wire N.launcher service (seen_at self.old service) result.0 result.1 (seen_at self.new service) }
         ensures empty { incarnation (seen_at self.new service) ≡ 0 }
         ensures last { last_booted (seen_at self.new service) ≡ last_booted (seen_at self.old service) }
+        ensures taken { is_some result.1 ≡ link_at self.old service }
+        ensures law { CellLaw (seen_at self.new service) }
+        ensures holds { IfSome (option_map L.wire result.1) (IsLinkOf N.site N.run_seed service (seen_at self.new service)) }
+        ensures link { link_at self.new service ≡ false }
         ensures only { OnlyAt service self.old self.new }
     {
         let i = service as usize;
@@ -199,6 +215,7 @@ impl<N: Numbered, C: CellNames, L: Link> CellSeats<N, C, L> {
     pub fn meet(&mut self, locks: &CellLocks<N, C, L>, note: CellNote<N, C, L>)
         ensures met { Behind note.seen (seen_at self.new note.service) }
         ensures grows { GrowsBy (by_event N.launcher) self.old.number (seen_at self.old note.service) (seen_at self.new note.service) }
+        ensures link { self.old.number ≡ N.launcher → link_at self.new note.service ≡ link_at self.old note.service }
         ensures only { OnlyAt note.service self.old self.new }
     {
         let CellNote {

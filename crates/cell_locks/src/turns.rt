@@ -1,13 +1,13 @@
 //! One turn at one cell.
 
-ghost use Rattle.std.specs.Prelude.{◌≡◌, ◌≤◌, ◌<◌, ◌+◌, false, length, IfOk};
+ghost use Rattle.std.specs.Prelude.{◌≡◌, ◌≤◌, ◌<◌, ◌+◌, false, length, is_some, option_map, IfOk, IfSome};
 ghost use Rattle.okws_base.specs.Turns.{GrowsBy};
 ghost use Rattle.okws_base.specs.declared.limit.TheConstants.{LONGEST_FRAME, MOST_INCARNATIONS, MOST_PROXIES};
-ghost use Rattle.monitor_model.specs.Cell.{incarnation, last_booted, boot_frame};
+ghost use Rattle.monitor_model.specs.Cell.{CellLaw, incarnation, last_booted, boot_frame};
 ghost use Rattle.service_cell.specs.Asking.{KeepsBoard};
 ghost use Rattle.service_cell.specs.Ending.{IsSpelledReply};
 ghost use Rattle.service_cell.specs.Standing.{IsFresh};
-ghost use Rattle.site_cell.specs.Held.{by_event};
+ghost use Rattle.site_cell.specs.Held.{by_event, events_in, has_booted, is_booted, IsLinkOf};
 ghost use Rattle.cell_locks.specs.Turns.{reply_frame, HasReplied, RepliedIf, EndsInReply, GivesLast, HasTalked, HasLaunched, HasRetired};
 
 use crate::answer::Launched;
@@ -90,13 +90,14 @@ pub(crate) fn talk<R: Wait, N: Numbered, L: Link, C: Columns>(
     requires wanted { 0 < wanted }
     requires declared { seat.old.label < length (C.asker columns.old).config.services }
     requires short { length head + length content + 9 ≤ LONGEST_FRAME }
-    ensures talked { HasTalked N.launcher (C.asker columns.old) (C.shows columns.new seat.old.label) head content wanted seat.old.label seat.old.seen (C.seen columns.old) result seat.new.seen (C.seen columns.new) }
-    ensures gives { GivesLast result reply.new seat.new.seen }
+    ensures talked { HasTalked N.launcher (C.asker columns.old) (C.shows columns.new seat.old.label) head content wanted seat.old.label (events_in seat.old.seen) (C.seen columns.old) result (events_in seat.new.seen) (C.seen columns.new) }
+    ensures gives { GivesLast result reply.new (events_in seat.new.seen) }
     ensures seat { seat.new ≡ record seat.old { seen = seat.new.seen } }
     ensures board { KeepsBoard C.asker C.shows C.token_seed C.spare columns.old columns.new }
 {
     let gate = gate.lock(rt);
     let mut cell = lock.take(rt, seat);
+    cell.keeps();
     let spoken = cell.dialog(head, content, wanted, columns);
     fill_where(reply, spoken, &cell);
     lock.give(seat, cell);
@@ -112,11 +113,13 @@ pub(crate) fn look<R: Wait, N: Numbered, L: Link>(
 ) -> u32
     requires lock { seat.old.lock ≡ lock.now.id }
     requires free { seat.old.held ≡ false }
-    ensures incarnation { result ≡ incarnation seat.new.seen }
-    ensures grows { GrowsBy (by_event N.launcher) seat.old.number seat.old.seen seat.new.seen }
+    ensures incarnation { result ≡ incarnation (events_in seat.new.seen) }
+    ensures grows { GrowsBy (by_event N.launcher) seat.old.number (events_in seat.old.seen) (events_in seat.new.seen) }
+    ensures link { seat.old.number ≡ N.launcher → is_booted seat.new.seen ≡ is_booted seat.old.seen }
     ensures seat { seat.new ≡ record seat.old { seen = seat.new.seen } }
 {
     let cell = lock.take(rt, seat);
+    cell.keeps();
     let incarnation = cell.incarnation();
     lock.give(seat, cell);
     incarnation
@@ -136,7 +139,8 @@ pub(crate) fn tokens<R: Wait, N: Numbered, L: Link>(
     requires proxies { length N.site.proxies ≤ MOST_PROXIES }
     ensures tokens { IfOk result (λ v. ServerFrame.Boot seat.old.label number v.items ≡ boot_frame N.site N.run_seed seat.old.label number) }
     ensures few { IfOk result (λ v. length v.items ≤ MOST_PROXIES) }
-    ensures grows { GrowsBy (by_event N.launcher) seat.old.number seat.old.seen seat.new.seen }
+    ensures grows { GrowsBy (by_event N.launcher) seat.old.number (events_in seat.old.seen) (events_in seat.new.seen) }
+    ensures link { seat.old.number ≡ N.launcher → is_booted seat.new.seen ≡ is_booted seat.old.seen }
     ensures seat { seat.new ≡ record seat.old { seen = seat.new.seen } }
 {
     let cell = lock.take(rt, seat);
@@ -157,15 +161,17 @@ pub(crate) fn boot<R: Wait, N: Numbered, L: Link>(
     requires lock { seat.old.lock ≡ lock.now.id }
     requires free { seat.old.held ≡ false }
     requires launcher { seat.old.number ≡ N.launcher }
-    requires empty { incarnation seat.old.seen ≡ 0 }
-    requires later { last_booted seat.old.seen < number }
+    requires empty { incarnation (events_in seat.old.seen) ≡ 0 }
+    requires later { last_booted (events_in seat.old.seen) < number }
     requires few { length tokens < 256 }
     requires tokens { ServerFrame.Boot seat.old.label number tokens ≡ boot_frame N.site N.run_seed seat.old.label number }
     requires fresh { IsFresh (L.wire link) }
-    ensures launched { HasLaunched L.wire N.launcher link (ServerFrame.Boot seat.old.label number tokens) number seat.old.label seat.old.seen result seat.new.seen }
+    ensures launched { HasLaunched L.wire N.launcher link (ServerFrame.Boot seat.old.label number tokens) number seat.old.label (events_in seat.old.seen) result (events_in seat.new.seen) }
+    ensures link { is_booted seat.new.seen ≡ has_booted result.booting }
     ensures seat { seat.new ≡ record seat.old { seen = seat.new.seen } }
 {
     let mut cell = lock.take(rt, seat);
+    cell.keeps();
     let left = cell.retire();
     let booting = cell.boot(link, number, tokens);
     lock.give(seat, cell);
@@ -182,10 +188,15 @@ pub(crate) fn retire<R: Wait, N: Numbered, L: Link>(
     requires lock { seat.old.lock ≡ lock.now.id }
     requires free { seat.old.held ≡ false }
     requires launcher { seat.old.number ≡ N.launcher }
-    ensures retired { HasRetired L.wire N.launcher seat.old.label seat.old.seen result.0 result.1 seat.new.seen }
+    ensures retired { HasRetired L.wire N.launcher seat.old.label (events_in seat.old.seen) result.0 result.1 (events_in seat.new.seen) }
+    ensures taken { is_some result.1 ≡ is_booted seat.old.seen }
+    ensures law { CellLaw (events_in seat.new.seen) }
+    ensures holds { IfSome (option_map L.wire result.1) (IsLinkOf N.site N.run_seed seat.old.label (events_in seat.new.seen)) }
+    ensures link { is_booted seat.new.seen ≡ false }
     ensures seat { seat.new ≡ record seat.old { seen = seat.new.seen } }
 {
     let mut cell = lock.take(rt, seat);
+    cell.keeps();
     let was = cell.incarnation();
     let link = cell.retire();
     lock.give(seat, cell);

@@ -22,7 +22,7 @@ use Rattle.monitor_model.specs.declared.verdict.Push.{Push}
 use Rattle.monitor_model.specs.Cell.{incarnation, last_booted, after_end, heard}
 use Rattle.monitor_model.specs.Course.{Speaker, heard_text, opening}
 use Rattle.monitor_model.specs.Seen.{Seen}
-use Rattle.monitor_model.specs.Sent.{or_else, cut_items, MayBeNext, IsCut, IsGiven}
+use Rattle.monitor_model.specs.Sent.{cut_items, MayBeNext, IsCut, IsGiven}
 use Rattle.service_cell.specs.Exchange.{Opens, Exchanges}
 use Rattle.service_cell.specs.Hearing.{Hearing, heard_more, hearings, AreGiven, AreHeard}
 use Rattle.service_cell.specs.Standing.{Open, all_sent, IsFresh, Moves, Breaks}

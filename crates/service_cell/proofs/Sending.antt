@@ -13,7 +13,9 @@ use Rattle.monitor_model.specs.declared.sent.Sent.{Sent}
 use Rattle.monitor_model.specs.Cell.{CellLaw, incarnation, last_booted, after_end, boot_frame, heard}
 use Rattle.monitor_model.specs.Course.{heard_text}
 use Rattle.monitor_model.specs.Sent.{or_else, cut_items, broken_in, all_booted, IsGiven, IsSent, AreSent}
-use Rattle.service_cell.specs.Hearing.{Hearing, heard_more, hearings, AreGiven}
+use Rattle.okws_outer.specs.Wire.{Wire}
+use Rattle.service_cell.specs.Hearing.{Hearing, heard_more, hearings, AreGiven, AreHeard}
+use Rattle.service_cell.specs.Standing.{Open, all_sent, with_open}
 use Rattle.service_cell.proofs.Hearing.{was_there}
 
 -- ---- incarnations
@@ -54,7 +56,7 @@ unheard C seed s k (cell.Missed worker wanted is ∷ J) below = rw (unheard C se
 unheard C seed s k (cell.Dialog d ∷ J) below = rw (unheard C seed s k J below, ne_eqb (incarnation J) k (omega (arith, below, low J))) refl
 unheard C seed s k (cell.Speaking worker items ∷ J) below = rw (unheard C seed s k J below, ne_eqb (incarnation J) k (omega (arith, below, low J))) refl
 
-unbroken : (k : ℕ) (J : List CellEvent) → last_booted J < k → broken_in k J ≡ None
+pub unbroken : (k : ℕ) (J : List CellEvent) → last_booted J < k → broken_in k J ≡ None
 unbroken k [] below = refl
 unbroken k (cell.Boot j ∷ J) below = unbroken k J (omega (arith, below))
 unbroken k (cell.Retired ∷ J) below = unbroken k J below
@@ -221,3 +223,9 @@ are_sent C seed s J sent law g = record {
   all = given_numbers (hearings C seed s J) sent g ∙ all_numbers C seed s J;
   each = given_each C seed s J (hearings C seed s J) sent (told C seed s J law) g;
 }
+
+-- of a cell at which no dialog is open
+pub closed_sent : (C : Config) (seed : List ℕ) (s : ℕ) (J : List CellEvent) (o : Option Open) (link : Option Wire) (sent : List Sent) → o ≡ None → CellLaw J → AreHeard C seed s J o link sent → AreSent C seed s J (all_sent (last_booted J) link sent)
+closed_sent C seed s J o link sent closed law heard =
+    are_sent C seed s J (all_sent (last_booted J) link sent) law
+    (subst (λ (x : Option Open). AreGiven (hearings C seed s (with_open x J)) (all_sent (last_booted J) link sent)) closed heard)

@@ -169,11 +169,14 @@ impl<L: Link> Cell<L> {
         }
     }
 
-    /// Takes the link out, and enters Retired where the cell has an incarnation. Takes no memory.
+    /// Takes the link out, and enters Retired where the cell has an incarnation. The links were given what
+    /// their incarnations heard. Takes no memory.
     pub fn retire(&mut self) -> Option<L>
         requires { self.old.open_dialog ≡ None }
         ensures cell { self.new ≡ retired self.old }
         ensures link { option_map L.wire result ≡ self.old.link }
+        ensures law { CellLaw self.new.past }
+        ensures sent { AreSent self.old.config self.old.seed self.old.service self.old.past (all_sent (last_booted self.old.past) self.old.link self.old.sent) }
     {
         if self.incarnation != 0 {
             self.events.enter(CellEvent::Retired);

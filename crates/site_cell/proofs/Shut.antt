@@ -1,93 +1,220 @@
 -- What a call leaves of a cell at which no dialog is open.
-use Rattle.std.proofs.Common.{◌≡◌, ℕ, Bool, true, false, List, [], ◌∷◌, Option, None, refl, ap, subst, sym, ◌∙◌}
-use Rattle.std.specs.Prelude.{if◌then◌else◌, ◌==◌}
+use Rattle.std.proofs.Common.{◌≡◌, inl, inr, ℕ, ◌<◌, ◌≤◌, Bool, true, false, List, [], ◌∷◌, Option, Some, None, refl, ap, sym, ◌∙◌, subst, arith}
+use Rattle.std.specs.Prelude.{IfSome, if◌then◌else◌, ◌==◌, is_some, max, option_map}
+use Rattle.std.proofs.lemmas.Bool.{false≢true}
+use Rattle.okws_outer.specs.Streams.{Rose}
 use Rattle.okws_base.specs.Turns.{AddsBy}
 use Rattle.okws_plan.specs.declared.configuration.Config.{Config}
 use Rattle.frame_codec.specs.declared.frame.ServerFrame.{ServerFrame}
+use Rattle.frame_codec.specs.declared.frame.ServiceFrame.TheVariants as said
 use Rattle.okws_outer.specs.Wire.{Wire}
 use Rattle.monitor_model.specs.declared.record.CellEvent.{CellEvent}
 use Rattle.monitor_model.specs.declared.record.CellEvent.TheVariants as cell
 use Rattle.monitor_model.specs.declared.record.End.{End}
+use Rattle.monitor_model.specs.declared.record.End.TheVariants as end
 use Rattle.monitor_model.specs.declared.record.Item.{Item}
-use Rattle.monitor_model.specs.Cell.{incarnation}
+use Rattle.monitor_model.specs.declared.record.Item.TheVariants.{Said}
+use Rattle.monitor_model.specs.Cell.{incarnation, last_booted}
+use Rattle.monitor_model.specs.Sent.{AreSent, broken_in, is_link_fault, or_else}
+use Rattle.monitor_model.specs.declared.sent.Sent.{Sent}
 use Rattle.monitor_model.specs.Seen.{Seen}
 use Rattle.service_cell.specs.Asking.{Asker}
-use Rattle.site_cell.specs.Held.{by_event, IsShut}
-use Rattle.service_cell.specs.Dialogs.{Dialogs}
-use Rattle.service_cell.specs.Standing.{Standing, finished}
-use Rattle.service_cell.specs.Steps.{Boots, retired}
+use Rattle.site_cell.specs.Held.{by_event, events_in, is_booted, newest, with_boot, with_dialog, is_broken, HasCounted, IsLinkOf, IsShut}
+use Rattle.service_cell.specs.Dialogs.{Dialogs, GoesOver}
+use Rattle.service_cell.specs.Standing.{Standing, all_sent, finished, Passes, Fails}
+use Rattle.service_cell.specs.Steps.{Boots, crash_end, retired}
 use Rattle.service_cell.specs.declared.answer.Booting.{Booting}
 use Rattle.service_cell.specs.declared.answer.Booting.TheVariants as booting
 use Rattle.service_cell.specs.declared.answer.Spoken.{Spoken}
 use Rattle.service_cell.specs.declared.answer.Spoken.TheVariants as spoken
+use Rattle.service_cell.proofs.Sending.{unbroken}
 
--- The same cell, at which number w may have entered something; number n launches.
-pub record Keeps (n w : ℕ) (c d : Standing) : Type 0 where
+-- The same cell, at which number w may have entered something, from E to F; number n launches.
+pub record Keeps (n w : ℕ) (E F : List CellEvent) (c d : Standing) : Type 0 where
   pub config_is : d.config ≡ c.config
   pub seed_is : d.seed ≡ c.seed
   pub service_is : d.service ≡ c.service
   pub open_is : c.open_dialog ≡ None → d.open_dialog ≡ None
-  pub adds : AddsBy (by_event n) w c.past d.past
+  pub past_is : c.past ≡ events_in E → d.past ≡ events_in F
+  pub link_is : is_some c.link ≡ is_booted E → is_some d.link ≡ is_booted F
+  pub counted : HasCounted c.past c.link → HasCounted d.past d.link
+  pub adds : AddsBy (by_event n) w E F
 
-pub still_shut : (C : Config) (seed : List ℕ) (n w : ℕ) (c d : Standing) → IsShut C seed c → Keeps n w c d → IsShut C seed d
-still_shut C seed n w c d shut keeps = record { closed = keeps.open_is shut.closed; config_is = keeps.config_is ∙ shut.config_is; seed_is = keeps.seed_is ∙ shut.seed_is }
+pub still_shut : (C : Config) (seed : List ℕ) (n w : ℕ) (E F : List CellEvent) (c d : Standing) → IsShut C seed E c → Keeps n w E F c d → IsShut C seed F d
+still_shut C seed n w E F c d shut keeps = record {
+  closed = keeps.open_is shut.closed;
+  config_is = keeps.config_is ∙ shut.config_is;
+  seed_is = keeps.seed_is ∙ shut.seed_is;
+  past_is = keeps.past_is shut.past_is;
+  link_is = keeps.link_is shut.link_is;
+  counted = keeps.counted shut.counted;
+}
 
-keeps_same : (n w : ℕ) (c d : Standing) → d ≡ c → Keeps n w c d
-keeps_same n w c d is = record {
+-- ---- the link stays where a dialog goes over it
+
+passes_link : (old new : Option Wire) (taken put : List ℕ) → Passes old new taken put → is_some new ≡ is_some old
+passes_link None new taken put h = absurd h
+passes_link (Some wire) None taken put h = absurd h
+passes_link (Some wire) (Some now) taken put h = refl
+
+fails_link : (old new : Option Wire) (taken put due : List ℕ) → Fails old new taken put due → is_some new ≡ is_some old
+fails_link None new taken put due h = absurd h
+fails_link (Some wire) None taken put due h = absurd h
+fails_link (Some wire) (Some now) taken put due h = refl
+
+goes_link : (old new : Option Wire) (since left due : List ℕ) (items : List Item) (how : End) → GoesOver old new since left due items how → is_some new ≡ is_some old
+goes_link old new since left due items end.Reply h = passes_link old new _ _ h
+goes_link old new since left due items (end.Superseded shown) (inl h) = ap is_some h.1
+goes_link old new since left due items (end.Superseded shown) (inr h) = passes_link old new _ _ h
+goes_link old new since left due items end.BadFrame h = passes_link old new _ _ h.0
+goes_link old new since left due items end.Ended h = passes_link old new _ _ h.0
+goes_link old new since left due items end.LinkFault h = fails_link old new _ _ due h.1
+goes_link old new since left due items end.FrameLimit h = passes_link old new _ _ h
+goes_link old new since left due items end.Starved h = passes_link old new _ _ h.1
+
+-- ---- the link counts its fault
+
+same_either : {A : Type 0} (b : Bool) (x : A) → (if b then x else x) ≡ x
+same_either true x = refl
+same_either false x = refl
+
+-- a dialog that ended otherwise breaks nothing
+unbroken_by : (J : List CellEvent) (w : ℕ) (items : List Item) (how : End) → is_link_fault how ≡ false → is_broken (cell.Dialog (record { worker = w; items = items; end = how }) ∷ J) ≡ is_broken J
+unbroken_by J w items how other =
+    ap (λ (b : Bool). is_some (if incarnation J == last_booted J then or_else (if b then Some items else None) (broken_in (last_booted J) J) else broken_in (last_booted J) J)) other
+    ∙ ap is_some (same_either (incarnation J == last_booted J) (broken_in (last_booted J) J))
+
+no_fewer : (a b : ℕ) → a ≤ b → 0 < a → 0 < b
+no_fewer a b more some = omega (arith, more, some)
+
+some_rose : (a b : ℕ) → Rose a b → 0 < b
+some_rose a b rose = omega (arith, rose)
+
+counted_as : (J K : List CellEvent) (link : Option Wire) → is_broken K ≡ is_broken J → HasCounted J link → HasCounted K link
+counted_as J K None same counted = tt
+counted_as J K (Some wire) same counted = λ broken. counted (sym same ∙ broken)
+
+passes_counts : (J K : List CellEvent) (old new : Option Wire) (taken put : List ℕ) → is_broken K ≡ is_broken J → Passes old new taken put → HasCounted J old → HasCounted K new
+passes_counts J K None new taken put same h counted = absurd h
+passes_counts J K (Some wire) None taken put same h counted = absurd h
+passes_counts J K (Some wire) (Some now) taken put same h counted = λ broken. no_fewer wire.faults now.faults h.faults (counted (sym same ∙ broken))
+
+fails_counts : (K : List CellEvent) (old new : Option Wire) (taken put due : List ℕ) → Fails old new taken put due → HasCounted K new
+fails_counts K None new taken put due h = absurd h
+fails_counts K (Some wire) None taken put due h = absurd h
+fails_counts K (Some wire) (Some now) taken put due h = λ broken. some_rose wire.faults now.faults h.faults
+
+module _ (J : List CellEvent) (w : ℕ) (old new : Option Wire) (since left due : List ℕ) (items : List Item) where
+  -- the events with the dialog
+  abbrev ended_so : End → List CellEvent
+  ended_so how = cell.Dialog (record { worker = w; items = items; end = how }) ∷ J
+
+  passes_so : (how : End) (taken put : List ℕ) → is_link_fault how ≡ false → Passes old new taken put → HasCounted J old → HasCounted (ended_so how) new
+  passes_so how taken put other h counted = passes_counts J (ended_so how) old new taken put (unbroken_by J w items how other) h counted
+
+  goes_counts : (how : End) → GoesOver old new since left due items how → HasCounted J old → HasCounted (ended_so how) new
+  goes_counts end.Reply h counted = passes_so end.Reply _ _ refl h counted
+  goes_counts (end.Superseded shown) (inl h) counted =
+      subst (HasCounted (ended_so (end.Superseded shown))) (sym h.1) (counted_as J (ended_so (end.Superseded shown)) old (unbroken_by J w items (end.Superseded shown) refl) counted)
+  goes_counts (end.Superseded shown) (inr h) counted = passes_so (end.Superseded shown) _ _ refl h counted
+  goes_counts end.BadFrame h counted = passes_so end.BadFrame _ _ refl h.0 counted
+  goes_counts end.Ended h counted = passes_so end.Ended _ _ refl h.0 counted
+  goes_counts end.LinkFault h counted = fails_counts (ended_so end.LinkFault) old new _ _ due h.1
+  goes_counts end.FrameLimit h counted = passes_so end.FrameLimit _ _ refl h counted
+  goes_counts end.Starved h counted = passes_so end.Starved _ _ refl h.1 counted
+
+-- a link was put on a cell by a Boot
+boot_counts : (k : ℕ) (J : List CellEvent) (link : Option Wire) → last_booted J < k → HasCounted (cell.Boot k ∷ J) link
+boot_counts k J None later = tt
+boot_counts k J (Some wire) later = λ broken. absurd (false≢true (sym (ap is_some (unbroken (max k (last_booted J)) J (omega (arith, later)))) ∙ broken))
+
+pub some_link : {L : Type 0} (f : L → Wire) (link : Option L) → is_some link ≡ is_some (option_map f link)
+some_link f None = refl
+some_link f (Some x) = refl
+
+-- ---- each call
+
+keeps_same : (n w : ℕ) (E : List CellEvent) (c d : Standing) → d ≡ c → Keeps n w E E c d
+keeps_same n w E c d is = record {
   config_is = ap (λ (s : Standing). s.config) is;
   seed_is = ap (λ (s : Standing). s.seed) is;
   service_is = ap (λ (s : Standing). s.service) is;
   open_is = λ none. ap (λ (s : Standing). s.open_dialog) is ∙ none;
-  adds = ([], tt, ap (λ (s : Standing). s.past) is);
+  past_is = λ past. ap (λ (s : Standing). s.past) is ∙ past;
+  link_is = λ link. ap (λ (s : Standing). is_some s.link) is ∙ link;
+  counted = λ counted. subst (λ (s : Standing). HasCounted s.past s.link) (sym is) counted;
+  adds = ([], tt, refl);
 }
 
-keeps_finished : (n w : ℕ) (c d : Standing) (items : List Item) (how : End) (link : Option Wire) → d ≡ finished c w items how link → Keeps n w c d
-keeps_finished n w c d items how link is = record {
+keeps_finished : (n w : ℕ) (E : List CellEvent) (c d : Standing) (items : List Item) (how : End) (link : Option Wire) → is_some link ≡ is_some c.link
+    → (HasCounted c.past c.link → HasCounted (cell.Dialog (record { worker = w; items = items; end = how }) ∷ c.past) link) → d ≡ finished c w items how link → Keeps n w E (newest d.past ∷ E) c d
+keeps_finished n w E c d items how link same counts is = record {
   config_is = ap (λ (s : Standing). s.config) is;
   seed_is = ap (λ (s : Standing). s.seed) is;
   service_is = ap (λ (s : Standing). s.service) is;
   open_is = λ none. ap (λ (s : Standing). s.open_dialog) is;
-  adds = (cell.Dialog (record { worker = w; items = items; end = how }) ∷ [], (refl, tt), ap (λ (s : Standing). s.past) is);
+  past_is = λ past. ap (λ (s : Standing). s.past) is
+      ∙ (ap (λ J. cell.Dialog (record { worker = w; items = items; end = how }) ∷ J) past ∙ sym (ap (λ (s : Standing). events_in (newest s.past ∷ E)) is));
+  link_is = λ linked. ap (λ (s : Standing). is_some s.link) is ∙ (same ∙ (linked ∙ sym (ap (λ (s : Standing). is_booted (newest s.past ∷ E)) is)));
+  counted = λ counted. subst (λ (s : Standing). HasCounted s.past s.link) (sym is) (counts counted);
+  adds = (newest d.past ∷ [], (ap (λ (s : Standing). by_event n (newest s.past)) is, tt), refl);
 }
 
-keeps_missed : (n w wanted there : ℕ) (c d : Standing) → d ≡ record c { past = cell.Missed w wanted there ∷ c.past } → Keeps n w c d
-keeps_missed n w wanted there c d is = record {
+keeps_missed : (n w wanted there : ℕ) (E : List CellEvent) (c d : Standing) → d ≡ record c { past = cell.Missed w wanted there ∷ c.past } → Keeps n w E (newest d.past ∷ E) c d
+keeps_missed n w wanted there E c d is = record {
   config_is = ap (λ (s : Standing). s.config) is;
   seed_is = ap (λ (s : Standing). s.seed) is;
   service_is = ap (λ (s : Standing). s.service) is;
   open_is = λ none. ap (λ (s : Standing). s.open_dialog) is ∙ none;
-  adds = (cell.Missed w wanted there ∷ [], (refl, tt), ap (λ (s : Standing). s.past) is);
+  past_is = λ past. ap (λ (s : Standing). s.past) is ∙ (ap (λ J. cell.Missed w wanted there ∷ J) past ∙ sym (ap (λ (s : Standing). events_in (newest s.past ∷ E)) is));
+  link_is = λ linked. ap (λ (s : Standing). is_some s.link) is ∙ (linked ∙ sym (ap (λ (s : Standing). is_booted (newest s.past ∷ E)) is));
+  counted = λ counted. subst (λ (s : Standing). HasCounted s.past s.link) (sym is) (counted_as c.past (cell.Missed w wanted there ∷ c.past) c.link refl counted);
+  adds = (newest d.past ∷ [], (ap (λ (s : Standing). by_event n (newest s.past)) is, tt), refl);
 }
 
-pub keeps_dialog : (n : ℕ) (who : Asker) (shows : ℕ → Type 0) (head content : List ℕ) (wanted : ℕ) (c : Standing) (J : Seen) (answer : Spoken) (d : Standing) (now : Seen)
-    → Dialogs who shows head content wanted c J answer d now → Keeps n who.worker c d
-keeps_dialog n who shows head content wanted c J spoken.Reply d now h = let e = h.1.6.entered in keeps_finished n who.worker c d _ _ _ e
-keeps_dialog n who shows head content wanted c J (spoken.Crashed why) d now h = let e = h.1.2.entered in keeps_finished n who.worker c d _ _ _ e
-keeps_dialog n who shows head content wanted c J (spoken.Superseded k shown) d now h = let e = h.1.4.entered in keeps_finished n who.worker c d _ _ _ e
-keeps_dialog n who shows head content wanted c J (spoken.Missed asked there) d now h = keeps_missed n who.worker wanted there c d h.3
-keeps_dialog n who shows head content wanted c J spoken.NoMemory d now h = keeps_same n who.worker c d h.0
+pub keeps_dialog : (n : ℕ) (who : Asker) (shows : ℕ → Type 0) (head content : List ℕ) (wanted : ℕ) (E : List CellEvent) (c : Standing) (J : Seen) (answer : Spoken) (d : Standing) (now : Seen)
+    → Dialogs who shows head content wanted c J answer d now → Keeps n who.worker E (with_dialog answer (newest d.past) E) c d
+keeps_dialog n who shows head content wanted E c J spoken.Reply d now h =
+    let x = h.1.6 in
+    let items = Said (said.Reply h.1.1 h.1.2 h.1.3 h.1.4) ∷ h.1.5 in
+    keeps_finished n who.worker E c d items end.Reply d.link (goes_link c.link d.link x.since x.left x.due items end.Reply x.link) (goes_counts c.past who.worker c.link d.link x.since x.left x.due items end.Reply x.link) x.entered
+keeps_dialog n who shows head content wanted E c J (spoken.Crashed why) d now h =
+    let x = h.1.2 in
+    keeps_finished n who.worker E c d h.1.1 (crash_end why) d.link (goes_link c.link d.link x.since x.left x.due h.1.1 (crash_end why) x.link) (goes_counts c.past who.worker c.link d.link x.since x.left x.due h.1.1 (crash_end why) x.link) x.entered
+keeps_dialog n who shows head content wanted E c J (spoken.Superseded k shown) d now h =
+    let x = h.1.4 in
+    keeps_finished n who.worker E c d h.1.3 (end.Superseded shown) d.link (goes_link c.link d.link x.since x.left x.due h.1.3 (end.Superseded shown) x.link) (goes_counts c.past who.worker c.link d.link x.since x.left x.due h.1.3 (end.Superseded shown) x.link) x.entered
+keeps_dialog n who shows head content wanted E c J (spoken.Missed asked there) d now h = keeps_missed n who.worker wanted there E c d h.3
+keeps_dialog n who shows head content wanted E c J spoken.NoMemory d now h = keeps_same n who.worker E c d h.0
 
-pub keeps_boot : {L : Type 0} (n : ℕ) (wire : L → Wire) (link : L) (frame : ServerFrame) (k : ℕ) (c : Standing) (answer : Booting L) (d : Standing)
-    → Boots wire link frame k c answer d → Keeps n n c d
-keeps_boot n wire link frame k c booting.Booted d h = record {
+pub keeps_boot : {L : Type 0} (n : ℕ) (wire : L → Wire) (link : L) (frame : ServerFrame) (k : ℕ) (E : List CellEvent) (c : Standing) (answer : Booting L) (d : Standing)
+    → last_booted c.past < k → Boots wire link frame k c answer d → Keeps n n E (with_boot answer k E) c d
+keeps_boot n wire link frame k E c booting.Booted d later h = record {
   config_is = ap (λ (s : Standing). s.config) h.0;
   seed_is = ap (λ (s : Standing). s.seed) h.0;
   service_is = ap (λ (s : Standing). s.service) h.0;
   open_is = λ none. ap (λ (s : Standing). s.open_dialog) h.0 ∙ none;
-  adds = (cell.Boot k ∷ [], (refl, tt), ap (λ (s : Standing). s.past) h.0);
+  past_is = λ past. ap (λ (s : Standing). s.past) h.0 ∙ ap (λ J. cell.Boot k ∷ J) past;
+  link_is = λ linked. passes_link (Some (wire link)) d.link _ _ h.1;
+  counted = λ counted. subst (λ (J : List CellEvent). HasCounted J d.link) (sym (ap (λ (s : Standing). s.past) h.0)) (boot_counts k c.past d.link later);
+  adds = (cell.Boot k ∷ [], (refl, tt), refl);
 }
-keeps_boot n wire link frame k c (booting.LinkFault back) d h = keeps_same n n c d h.0
-keeps_boot n wire link frame k c (booting.NoMemory back) d h = keeps_same n n c d h.0
+keeps_boot n wire link frame k E c (booting.LinkFault back) d later h = keeps_same n n E c d h.0
+keeps_boot n wire link frame k E c (booting.NoMemory back) d later h = keeps_same n n E c d h.0
 
-retired_adds : (n : ℕ) (gone : Bool) (J : List CellEvent) → AddsBy (by_event n) n J (if gone then J else cell.Retired ∷ J)
-retired_adds n true J = ([], tt, refl)
-retired_adds n false J = (cell.Retired ∷ [], (refl, tt), refl)
-
-pub keeps_retired : (n : ℕ) (c d : Standing) → d ≡ retired c → Keeps n n c d
-keeps_retired n c d is = record {
+pub keeps_retired : (n : ℕ) (E : List CellEvent) (c d : Standing) → d ≡ retired c → Keeps n n E (cell.Retired ∷ E) c d
+keeps_retired n E c d is = record {
   config_is = ap (λ (s : Standing). s.config) is;
   seed_is = ap (λ (s : Standing). s.seed) is;
   service_is = ap (λ (s : Standing). s.service) is;
   open_is = λ none. ap (λ (s : Standing). s.open_dialog) is ∙ none;
-  adds = subst (λ (J : List CellEvent). AddsBy (by_event n) n c.past J) (sym (ap (λ (s : Standing). s.past) is)) (retired_adds n (incarnation c.past == 0) c.past);
+  past_is = λ past. ap (λ (s : Standing). s.past) is ∙ ap (λ (J : List CellEvent). if incarnation J == 0 then J else cell.Retired ∷ J) past;
+  link_is = λ linked. ap (λ (s : Standing). is_some s.link) is;
+  counted = λ counted. subst (λ (link : Option Wire). HasCounted d.past link) (sym (ap (λ (s : Standing). s.link) is)) tt;
+  adds = (cell.Retired ∷ [], (refl, tt), refl);
 }
+
+-- what is known of a link that is taken out
+pub link_out : (C : Config) (seed : List ℕ) (s : ℕ) (J : List CellEvent) (link : Option Wire) (sent : List Sent) → AreSent C seed s J (all_sent (last_booted J) link sent) → HasCounted J link → IfSome link (IsLinkOf C seed s J)
+link_out C seed s J None sent sents counted = tt
+link_out C seed s J (Some wire) sent sents counted = record { given = sents.each.0; faults = counted }

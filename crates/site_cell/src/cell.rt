@@ -1,17 +1,19 @@
 //! A cell behind a lock that is taken in turns. No dialog is open when it is given back.
 
-ghost use Rattle.std.specs.Prelude.{◌≡◌, ◌≤◌, ◌<◌, ◌+◌, [], length, option_map, IfOk, MatchOption, Some};
+ghost use Rattle.std.specs.Prelude.{◌≡◌, ◌≤◌, ◌<◌, ◌+◌, [], ◌∷◌, length, option_map, is_some, IfOk, IfSome, MatchOption, Some};
 ghost use Rattle.okws_base.specs.Turns.{AddsBy};
 ghost use Rattle.okws_base.specs.declared.limit.TheConstants.{LONGEST_FRAME, MOST_INCARNATIONS, MOST_PROXIES};
+ghost use Rattle.monitor_model.specs.declared.record.CellEvent.TheVariants as event;
 ghost use Rattle.monitor_model.specs.Cell.{CellLaw, incarnation, last_booted, boot_frame};
 ghost use Rattle.monitor_model.specs.Sent.{AreSent};
 ghost use Rattle.service_cell.specs.Asking.{KeepsBoard};
-ghost use Rattle.site_cell.specs.Held.{by_event};
+ghost use Rattle.site_cell.specs.Held.{by_event, events_in, is_booted, IsLinkOf, newest, with_boot, with_dialog};
 ghost use Rattle.service_cell.specs.Dialogs.{Dialogs};
 ghost use Rattle.service_cell.specs.Ending.{EndsOtherwise, IsLast};
 ghost use Rattle.service_cell.specs.Standing.{IsFresh, all_sent};
 ghost use Rattle.service_cell.specs.Steps.{Boots, retired};
 
+use crate::entered::Entered;
 use crate::named::Numbered;
 use frame_codec::frame::{Issued, ServerFrame};
 use monitor_model::record::CellEvent;
@@ -28,11 +30,13 @@ use std::marker::{Model, PhantomData};
 use turn_lock::Journaled;
 
 /// A cell of a run as it stands behind its lock: by its type no dialog is open at it, and its site and
-/// its seed are the run's. Each call enters at most one event, under the holder's number.
+/// its seed are the run's. Each call enters at most one event, under the holder's number. What is entered at
+/// the lock tells whether the link is there: taking it out is entered too where that is no event of the cell.
 #[derive(Drop)]
 pub struct SiteCell<N: Numbered, L: Link> {
     holder: u16,
     cell: Cell<L>,
+    entered: Entered,
     of: PhantomData<N>,
 }
 
@@ -41,24 +45,33 @@ impl<N: Numbered, L: Link> Model for SiteCell<N, L> {
 
     ghost Value = { Held };
 
-    ghost view = { λ b. record { holder = b.holder; standing = b.cell } };
+    ghost view = { λ b. record { holder = b.holder; standing = b.cell; entered = b.entered } };
 
-    ghost invariant = { λ b. IsShut N.site N.run_seed b.cell };
+    ghost invariant = { λ b. IsShut N.site N.run_seed b.entered b.cell };
 }
 
 impl<N: Numbered, L: Link> SiteCell<N, L> {
-    /// A cell of the run at which no dialog is open; takes no memory.
+    /// A cell of the run at which nothing happened; takes no memory.
     pub fn new(cell: Cell<L>) -> Self
         requires closed { cell.open_dialog ≡ None }
         requires site { cell.config ≡ N.site }
         requires seed { cell.seed ≡ N.run_seed }
-        ensures { result ≡ record { holder = 0; standing = cell } }
+        requires fresh { (cell.past ≡ []) × (cell.link ≡ None) }
+        ensures { result ≡ record { holder = 0; standing = cell; entered = [] } }
     {
         SiteCell {
             holder: 0,
             cell,
+            entered: Entered::new(),
             of: PhantomData,
         }
+    }
+
+    /// What a cell's type tells of it.
+    pub fn keeps(&self)
+        ensures { self.now.standing.past ≡ events_in self.now.entered }
+    {
+        let _cell = &self.cell;
     }
 
     /// The incarnation that is there, 0 for none.
@@ -101,10 +114,14 @@ impl<N: Numbered, L: Link> SiteCell<N, L> {
         ensures dialogs { Dialogs (C.asker columns.old) (C.shows columns.new self.old.standing.service) head content wanted self.old.standing (C.seen columns.old) result self.new.standing (C.seen columns.new) }
         ensures holder { self.new.holder ≡ self.old.holder }
         ensures service { self.new.standing.service ≡ self.old.standing.service }
-        ensures adds { AddsBy (by_event N.launcher) self.old.holder self.old.standing.past self.new.standing.past }
+        ensures entered { self.new.entered ≡ with_dialog result (newest self.new.standing.past) self.old.entered }
+        ensures adds { AddsBy (by_event N.launcher) self.old.holder self.old.entered self.new.entered }
+        ensures past { self.new.standing.past ≡ events_in self.new.entered }
         ensures board { KeepsBoard C.asker C.shows C.token_seed C.spare columns.old columns.new }
     {
-        self.cell.dialog(head, content, wanted, columns)
+        let spoken = self.cell.dialog(head, content, wanted, columns);
+        self.entered.enter_dialog(spoken, &self.cell);
+        spoken
     }
 
     /// Gives the cell, which has no incarnation, a fresh link and one, whose Boot frame is put first.
@@ -121,18 +138,27 @@ impl<N: Numbered, L: Link> SiteCell<N, L> {
         ensures boots { Boots L.wire link (ServerFrame.Boot self.old.standing.service number tokens) number self.old.standing result self.new.standing }
         ensures holder { self.new.holder ≡ self.old.holder }
         ensures service { self.new.standing.service ≡ self.old.standing.service }
-        ensures adds { AddsBy (by_event N.launcher) self.old.holder self.old.standing.past self.new.standing.past }
+        ensures entered { self.new.entered ≡ with_boot result number self.old.entered }
+        ensures adds { AddsBy (by_event N.launcher) self.old.holder self.old.entered self.new.entered }
+        ensures past { self.new.standing.past ≡ events_in self.new.entered }
     {
-        self.cell.boot(link, number, tokens)
+        let booting = self.cell.boot(link, number, tokens);
+        self.entered.enter_boot(&booting, number);
+        booting
     }
 
-    /// Takes the link out, and enters Retired where the cell has an incarnation. Takes no memory.
+    /// Takes the link out, which is there where the cell was booted last, and enters Retired: an event of the
+    /// cell where that has an incarnation. Takes no memory.
     pub fn retire(&mut self) -> Option<L>
         requires holder { self.old.holder ≡ N.launcher }
-        ensures cell { self.new ≡ record self.old { standing = retired self.old.standing } }
+        ensures cell { self.new ≡ record self.old { standing = retired self.old.standing; entered = event.Retired ∷ self.old.entered } }
         ensures link { option_map L.wire result ≡ self.old.standing.link }
-        ensures adds { AddsBy (by_event N.launcher) self.old.holder self.old.standing.past self.new.standing.past }
+        ensures there { is_some result ≡ is_booted self.old.entered }
+        ensures law { CellLaw self.new.standing.past }
+        ensures holds { IfSome self.old.standing.link (IsLinkOf N.site N.run_seed self.old.standing.service self.old.standing.past) }
+        ensures adds { AddsBy (by_event N.launcher) self.old.holder self.old.entered self.new.entered }
     {
+        self.entered.enter_retired();
         self.cell.retire()
     }
 }
@@ -148,6 +174,7 @@ impl<N: Numbered, L: Link + Drop> SiteCell<N, L> {
         let SiteCell {
             holder: _,
             cell,
+            entered: _,
             of: _,
         } = self;
         cell.close()
@@ -159,7 +186,7 @@ impl<N: Numbered, L: Link> Journaled for SiteCell<N, L> {
 
     type Entry = CellEvent;
 
-    ghost journal = { λ b. b.standing.past };
+    ghost journal = { λ b. b.entered };
 
     ghost by = { by_event N.launcher };
 
@@ -170,7 +197,7 @@ impl<N: Numbered, L: Link> Journaled for SiteCell<N, L> {
     ghost held = { λ b n. record b { holder = n } };
 
     fn hold(&mut self, number: u16)
-        ensures same { self.new.standing.past ≡ self.old.standing.past }
+        ensures same { self.new.entered ≡ self.old.entered }
         ensures label { self.new.standing.service ≡ self.old.standing.service }
         ensures holder { self.new.holder ≡ number }
         ensures all { self.new ≡ record self.old { holder = number } }

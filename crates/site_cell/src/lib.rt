@@ -3,4 +3,5 @@
 #![tactic(auto)]
 
 pub mod cell;
+mod entered;
 pub mod named;

@@ -14,6 +14,7 @@ pub mod locks;
 mod log_turn;
 pub mod making;
 pub mod named;
+pub mod note;
 mod okd_turn;
 mod proxy_turn;
 mod pubd_turn;

@@ -1,27 +1,33 @@
-use Rattle.std.proofs.Common.{List, subst}
+use Rattle.std.proofs.Common.{List, map, subst}
 use Rattle.monitor_model.specs.declared.record.CellEvent.{CellEvent}
 use Rattle.site_cell.specs.Held.{by_event}
 use Rattle.turn_lock.specs.Seats.{SeatIs}
 use Rattle.turn_lock.specs.Rows.{JoinedRow}
+use Rattle.cell_locks.specs.Closing.{cell_seat}
 use Rattle.cell_locks.proofs.Joins.{told_both, has_other, has_still}
+use Rattle.cell_locks.proofs.Seated.{joined_seats}
 use Rattle.cell_locks.proofs.closing.CellEnds.join.Goals as goal
 
 pub returns-clause-told : goal.returns-clause-told
 returns-clause-told g c =
     let k = g.N.Numbered.launcher in
     let os = c.other.inside.seats.items in
-    let joined = subst (λ (x : List (SeatIs CellEvent)). JoinedRow (by_event k) os x c.join_row.new.into.items) c.self.view_is c.join_row.ensures.joined in
-    told_both k c.other.inside.number os c.args.self.now c.join_row.new.into.items c.args.other c.other.invariant.alone c.other.view_is joined
+    let now = c.join_row.new.into.items in
+    let joined = subst (λ (x : List (SeatIs CellEvent)). JoinedRow (by_event k) (map cell_seat os) x (map cell_seat now)) c.self.view_is (joined_seats (by_event k) os c.self.inside.seats.items now c.join_row.ensures.joined) in
+    told_both k c.other.inside.number os c.args.self.now (map cell_seat now) c.args.other c.other.invariant.alone c.other.view_is joined
 
 pub returns-clause-has : goal.returns-clause-has
 returns-clause-has g c =
     let k = g.N.Numbered.launcher in
     let os = c.other.inside.seats.items in
-    has_other k c.other.inside.number os c.self.inside.seats.items c.join_row.new.into.items c.args.other c.other.invariant.alone c.other.view_is c.join_row.ensures.joined
+    let now = c.join_row.new.into.items in
+    let joined = joined_seats (by_event k) os c.self.inside.seats.items now c.join_row.ensures.joined in
+    has_other k c.other.inside.number os (map cell_seat c.self.inside.seats.items) (map cell_seat now) c.args.other c.other.invariant.alone c.other.view_is joined
 
 pub returns-clause-still : goal.returns-clause-still
 returns-clause-still g c =
     let k = g.N.Numbered.launcher in
     let os = c.other.inside.seats.items in
-    let joined = subst (λ (x : List (SeatIs CellEvent)). JoinedRow (by_event k) os x c.join_row.new.into.items) c.self.view_is c.join_row.ensures.joined in
-    has_still k c.other.inside.number os c.args.self.now c.join_row.new.into.items c.args.other c.other.invariant.alone c.other.view_is joined
+    let now = c.join_row.new.into.items in
+    let joined = subst (λ (x : List (SeatIs CellEvent)). JoinedRow (by_event k) (map cell_seat os) x (map cell_seat now)) c.self.view_is (joined_seats (by_event k) os c.self.inside.seats.items now c.join_row.ensures.joined) in
+    has_still k c.other.inside.number os c.args.self.now (map cell_seat now) c.args.other c.other.invariant.alone c.other.view_is joined

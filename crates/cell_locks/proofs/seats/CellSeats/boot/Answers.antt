@@ -4,7 +4,7 @@ use Rattle.monitor_model.specs.declared.record.CellEvent.{CellEvent}
 use Rattle.frame_codec.specs.declared.frame.ServerFrame.TheVariants as frame
 use Rattle.monitor_model.specs.Cell.{boot_frame}
 use Rattle.cell_locks.specs.Turns.{HasLaunched}
-use Rattle.cell_locks.proofs.Places.{within, rests, label_here, number_here, seen_here, seats_still, seen_then, only_here}
+use Rattle.cell_locks.proofs.Places.{within, rests, label_here, number_here, seen_here, seats_still, seen_then, link_then, only_here}
 use Rattle.cell_locks.proofs.seats.CellSeats.boot.Goals as goal
 
 pub index-lock-requires : goal.index-lock-requires
@@ -77,6 +77,16 @@ returns-clause-launched g c =
     let seats = c.self.inside.seats.items in
     let s = c.args.service in
     subst (λ (x : ℕ × List CellEvent × List CellEvent). HasLaunched g.L.Link.wire g.N.Numbered.launcher c.args.link (frame.Boot x.0 c.args.number c.args.tokens) c.args.number x.0 x.1 c.boot.result x.2) (λ i. (label_here names ts gates n seats c.args.self.now c.locks.invariant c.self.invariant c.self.view_is s c.requires.service c.index-lock.result.now c.index_mut-seat.result.now c.index-lock.ensures c.index_mut-seat.ensures.value i, seen_here names ts gates n seats c.args.self.now c.locks.invariant c.self.invariant c.self.view_is s c.requires.service c.index-lock.result.now c.index_mut-seat.result.now c.index-lock.ensures c.index_mut-seat.ensures.value i, seen_then names ts gates n seats c.args.self.now c.locks.invariant c.self.invariant c.self.view_is s c.requires.service c.index-lock.result.now c.index_mut-seat.result.now c.index-lock.ensures c.index_mut-seat.ensures.value c.boot.new.seat c.boot.ensures.seat i)) c.boot.ensures.launched
+
+pub returns-clause-link : goal.returns-clause-link
+returns-clause-link g c =
+    let names = g.C.CellNames.cell_turns in
+    let ts = c.locks.inside.turns.items in
+    let gates = vec_len c.locks.inside.gates in
+    let n = c.self.inside.number in
+    let seats = c.self.inside.seats.items in
+    let s = c.args.service in
+    sym (link_then names ts gates n seats c.args.self.now c.locks.invariant c.self.invariant c.self.view_is s c.requires.service c.index-lock.result.now c.index_mut-seat.result.now c.index-lock.ensures c.index_mut-seat.ensures.value c.boot.new.seat c.boot.ensures.seat) ∙ c.boot.ensures.link
 
 pub returns-clause-only : goal.returns-clause-only
 returns-clause-only g c =

@@ -1,11 +1,12 @@
-use Rattle.std.proofs.Common.{rules, ℕ, ◌<◌, List, length, set, subst}
+use Rattle.std.proofs.Common.{rules, ◌≡◌, ◌∙◌, ℕ, ◌<◌, List, length, set, sym, subst}
 use Rattle.std.specs.Prelude.{vec_len}
 use Rattle.okws_base.specs.Turns.{GrowsBy, Behind}
-use Rattle.site_cell.specs.Held.{by_event}
+use Rattle.site_cell.specs.Held.{by_event, events_in}
 use Rattle.monitor_model.specs.declared.record.CellEvent.{CellEvent}
-use Rattle.cell_locks.specs.Row.{OnlyAt, seen_at}
+use Rattle.cell_locks.specs.Row.{OnlyAt, seen_at, link_at}
 use Rattle.cell_locks.specs.Notes.{CellNoteIs}
-use Rattle.cell_locks.proofs.Places.{within, rests, number_here, seen_here, seats_still, seen_then, only_here, seen_of}
+use Rattle.cell_locks.proofs.Places.{within, rests, number_here, seen_here, seats_still, seen_then, link_here, link_then, only_here, seen_of}
+use Rattle.cell_locks.proofs.Entered.{events_grow, events_behind, booted_if}
 use Rattle.cell_locks.proofs.Notes.{note_short, note_lock}
 use Rattle.cell_locks.proofs.seats.CellSeats.meet.Goals as goal
 
@@ -67,7 +68,8 @@ returns-clause-met g c =
     let n = c.self.inside.number in
     let seats = c.self.inside.seats.items in
     let s = c.note.inside.service in
-    subst (λ (x : CellNoteIs). Behind x.seen (seen_at (seen_of n (set seats s c.meet.new.seat)) x.service)) c.note.view_is (subst (Behind c.note.inside.note.seen) (seen_then names ts gates n seats c.args.self.now c.locks.invariant c.self.invariant c.self.view_is s (note_short names n seats c.args.self.now c.self.invariant c.self.view_is s c.note.inside.note c.note.invariant).1 c.index-lock.result.now c.index_mut-seat.result.now c.index-lock.ensures c.index_mut-seat.ensures.value c.meet.new.seat c.meet.ensures.seat) c.meet.ensures.met)
+    subst (λ (x : CellNoteIs). Behind x.seen (seen_at (seen_of n (set seats s c.meet.new.seat)) x.service)) c.note.view_is
+    (subst (Behind (events_in c.note.inside.note.seen)) (seen_then names ts gates n seats c.args.self.now c.locks.invariant c.self.invariant c.self.view_is s (note_short names n seats c.args.self.now c.self.invariant c.self.view_is s c.note.inside.note c.note.invariant).1 c.index-lock.result.now c.index_mut-seat.result.now c.index-lock.ensures c.index_mut-seat.ensures.value c.meet.new.seat c.meet.ensures.seat) (events_behind c.note.inside.note.seen c.meet.new.seat.seen c.meet.ensures.met))
 
 pub returns-clause-grows : goal.returns-clause-grows
 returns-clause-grows g c =
@@ -77,7 +79,25 @@ returns-clause-grows g c =
     let n = c.self.inside.number in
     let seats = c.self.inside.seats.items in
     let s = c.note.inside.service in
-    subst (λ (x : CellNoteIs). GrowsBy (by_event g.N.Numbered.launcher) c.args.self.now.number (seen_at c.args.self.now x.service) (seen_at (seen_of n (set seats s c.meet.new.seat)) x.service)) c.note.view_is (subst (λ (x : ℕ × List CellEvent × List CellEvent). GrowsBy (by_event g.N.Numbered.launcher) x.0 x.1 x.2) (λ i. (number_here names ts gates n seats c.args.self.now c.locks.invariant c.self.invariant c.self.view_is s (note_short names n seats c.args.self.now c.self.invariant c.self.view_is s c.note.inside.note c.note.invariant).1 c.index-lock.result.now c.index_mut-seat.result.now c.index-lock.ensures c.index_mut-seat.ensures.value i, seen_here names ts gates n seats c.args.self.now c.locks.invariant c.self.invariant c.self.view_is s (note_short names n seats c.args.self.now c.self.invariant c.self.view_is s c.note.inside.note c.note.invariant).1 c.index-lock.result.now c.index_mut-seat.result.now c.index-lock.ensures c.index_mut-seat.ensures.value i, seen_then names ts gates n seats c.args.self.now c.locks.invariant c.self.invariant c.self.view_is s (note_short names n seats c.args.self.now c.self.invariant c.self.view_is s c.note.inside.note c.note.invariant).1 c.index-lock.result.now c.index_mut-seat.result.now c.index-lock.ensures c.index_mut-seat.ensures.value c.meet.new.seat c.meet.ensures.seat i)) c.meet.ensures.grows)
+    let launcher = g.N.Numbered.launcher in
+    let grows = events_grow (by_event launcher) c.index_mut-seat.result.now.number c.index_mut-seat.result.now.seen c.meet.new.seat.seen c.meet.ensures.grows in
+    subst (λ (x : CellNoteIs). GrowsBy (by_event launcher) c.args.self.now.number (seen_at c.args.self.now x.service) (seen_at (seen_of n (set seats s c.meet.new.seat)) x.service)) c.note.view_is
+    (subst (λ (x : ℕ × List CellEvent × List CellEvent). GrowsBy (by_event launcher) x.0 x.1 x.2) (λ i. (number_here names ts gates n seats c.args.self.now c.locks.invariant c.self.invariant c.self.view_is s (note_short names n seats c.args.self.now c.self.invariant c.self.view_is s c.note.inside.note c.note.invariant).1 c.index-lock.result.now c.index_mut-seat.result.now c.index-lock.ensures c.index_mut-seat.ensures.value i, seen_here names ts gates n seats c.args.self.now c.locks.invariant c.self.invariant c.self.view_is s (note_short names n seats c.args.self.now c.self.invariant c.self.view_is s c.note.inside.note c.note.invariant).1 c.index-lock.result.now c.index_mut-seat.result.now c.index-lock.ensures c.index_mut-seat.ensures.value i, seen_then names ts gates n seats c.args.self.now c.locks.invariant c.self.invariant c.self.view_is s (note_short names n seats c.args.self.now c.self.invariant c.self.view_is s c.note.inside.note c.note.invariant).1 c.index-lock.result.now c.index_mut-seat.result.now c.index-lock.ensures c.index_mut-seat.ensures.value c.meet.new.seat c.meet.ensures.seat i)) grows)
+
+pub returns-clause-link : goal.returns-clause-link
+returns-clause-link g c =
+    let names = g.C.CellNames.cell_turns in
+    let ts = c.locks.inside.turns.items in
+    let gates = vec_len c.locks.inside.gates in
+    let n = c.self.inside.number in
+    let seats = c.self.inside.seats.items in
+    let s = c.note.inside.service in
+    let launcher = g.N.Numbered.launcher in
+    subst (λ (x : CellNoteIs). c.args.self.now.number ≡ launcher → link_at (seen_of n (set seats s c.meet.new.seat)) x.service ≡ link_at c.args.self.now x.service) c.note.view_is
+    (λ launches.
+    sym (link_then names ts gates n seats c.args.self.now c.locks.invariant c.self.invariant c.self.view_is s (note_short names n seats c.args.self.now c.self.invariant c.self.view_is s c.note.inside.note c.note.invariant).1 c.index-lock.result.now c.index_mut-seat.result.now c.index-lock.ensures c.index_mut-seat.ensures.value c.meet.new.seat c.meet.ensures.seat)
+    ∙ (booted_if launcher c.index_mut-seat.result.now.number c.index_mut-seat.result.now.seen c.meet.new.seat.seen c.meet.ensures.grows (number_here names ts gates n seats c.args.self.now c.locks.invariant c.self.invariant c.self.view_is s (note_short names n seats c.args.self.now c.self.invariant c.self.view_is s c.note.inside.note c.note.invariant).1 c.index-lock.result.now c.index_mut-seat.result.now c.index-lock.ensures c.index_mut-seat.ensures.value ∙ launches)
+    ∙ link_here names ts gates n seats c.args.self.now c.locks.invariant c.self.invariant c.self.view_is s (note_short names n seats c.args.self.now c.self.invariant c.self.view_is s c.note.inside.note c.note.invariant).1 c.index-lock.result.now c.index_mut-seat.result.now c.index-lock.ensures c.index_mut-seat.ensures.value))
 
 pub returns-clause-only : goal.returns-clause-only
 returns-clause-only g c =

@@ -1,5 +1,6 @@
 use Rattle.std.proofs.Common.{rules, ◌<◌, List, length, ap, ◌∙◌}
 use Rattle.std.specs.Prelude.{vec_len}
+use Rattle.site_cell.specs.Held.{events_in}
 use Rattle.turn_lock.specs.Seats.{NoteIs}
 use Rattle.monitor_model.specs.declared.record.CellEvent.{CellEvent}
 use Rattle.cell_locks.proofs.Places.{within, rests, seen_here, seats_still, same_here, still_same}
@@ -55,7 +56,7 @@ returns-clause-note g c =
     let n = c.self.inside.number in
     let seats = c.self.inside.seats.items in
     let s = c.args.service in
-    ap (λ (l : List CellEvent). record { service = s; seen = l }) (ap (λ (m : NoteIs CellEvent). m.seen) c.split.ensures.note ∙ seen_here names ts gates n seats c.args.self.now c.locks.invariant c.self.invariant c.self.view_is s c.requires c.index-lock.result.now c.index_mut-seat.result.now c.index-lock.ensures c.index_mut-seat.ensures.value)
+    ap (λ (l : List CellEvent). record { service = s; seen = l }) (ap (λ (m : NoteIs CellEvent). events_in m.seen) c.split.ensures.note ∙ seen_here names ts gates n seats c.args.self.now c.locks.invariant c.self.invariant c.self.view_is s c.requires c.index-lock.result.now c.index_mut-seat.result.now c.index-lock.ensures c.index_mut-seat.ensures.value)
 
 pub returns-clause-same : goal.returns-clause-same
 returns-clause-same g c =

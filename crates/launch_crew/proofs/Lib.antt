@@ -6,3 +6,10 @@ pub mod Emptying
 pub mod Children
 pub mod Starting
 pub mod Coming
+pub mod Found
+pub mod Listing
+pub mod Retiring
+pub mod Ending
+pub mod Ended
+pub mod Finishing
+pub mod Counting

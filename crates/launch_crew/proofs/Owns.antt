@@ -1,5 +1,5 @@
 -- What the launcher's number entered is what it noted.
-use Rattle.std.proofs.Common.{◌≡◌, ◌≢◌, ◌∙◌, ℕ, zero, suc, ◌<◌, Bool, true, false, List, [], ◌∷◌, ◌++◌, Option, Some, None, length, refl, sym, ap, subst, eq-eqb, ne_eqb, get_or-set_same, get_or-set_other}
+use Rattle.std.proofs.Common.{◌≡◌, ◌≢◌, ◌∙◌, ℕ, zero, suc, ◌<◌, Bool, true, false, List, [], ◌∷◌, ◌++◌, Some, None, length, refl, sym, ap, subst, eq-eqb, ne_eqb, get_or-set_same, get_or-set_other}
 use Rattle.std.specs.Prelude.{if◌then◌else◌, ◌==◌, ◌&&◌, filter, filter_map, map, replicate, IsTrue, slice_set}
 use Rattle.std.specs.List.{list_all, cons_option}
 use mathlib.Core.Logic.{dite}
@@ -16,7 +16,6 @@ use Rattle.monitor_model.specs.declared.record.CellEvent.{CellEvent}
 use Rattle.monitor_model.specs.declared.record.CellEvent.TheVariants as cell
 use Rattle.monitor_model.specs.declared.record.Own.{Own}
 use Rattle.monitor_model.specs.declared.record.Own.TheVariants as own
-use Rattle.monitor_model.specs.Cell.{incarnation}
 use Rattle.monitor_model.specs.Merged.{okd_item, proxy_item, pubd_item, log_item, is_at_cell, cell_items, is_launch, is_okd_launch, is_proxy_launch, is_pubd_launch, is_log_launch}
 use Rattle.monitor_model.specs.Seen.{proxy_past}
 use Rattle.named_columns.specs.Launched.{by_entry}
@@ -127,10 +126,10 @@ module _ (n : ℕ) (s t : Sat) (w : CellsSeen) (items : List Own) (here : s.numb
 -- ---- the proxies
 
 -- the items of proxy q, where the last is one of proxy p
-item_here : (p : ℕ) (e : ProxyEvent) (items : List Own) → filter_map (proxy_item p) (own.Proxy p e ∷ items) ≡ e ∷ filter_map (proxy_item p) items
+pub item_here : (p : ℕ) (e : ProxyEvent) (items : List Own) → filter_map (proxy_item p) (own.Proxy p e ∷ items) ≡ e ∷ filter_map (proxy_item p) items
 item_here p e items = ap (λ (b : Bool). cons_option (if b then Some e else None) (filter_map (proxy_item p) items)) (eq-eqb p p refl)
 
-item_there : (p q : ℕ) (e : ProxyEvent) (items : List Own) → q ≢ p → filter_map (proxy_item q) (own.Proxy p e ∷ items) ≡ filter_map (proxy_item q) items
+pub item_there : (p q : ℕ) (e : ProxyEvent) (items : List Own) → q ≢ p → filter_map (proxy_item q) (own.Proxy p e ∷ items) ≡ filter_map (proxy_item q) items
 item_there p q e items apart = ap (λ (b : Bool). cons_option (if b then Some e else None) (filter_map (proxy_item q) items)) (ne_eqb p q (λ is. apart (sym is)))
 
 row_enters : (n p : ℕ) (e : ProxyEvent) (K : List (Entry ProxyEvent)) (ps : List (List (Entry ProxyEvent))) (items : List Own) → p < length ps → events_of n K ≡ e ∷ filter_map (proxy_item p) items
@@ -193,7 +192,7 @@ cell_others n s (cell.Speaking v spoken ∷ more) J none =
     let h = tail_none n (cell.Speaking v spoken) more none in
     ap (λ (b : Bool). if b then own.Dialog s ∷ cell_items n n s (more ++ J) else cell_items n n s (more ++ J)) (ne_eqb v n h.0) ∙ cell_others n s more J h.1
 
-cell_sees : (n s : ℕ) (I J : List CellEvent) (items : List Own) → GrowsBy (by_event n) n I J → cell_items n n s I ≡ items → cell_items n n s J ≡ items
+pub cell_sees : (n s : ℕ) (I J : List CellEvent) (items : List Own) → GrowsBy (by_event n) n I J → cell_items n n s I ≡ items → cell_items n n s J ≡ items
 cell_sees n s I J items g is = ap (cell_items n n s) g.2 ∙ (cell_others n s g.0 I g.1 ∙ is)
 
 cell_boots : (n s k : ℕ) (J : List CellEvent) → cell_items n n s (cell.Boot k ∷ J) ≡ own.Boot s k ∷ cell_items n n s J
@@ -253,7 +252,7 @@ module _ (n u : ℕ) (s : Sat) (w v : CellsSeen) (items : List Own) (before : Li
 
 -- ---- nothing was seen
 
-no_past : (m p : ℕ) → proxy_past (replicate m []) p ≡ []
+pub no_past : (m p : ℕ) → proxy_past (replicate m []) p ≡ []
 no_past zero p = refl
 no_past (suc m) zero = refl
 no_past (suc m) (suc p) = no_past m p

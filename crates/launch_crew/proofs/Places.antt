@@ -1,5 +1,5 @@
 -- What turns at all columns but okd make of what the launcher has seen there.
-use Rattle.std.proofs.Common.{◌≡◌, ◌≢◌, ◌∙◌, ⊎_elim, ℕ, ◌<◌, ◌≤◌, Bool, true, false, List, Option, Some, None, length, refl, sym, ap, subst, arith}
+use Rattle.std.proofs.Common.{◌≡◌, ◌≢◌, ◌∙◌, ⊎_elim, ℕ, ◌<◌, ◌≤◌, Bool, true, false, List, None, length, refl, sym, ap, subst, arith}
 use Rattle.std.specs.Prelude.{max, Result, Ok, Err, OnOk, OnErr}
 use Rattle.std.proofs.lemmas.Bool.{cases_lt}
 use Rattle.okws_base.specs.Past.{Grant, standing_by, last_by}
@@ -10,14 +10,13 @@ use Rattle.okws_plan.specs.declared.configuration.Config.{Config}
 use Rattle.okws_plan.specs.declared.event.ProxyEvent.{ProxyEvent}
 use Rattle.okws_plan.specs.declared.script.Place.{Place}
 use Rattle.okws_plan.specs.declared.script.Place.TheVariants.{Proxy, Pubd, Oklogd}
-use Rattle.monitor_model.specs.Script.{stands_of, last_at}
 use Rattle.monitor_model.specs.Seen.{proxy_past}
 use Rattle.monitor_model.specs.Standing.{proxy_grant, pubd_grant, log_grant}
 use Rattle.site_locks.specs.Sat.{Sat}
-use Rattle.launch_crew.specs.Crews.{whole, IsColumnOf, StandsAt, stands_at, lasts_at}
+use Rattle.launch_crew.specs.Crews.{stands_at, lasts_at}
 use Rattle.site_locks.specs.Turns.{Stays}
 use Rattle.launch_crew.specs.Pasts.{Revoked, Installed, Thinned, Grown}
-use Rattle.launch_crew.specs.Steps.{OnlyProxies, OnlyPubd, OnlyLog, OnlyColumns, RevokesRow, InstallsRow, InstallsRest, StandsRest, Thins, Revokes, Installs}
+use Rattle.launch_crew.specs.Steps.{OnlyProxies, OnlyPubd, OnlyLog, OnlyColumns, RevokesRow, InstallsRow, InstallsRest, Thins, Revokes, Installs}
 
 max_most : (a b c j : ℕ) → a ≡ max b c → b ≤ j → c ≤ j → a ≤ j
 max_most a b c j is x y = omega (arith, is, x, y)

@@ -1,5 +1,5 @@
 -- A list of numbers of which one was set.
-use Rattle.std.proofs.Common.{◌≡◌, ◌≢◌, ℕ, zero, suc, ◌+◌, ◌<◌, List, [], ◌∷◌, length, refl, ap, arith}
+use Rattle.std.proofs.Common.{◌≡◌, ◌≢◌, ℕ, zero, suc, ◌<◌, List, [], ◌∷◌, length, refl, ap, arith}
 use Rattle.std.specs.Prelude.{slice_index, slice_set}
 
 pub set_here : (xs : List ℕ) (s k : ℕ) → s < length xs → slice_index (slice_set xs s k) s ≡ k

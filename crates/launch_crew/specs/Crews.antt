@@ -7,6 +7,7 @@ use Rattle.okws_plan.specs.declared.script.Place.{Place}
 use Rattle.okws_plan.specs.declared.script.Place.TheVariants.{Proxy, Pubd, Oklogd}
 use Rattle.okws_outer.specs.Families.{Family}
 use Rattle.okws_outer.specs.Lives.{Life}
+use Rattle.monitor_model.specs.declared.record.Own.{Own}
 use Rattle.monitor_model.specs.Cell.{incarnation, last_booted}
 use Rattle.monitor_model.specs.Script.{stands_of, last_at}
 use Rattle.monitor_model.specs.Seen.{Seen}
@@ -20,17 +21,18 @@ pub record StaffIs : Type 0 where
   pub running : List (Option Life)
   pub family : Family
 
--- What the launcher's number has seen of the columns and of the cells, the child of each service, if one runs, what is told of the children, and for how many items more its own list has room.
+-- What the launcher's number has seen of the columns and of the cells, the child of each service, if one runs, what is told of the children, and its own list, with for how many items more it has room.
 pub record CrewIs : Type 0 where
   pub sat : Sat
   pub watch : CellsSeen
   pub running : List (Option Life)
   pub family : Family
+  pub own : List Own
   pub room : ℕ
 
 -- The crew of these two.
 abbrev pub crew_of : Recorded → StaffIs → CrewIs
-crew_of r t = record { sat = r.sat; watch = r.watch; running = t.running; family = t.family; room = r.room }
+crew_of r t = record { sat = r.sat; watch = r.watch; running = t.running; family = t.family; own = r.own; room = r.room }
 
 -- The child of service s, if one runs.
 abbrev pub running_at : List (Option Life) → ℕ → Option Life

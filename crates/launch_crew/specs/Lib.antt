@@ -1,6 +1,9 @@
+pub mod Listed
 pub mod Recorded
 pub mod Pasts
 pub mod Crews
 pub mod Told
 pub mod Steps
 pub mod Coming
+pub mod Ended
+pub mod Finished

@@ -10,6 +10,7 @@ use Rattle.monitor_model.specs.Seen.{proxy_past}
 use Rattle.cell_locks.specs.Row.{CellsSeen, IsNew, seen_at}
 use Rattle.site_locks.specs.Made.{fresh}
 use Rattle.site_locks.specs.Sat.{Sat}
+use Rattle.launch_crew.specs.Listed.{StandsByOwn}
 
 -- What the number has seen of the columns and of the cells, its own items, the newest first, and for how many more there is room.
 pub record Recorded : Type 0 where
@@ -37,6 +38,7 @@ pub record IsRecorded (C : Config) (n : ℕ) (r : Recorded) : Type 0 where
   pub few : length C.proxies ≤ MOST_PROXIES
   pub few_services : length C.services ≤ MOST_SERVICES
   pub own_is : AreOwn n r.sat r.watch r.own
+  pub standing : StandsByOwn r.sat r.own
 
 -- Nothing was seen or done under number n.
 pub record IsUnused (C : Config) (n : ℕ) (r : Recorded) : Type 0 where

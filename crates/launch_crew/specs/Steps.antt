@@ -1,5 +1,5 @@
 -- What each step of a launch of service s makes of the crew.
-use Rattle.std.specs.Prelude.{◌≡◌, ◌≢◌, ◌<◌, ◌≤◌, ℕ, false, true, List, Option, Some, None, length, slice_set, ◌+◌}
+use Rattle.std.specs.Prelude.{◌≡◌, ◌≢◌, ◌<◌, ◌≤◌, ℕ, false, true, List, ◌∷◌, Option, Some, None, is_some, length, slice_set, ◌+◌}
 use Rattle.okws_base.specs.Past.{standing_by}
 use Rattle.okws_base.specs.declared.journal.Entry.{Entry}
 use Rattle.okws_plan.specs.Configuration.{grants_at}
@@ -9,13 +9,17 @@ use Rattle.okws_plan.specs.declared.script.Place.{Place}
 use Rattle.okws_outer.specs.Lives.{Life, Asks, new_life}
 use Rattle.okws_outer.specs.declared.child.Ended.{Ended}
 use Rattle.okws_outer.specs.Wire.{Wire}
+use Rattle.monitor_model.specs.declared.record.Own.TheVariants as own
 use Rattle.monitor_model.specs.Cell.{incarnation, last_booted}
+use Rattle.monitor_model.specs.Launches.{with_retired}
 use Rattle.monitor_model.specs.Seen.{proxy_past}
 use Rattle.monitor_model.specs.Standing.{proxy_grant, pubd_grant, log_grant}
-use Rattle.cell_locks.specs.Row.{seen_at, OnlyAt}
+use Rattle.cell_locks.specs.Row.{seen_at, link_at, OnlyAt}
 use Rattle.site_locks.specs.Sat.{Sat}
 use Rattle.site_locks.specs.Turns.{Stays}
 use Rattle.launch_crew.specs.Crews.{CrewIs, StaffIs, child_of, running_at, up_of, stands_at, lasts_at, NoneStands}
+use Rattle.launch_crew.specs.Finished.{all_out}
+use Rattle.launch_crew.specs.Listed.{of_cells, CellsGo}
 use Rattle.launch_crew.specs.Pasts.{Revoked, Installed, Grown}
 use Rattle.launch_crew.specs.Told.{TellsMore, with_end_of}
 
@@ -147,7 +151,7 @@ pub record Installs (s k : ℕ) (a b : Sat) : Type 0 where
   pub most : (at : Place) (j : ℕ) → k ≤ j → lasts_at a at s ≤ j → lasts_at b at s ≤ j
   pub others : (t : ℕ) (at : Place) → t ≢ s → stands_at b at t ≡ stands_at a at t
 
--- The child of s was finished, where it runs and there was a link for it, and its cell was retired where it had an incarnation.
+-- The child of s was finished, where it runs and its cell had its link, and the cell was retired where it had an incarnation.
 pub record Empties (s : ℕ) (c d : CrewIs) : Type 0 where
   pub sat_is : d.sat ≡ c.sat
   pub only : OnlyAt s c.watch d.watch
@@ -156,7 +160,11 @@ pub record Empties (s : ℕ) (c d : CrewIs) : Type 0 where
   pub family_is : d.family ≡ with_end_of (child_of c s) link c.family
   pub none : incarnation (seen_at d.watch s) ≡ 0
   pub last : last_booted (seen_at d.watch s) ≡ last_booted (seen_at c.watch s)
+  pub behind : CellsGo c.watch d.watch
+  pub own_is : d.own ≡ with_retired (of_cells d.watch.cells) s c.own
   pub room : c.room ≤ d.room + 1
+  pub link_is : is_some link ≡ link_at c.watch s
+  pub unlinked : link_at d.watch s ≡ false
 
 -- A child of s may have been started, and its cell may have been booted as incarnation k.
 pub record Tries (s k : ℕ) (c d : CrewIs) : Type 0 where
@@ -164,7 +172,9 @@ pub record Tries (s k : ℕ) (c d : CrewIs) : Type 0 where
   pub only : OnlyAt s c.watch d.watch
   pub most : (j : ℕ) → k ≤ j → last_booted (seen_at c.watch s) ≤ j → last_booted (seen_at d.watch s) ≤ j
   pub told : TellsMore c.family d.family
+  pub behind : CellsGo c.watch d.watch
   pub room : c.room ≤ d.room + 1
+  pub out : link_at c.watch s ≡ false → (n : ℕ) → all_out d.watch n ≤ all_out c.watch n
 
 -- The child of s was started and its cell was booted as incarnation k.
 pub record Starts (s k : ℕ) (c d : CrewIs) : Type 0 where
@@ -172,12 +182,17 @@ pub record Starts (s k : ℕ) (c d : CrewIs) : Type 0 where
   pub running_is : d.running ≡ slice_set c.running s (Some (new_life s k))
   pub child : running_at d.running s ≡ Some (new_life s k)
   pub cell : incarnation (seen_at d.watch s) ≡ k
+  pub own_is : d.own ≡ own.Boot s k ∷ c.own
+  pub linked : link_at d.watch s ≡ true
+  pub last : last_booted (seen_at d.watch s) ≡ k
 
 -- It was not; a child that was started was finished.
 pub record Misses (s k : ℕ) (c d : CrewIs) : Type 0 where
   pub tries : Tries s k c d
   pub running_is : d.running ≡ c.running
   pub cell : incarnation (seen_at d.watch s) ≡ 0
+  pub own_is : d.own ≡ c.own
+  pub unlinked : link_at c.watch s ≡ false → link_at d.watch s ≡ false
 
 -- The child of s, which runs, was asked whether it has ended.
 pub record AsksLife (s : ℕ) (c : StaffIs) (answer : Ended) (d : StaffIs) : Type 0 where

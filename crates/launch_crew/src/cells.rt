@@ -1,10 +1,16 @@
 //! What the launcher does at the cells.
 
-ghost use Rattle.std.specs.Prelude.{◌≡◌, ◌<◌, ◌≤◌, ◌+◌, ℕ, IfErr, OnOk, OnErr, length};
+ghost use Rattle.std.specs.Prelude.{◌≡◌, ◌<◌, ◌≤◌, ◌+◌, ◌&&◌, ◌∷◌, ℕ, true, false, is_some, option_map, IfErr, IfSome, OnOk, OnErr, length};
 ghost use Rattle.okws_base.specs.declared.limit.TheConstants.{MOST_PROXIES};
 ghost use Rattle.okws_outer.specs.Families.{IsNewLink};
+ghost use Rattle.frame_codec.specs.Spelling.{server_spelling};
+ghost use Rattle.monitor_model.specs.declared.record.Own.TheVariants as own;
 ghost use Rattle.monitor_model.specs.Cell.{incarnation as incarnation_of, last_booted, boot_frame};
-ghost use Rattle.cell_locks.specs.Row.{seen_at, OnlyAt};
+ghost use Rattle.monitor_model.specs.Launches.{with_retired};
+ghost use Rattle.site_cell.specs.Held.{IsLinkOf, is_broken};
+ghost use Rattle.cell_locks.specs.Row.{seen_at, link_at, OnlyAt};
+ghost use Rattle.launch_crew.specs.Finished.{IsFront, all_out, one_if};
+ghost use Rattle.launch_crew.specs.Listed.{CellsGo, of_cells};
 
 use crate::answer::Missed;
 use crate::recorder::Recorder;
@@ -30,7 +36,9 @@ impl<N: Backed, J: Site, C: CellNames, K: Keeper, S: Sink, L: Link + Drop> Recor
     S,
     L,
 > {
-    /// Retires the incarnation at the cell of the service, where there is one, and takes its link out.
+    /// Retires the incarnation at the cell of the service, where there is one, and takes out the link, which
+    /// is there where the cell was booted since the last one was taken out, and was given what the last
+    /// incarnation heard.
     pub fn retire<R: Wait>(&mut self, rt: &R, cells: &CellLocks<N, C, L>, service: u16) -> Option<L>
         requires service { service < length N.site.services }
         requires room { 0 < self.old.room }
@@ -38,8 +46,15 @@ impl<N: Backed, J: Site, C: CellNames, K: Keeper, S: Sink, L: Link + Drop> Recor
         ensures only { OnlyAt service self.old.watch self.new.watch }
         ensures empty { incarnation_of (seen_at self.new.watch service) ≡ 0 }
         ensures last { last_booted (seen_at self.new.watch service) ≡ last_booted (seen_at self.old.watch service) }
+        ensures behind { CellsGo self.old.watch self.new.watch }
+        ensures own { self.new.own ≡ with_retired (of_cells self.new.watch.cells) service self.old.own }
+        ensures link { is_some result ≡ link_at self.old.watch service }
+        ensures unlinked { link_at self.new.watch service ≡ false }
+        ensures out { (n : ℕ) → all_out self.new.watch n ≤ all_out self.old.watch n + one_if (link_at self.old.watch service && is_broken (seen_at self.new.watch service)) }
+        ensures holds { IfSome (option_map L.wire result) (IsLinkOf N.site N.run_seed service (seen_at self.new.watch service)) }
         ensures room { self.old.room ≤ self.new.room + 1 }
     {
+        self.cells.keeps();
         let (was, link) = self.cells.retire(rt, cells, service);
         if was != 0 {
             self.own.enter(Own::Retired(service));
@@ -48,7 +63,7 @@ impl<N: Backed, J: Site, C: CellNames, K: Keeper, S: Sink, L: Link + Drop> Recor
     }
 
     /// Boots the cell of the service, which is empty, over the link of a child that was just started. Where
-    /// it isn't booted, the link comes back.
+    /// it isn't booted, the link comes back, to which at most a front of the Boot frame was given.
     pub fn boot<R: Wait>(
         &mut self,
         rt: &R,
@@ -70,6 +85,14 @@ impl<N: Backed, J: Site, C: CellNames, K: Keeper, S: Sink, L: Link + Drop> Recor
         ensures most { (j : ℕ) → incarnation ≤ j → last_booted (seen_at self.old.watch service) ≤ j → last_booted (seen_at self.new.watch service) ≤ j }
         ensures ok { OnOk result (incarnation_of (seen_at self.new.watch service) ≡ incarnation) }
         ensures err { OnErr result (incarnation_of (seen_at self.new.watch service) ≡ 0) }
+        ensures behind { CellsGo self.old.watch self.new.watch }
+        ensures added { OnOk result (self.new.own ≡ own.Boot service incarnation ∷ self.old.own) }
+        ensures kept { OnErr result (self.new.own ≡ self.old.own) }
+        ensures linked { OnOk result (link_at self.new.watch service ≡ true) }
+        ensures unlinked { OnErr result (link_at self.new.watch service ≡ false) }
+        ensures out { link_at self.old.watch service ≡ false → (n : ℕ) → all_out self.new.watch n ≤ all_out self.old.watch n }
+        ensures last { OnOk result (last_booted (seen_at self.new.watch service) ≡ incarnation) }
+        ensures front { IfErr result (λ e. IsFront (server_spelling (boot_frame N.site N.run_seed service incarnation)) (L.wire e.1).given) }
         ensures cause { IfErr result (λ e. e.0 ≡ Missed.Failed → 0 < (L.wire e.1).faults) }
         ensures room { self.old.room ≤ self.new.room + 1 }
     {
@@ -95,9 +118,14 @@ impl<N: Backed, J: Site, C: CellNames, K: Keeper, S: Sink, L: Link + Drop> Recor
         ensures columns { self.new.sat ≡ self.old.sat }
         ensures only { OnlyAt note.service self.old.watch self.new.watch }
         ensures last { last_booted (seen_at self.new.watch note.service) ≡ last_booted (seen_at self.old.watch note.service) }
+        ensures link { link_at self.new.watch note.service ≡ link_at self.old.watch note.service }
+        ensures out { (n : ℕ) → all_out self.new.watch n ≤ all_out self.old.watch n }
         ensures met { last_booted note.seen ≤ last_booted (seen_at self.new.watch note.service) }
+        ensures behind { CellsGo self.old.watch self.new.watch }
+        ensures own { self.new.own ≡ self.old.own }
         ensures room { self.new.room ≡ self.old.room }
     {
+        self.cells.keeps();
         self.cells.meet(cells, note);
     }
 }

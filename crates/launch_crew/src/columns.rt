@@ -1,14 +1,17 @@
 //! What the launcher does at the proxies, at pubd and at oklogd.
 
-ghost use Rattle.std.specs.Prelude.{◌≡◌, ◌<◌, ◌≤◌, ◌+◌, ℕ, OnOk, OnErr, length};
+ghost use Rattle.std.specs.Prelude.{◌≡◌, ◌<◌, ◌≤◌, ◌+◌, ℕ, List, [], ◌∷◌, OnOk, OnErr, length, map};
 ghost use Rattle.okws_base.specs.Past.{last_by};
 ghost use Rattle.okws_base.specs.declared.limit.TheConstants.{MOST_INCARNATIONS, MOST_PROXIES};
 ghost use Rattle.okws_plan.specs.declared.script.Place.{Place};
-ghost use Rattle.okws_plan.specs.declared.script.Place.TheVariants.{Pubd, Oklogd};
+ghost use Rattle.okws_plan.specs.declared.script.Place.TheVariants.{Proxy, Pubd, Oklogd};
+ghost use Rattle.okws_plan.specs.Configuration.{cols, grants_at, proxies_of};
+ghost use Rattle.monitor_model.specs.Launches.{install_at, with_installs, with_revoke_log, with_revoke_pubd, with_revokes, with_revokes_from};
 ghost use Rattle.monitor_model.specs.Seen.{proxy_past};
 ghost use Rattle.monitor_model.specs.Standing.{proxy_grant, pubd_grant, log_grant};
 ghost use Rattle.site_locks.specs.Turns.{Stays};
 ghost use Rattle.launch_crew.specs.Crews.{StandsAt, lasts_at};
+ghost use Rattle.launch_crew.specs.Listed.{InstallsFirst, with_install_if, with_revoke_at};
 ghost use Rattle.launch_crew.specs.Pasts.{Revoked, Installed};
 ghost use Rattle.launch_crew.specs.Steps.{OnlyProxies, OnlyPubd, OnlyLog, TurnsAt, RevokesRow, InstallsIf, InstallsRow, InstallsRest, StandsRest, Revokes, Installs};
 
@@ -42,6 +45,7 @@ impl<N: Backed, J: Site, C: CellNames, K: Keeper, S: Sink, L: Link> Recorder<N, 
         ensures cells { self.new.watch ≡ self.old.watch }
         ensures turns { TurnsAt proxy self.old.sat self.new.sat }
         ensures revoked { Revoked proxy_grant service (proxy_past self.old.sat.proxies proxy) (proxy_past self.new.sat.proxies proxy) }
+        ensures own { self.new.own ≡ with_revoke_at service proxy self.old.own }
         ensures room { self.old.room ≤ self.new.room + 1 }
     {
         if let Some(incarnation) = self.seats.revoke_at_proxy(rt, locks, proxy, service) {
@@ -62,6 +66,7 @@ impl<N: Backed, J: Site, C: CellNames, K: Keeper, S: Sink, L: Link> Recorder<N, 
         ensures cells { self.new.watch ≡ self.old.watch }
         ensures only { OnlyProxies self.old.sat self.new.sat }
         ensures row { RevokesRow service (length N.site.proxies) self.old.sat.proxies self.new.sat.proxies }
+        ensures own { self.new.own ≡ with_revokes_from service 0 (length N.site.proxies) self.old.own }
         ensures room { self.old.room ≤ self.new.room + MOST_PROXIES }
     {
         let _own = &self.own;
@@ -77,6 +82,7 @@ impl<N: Backed, J: Site, C: CellNames, K: Keeper, S: Sink, L: Link> Recorder<N, 
         ensures cells { self.new.watch ≡ self.old.watch }
         ensures only { OnlyPubd self.old.sat self.new.sat }
         ensures revoked { Revoked pubd_grant service self.old.sat.pubd self.new.sat.pubd }
+        ensures own { self.new.own ≡ with_revoke_pubd service self.old.own }
         ensures room { self.old.room ≤ self.new.room + 1 }
     {
         if let Some(incarnation) = self.seats.revoke_at_pubd(rt, locks, service) {
@@ -94,6 +100,7 @@ impl<N: Backed, J: Site, C: CellNames, K: Keeper, S: Sink, L: Link> Recorder<N, 
         ensures cells { self.new.watch ≡ self.old.watch }
         ensures only { OnlyLog self.old.sat self.new.sat }
         ensures revoked { Revoked log_grant service self.old.sat.oklogd self.new.sat.oklogd }
+        ensures own { self.new.own ≡ with_revoke_log service self.old.own }
         ensures room { self.old.room ≤ self.new.room + 1 }
     {
         if let Some(incarnation) = self.seats.revoke_at_log(rt, locks, service) {
@@ -110,6 +117,7 @@ impl<N: Backed, J: Site, C: CellNames, K: Keeper, S: Sink, L: Link> Recorder<N, 
         requires room { MOST_PROXIES + 2 ≤ self.old.room }
         ensures cells { self.new.watch ≡ self.old.watch }
         ensures revokes { Revokes N.site service self.old.sat self.new.sat }
+        ensures own { self.new.own ≡ with_revokes N.site service self.old.own }
         ensures room { self.old.room ≤ self.new.room + (MOST_PROXIES + 2) }
     {
         self.revoke_at_proxies(rt, locks, service);
@@ -137,6 +145,8 @@ impl<N: Backed, J: Site, C: CellNames, K: Keeper, S: Sink, L: Link> Recorder<N, 
         ensures turns { TurnsAt proxy self.old.sat self.new.sat }
         ensures ok { OnOk result (Installed proxy_grant service incarnation (proxy_past self.old.sat.proxies proxy) (proxy_past self.new.sat.proxies proxy)) }
         ensures err { OnErr result (Stays proxy_grant (proxy_past self.old.sat.proxies proxy) (proxy_past self.new.sat.proxies proxy)) }
+        ensures added { OnOk result (self.new.own ≡ install_at N.run_seed service incarnation (Proxy proxy) ∷ self.old.own) }
+        ensures kept { OnErr result (self.new.own ≡ self.old.own) }
         ensures room { self.old.room ≤ self.new.room + 1 }
     {
         let token = token(seed, service, incarnation, proxy);
@@ -175,6 +185,8 @@ impl<N: Backed, J: Site, C: CellNames, K: Keeper, S: Sink, L: Link> Recorder<N, 
         ensures turns { TurnsAt proxy self.old.sat self.new.sat }
         ensures ok { OnOk result (InstallsIf N.site service incarnation proxy (proxy_past self.old.sat.proxies proxy) (proxy_past self.new.sat.proxies proxy)) }
         ensures err { OnErr result (Stays proxy_grant (proxy_past self.old.sat.proxies proxy) (proxy_past self.new.sat.proxies proxy)) }
+        ensures added { OnOk result (self.new.own ≡ with_install_if (grants_at N.site service proxy) N.run_seed service incarnation (Proxy proxy) self.old.own) }
+        ensures kept { OnErr result (self.new.own ≡ self.old.own) }
         ensures room { self.old.room ≤ self.new.room + 1 }
     {
         if may_call_at(site, service, proxy) {
@@ -204,6 +216,8 @@ impl<N: Backed, J: Site, C: CellNames, K: Keeper, S: Sink, L: Link> Recorder<N, 
         ensures only { OnlyProxies self.old.sat self.new.sat }
         ensures ok { OnOk result (InstallsRow N.site service incarnation (length N.site.proxies) self.old.sat.proxies self.new.sat.proxies) }
         ensures err { OnErr result ((p : ℕ) × InstallsRow N.site service incarnation p self.old.sat.proxies self.new.sat.proxies) }
+        ensures added { OnOk result (self.new.own ≡ with_installs N.run_seed service incarnation (map Proxy (proxies_of N.site service)) self.old.own) }
+        ensures front { OnErr result ((rest : List Place) × InstallsFirst N.run_seed service incarnation (map Proxy (proxies_of N.site service)) rest self.old.own self.new.own) }
         ensures room { self.old.room ≤ self.new.room + MOST_PROXIES }
     {
         let _own = &self.own;
@@ -228,6 +242,8 @@ impl<N: Backed, J: Site, C: CellNames, K: Keeper, S: Sink, L: Link> Recorder<N, 
         ensures only { OnlyPubd self.old.sat self.new.sat }
         ensures ok { OnOk result (Installed pubd_grant service incarnation self.old.sat.pubd self.new.sat.pubd) }
         ensures err { OnErr result (Stays pubd_grant self.old.sat.pubd self.new.sat.pubd) }
+        ensures added { OnOk result (self.new.own ≡ install_at N.run_seed service incarnation Pubd ∷ self.old.own) }
+        ensures kept { OnErr result (self.new.own ≡ self.old.own) }
         ensures room { self.old.room ≤ self.new.room + 1 }
     {
         self.seats.install_at_pubd(rt, locks, service, incarnation)?;
@@ -253,6 +269,8 @@ impl<N: Backed, J: Site, C: CellNames, K: Keeper, S: Sink, L: Link> Recorder<N, 
         ensures only { OnlyLog self.old.sat self.new.sat }
         ensures ok { OnOk result (Installed log_grant service incarnation self.old.sat.oklogd self.new.sat.oklogd) }
         ensures err { OnErr result (Stays log_grant self.old.sat.oklogd self.new.sat.oklogd) }
+        ensures added { OnOk result (self.new.own ≡ install_at N.run_seed service incarnation Oklogd ∷ self.old.own) }
+        ensures kept { OnErr result (self.new.own ≡ self.old.own) }
         ensures room { self.old.room ≤ self.new.room + 1 }
     {
         self.seats.install_at_log(rt, locks, service, incarnation)?;
@@ -278,6 +296,8 @@ impl<N: Backed, J: Site, C: CellNames, K: Keeper, S: Sink, L: Link> Recorder<N, 
         ensures cells { self.new.watch ≡ self.old.watch }
         ensures rest { InstallsRest service incarnation self.old.sat self.new.sat }
         ensures ok { OnOk result (StandsRest service incarnation self.new.sat) }
+        ensures added { OnOk result (self.new.own ≡ with_installs N.run_seed service incarnation (Pubd ∷ Oklogd ∷ []) self.old.own) }
+        ensures front { OnErr result ((rest : List Place) × InstallsFirst N.run_seed service incarnation (Pubd ∷ Oklogd ∷ []) rest self.old.own self.new.own) }
         ensures room { self.old.room ≤ self.new.room + 2 }
     {
         self.install_at_pubd(rt, locks, service, incarnation)?;
@@ -303,6 +323,8 @@ impl<N: Backed, J: Site, C: CellNames, K: Keeper, S: Sink, L: Link> Recorder<N, 
         ensures cells { self.new.watch ≡ self.old.watch }
         ensures installs { Installs service incarnation self.old.sat self.new.sat }
         ensures ok { OnOk result (StandsAt N.site service incarnation self.new.sat) }
+        ensures added { OnOk result (self.new.own ≡ with_installs N.run_seed service incarnation (cols N.site service) self.old.own) }
+        ensures front { OnErr result ((rest : List Place) × InstallsFirst N.run_seed service incarnation (cols N.site service) rest self.old.own self.new.own) }
         ensures room { self.old.room ≤ self.new.room + (MOST_PROXIES + 2) }
     {
         self.install_at_proxies(rt, locks, site, seed, service, incarnation)?;

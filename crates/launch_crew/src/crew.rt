@@ -1,6 +1,6 @@
 //! The launcher's crew: its seats and its children.
 
-ghost use Rattle.std.specs.Prelude.{◌≡◌, ◌<◌, ◌≤◌, ℕ, List, OnErr, OnOk, IfOk, IfErr, IsErrOf, length};
+ghost use Rattle.std.specs.Prelude.{◌≡◌, ◌<◌, ◌≤◌, ℕ, List, None, OnErr, OnOk, IfOk, IfErr, IsErrOf, IsTrue, length};
 ghost use Rattle.okws_base.specs.declared.limit.TheConstants.{MOST_PROXIES, MOST_SERVICES};
 ghost use Rattle.okws_outer.specs.Families.{IsNewLink};
 ghost use Rattle.okws_outer.specs.Lives.{new_life};
@@ -8,7 +8,10 @@ ghost use Rattle.okws_outer.specs.declared.children.ChildEnd.{ChildEnd};
 ghost use Rattle.monitor_model.specs.Cell.{incarnation as incarnation_of, last_booted, boot_frame};
 ghost use Rattle.cell_locks.specs.Row.{IsNew, seen_at};
 ghost use Rattle.site_locks.specs.Made.{fresh};
-ghost use Rattle.launch_crew.specs.Crews.{Below, crew_of};
+ghost use Rattle.launch_crew.specs.Crews.{Below, child_of, crew_of};
+ghost use Rattle.launch_crew.specs.Ended.{Attended, family_ended, tells_ended};
+ghost use Rattle.launch_crew.specs.Finished.{EndsAll, EndsOf, PlacesNone, StartsChild, StartsNone};
+ghost use Rattle.launch_crew.specs.Listed.{CellsGo, EndsPieces};
 ghost use Rattle.launch_crew.specs.Recorded.{AreOwn, IsUnused};
 ghost use Rattle.launch_crew.specs.Steps.{Empties, Starts, Misses};
 ghost use Rattle.launch_crew.specs.Told.{FailsBy, Finishes, FinishesFaulty};
@@ -75,6 +78,8 @@ impl<N: Backed, J: Site, C: CellNames, K: Keeper, S: Sink, F: Children + Drop> C
         ensures unused { IfOk result (λ c. IsUnused N.site N.launcher c.recorder) }
         ensures room { IfOk result (λ c. length N.site.services ≤ c.recorder.room) }
         ensures children { IfOk result (λ c. c.staff.family ≡ F.family children) }
+        ensures attended { IfOk result (λ c. Attended (crew_of c.recorder c.staff)) }
+        ensures idle { IfOk result (λ c. (s : ℕ) → child_of (crew_of c.recorder c.staff) s ≡ None) }
         ensures err { IfErr result (λ f. F.family f ≡ F.family children) }
     {
         let mut recorder = Recorder::new(alloc, seats, cells, keeps);
@@ -100,7 +105,8 @@ impl<N: Backed, J: Site, C: CellNames, K: Keeper, S: Sink, F: Children> Crew<N, 
     pub fn empty<R: Wait>(&mut self, rt: &R, cells: &CellLocks<N, C, F::Link>, service: u16)
         requires service { service < length N.site.services }
         requires room { 0 < self.old.recorder.room }
-        ensures { Empties service (crew_of self.old.recorder self.old.staff) (crew_of self.new.recorder self.new.staff) }
+        ensures empties { Empties service (crew_of self.old.recorder self.old.staff) (crew_of self.new.recorder self.new.staff) }
+        ensures ended { Attended (crew_of self.old.recorder self.old.staff) → EndsOf N.site N.run_seed self.old.recorder.watch self.new.recorder.watch (child_of (crew_of self.old.recorder self.old.staff) service) self.old.staff.family self.new.staff.family }
     {
         self.staff.stop(service);
         let link = self.recorder.retire(rt, cells, service);
@@ -128,6 +134,8 @@ impl<N: Backed, J: Site, C: CellNames, K: Keeper, S: Sink, F: Children> Crew<N, 
         ensures ok { OnOk result (Starts service incarnation (crew_of self.old.recorder self.old.staff) (crew_of self.new.recorder self.new.staff)) }
         ensures err { OnErr result (Misses service incarnation (crew_of self.old.recorder self.old.staff) (crew_of self.new.recorder self.new.staff)) }
         ensures cause { IsErrOf result Missed.Failed → FinishesFaulty service incarnation self.old.staff.family self.new.staff.family }
+        ensures told { OnOk result (self.new.staff.family ≡ self.old.staff.family) }
+        ensures in_vain { OnErr result (PlacesNone N.site N.run_seed service incarnation self.old.staff.family self.new.staff.family) }
     {
         let Started { child, link } = started;
         match self
@@ -164,6 +172,8 @@ impl<N: Backed, J: Site, C: CellNames, K: Keeper, S: Sink, F: Children> Crew<N, 
         ensures ok { OnOk result (Starts service incarnation (crew_of self.old.recorder self.old.staff) (crew_of self.new.recorder self.new.staff)) }
         ensures err { OnErr result (Misses service incarnation (crew_of self.old.recorder self.old.staff) (crew_of self.new.recorder self.new.staff)) }
         ensures cause { IsErrOf result Missed.Failed → FailsBy service incarnation self.old.staff.family self.new.staff.family }
+        ensures started { OnOk result (StartsChild service incarnation words.now self.old.staff.family self.new.staff.family) }
+        ensures in_vain { OnErr result (StartsNone N.site N.run_seed service incarnation words.now self.old.staff.family self.new.staff.family) }
     {
         let started = self.staff.start(service, incarnation, words)?;
         self.place(rt, cells, service, incarnation, started, tokens)
@@ -182,12 +192,18 @@ impl<N: Backed, J: Site, C: CellNames, K: Keeper, S: Sink, F: Children> Crew<N, 
         ensures cells { (s : ℕ) → s < length N.site.services → incarnation_of (seen_at result.cells s) ≡ 0 }
         ensures below { (s k : ℕ) → Below s k self.recorder.sat self.recorder.watch → Below s k result.seats result.cells }
         ensures own { AreOwn N.launcher result.seats result.cells result.own }
+        ensures behind { CellsGo self.recorder.watch result.cells }
+        ensures ends { EndsPieces result.cells.cells self.recorder.own result.own }
         ensures children { (ends : List ChildEnd) × Finishes ends self.staff.family (F.family result.children) }
+        ensures all { Attended (crew_of self.recorder self.staff) → EndsAll N.site N.run_seed result.cells (crew_of self.recorder self.staff) (F.family result.children) }
+        ensures ended { Attended (crew_of self.recorder self.staff) → (s k : ℕ) → IsTrue (tells_ended (crew_of self.recorder self.staff) s k) → IsTrue (family_ended (F.family result.children) s k) }
     {
         let mut crew = self;
         for service in 0..crew.recorder.services() {
             crew.empty(rt, cells, service as u16);
         }
+        crew.recorder.keeps();
+        crew.staff.fits();
         let Crew { recorder, staff } = crew;
         let (seats, cells, own) = recorder.into_parts();
         Stopped {

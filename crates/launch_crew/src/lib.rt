@@ -7,5 +7,6 @@ pub mod answer;
 mod cells;
 mod columns;
 pub mod crew;
+mod notes;
 pub mod recorder;
 pub mod staff;

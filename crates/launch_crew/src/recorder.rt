@@ -1,12 +1,15 @@
 //! The launcher's seats, with the list of what was done from them.
 
-ghost use Rattle.std.specs.Prelude.{◌≡◌, ◌<◌, ◌≤◌, ◌+◌, length, slice_index, slice_set, OnOk, OnErr};
+ghost use Rattle.std.specs.Prelude.{◌≡◌, ◌<◌, ◌≤◌, ◌+◌, ◌∷◌, length, slice_index, slice_set, OnOk, OnErr};
 ghost use Rattle.okws_base.specs.declared.limit.TheConstants.{MOST_PROXIES, MOST_SERVICES};
+ghost use Rattle.okws_plan.specs.declared.event.OkdEvent.TheVariants as event;
+ghost use Rattle.monitor_model.specs.declared.record.Own.TheVariants as own;
+ghost use Rattle.monitor_model.specs.Launches.{with_down};
 ghost use Rattle.cell_locks.specs.Row.{IsNew};
 ghost use Rattle.site_locks.specs.Made.{fresh};
 ghost use Rattle.launch_crew.specs.Coming.{Came, NoneCame};
 ghost use Rattle.launch_crew.specs.Crews.{up_of};
-ghost use Rattle.launch_crew.specs.Recorded.{AreOwn, IsUnused};
+ghost use Rattle.launch_crew.specs.Recorded.{AreOwn, IsRecorded, IsUnused};
 ghost use Rattle.launch_crew.specs.Steps.{Downs, Ups, Looks};
 
 use cell_locks::named::CellNames;
@@ -73,6 +76,13 @@ impl<N: Backed, J: Site, C: CellNames, K: Keeper, S: Sink, L: Link> Recorder<N, 
         self.cells.services()
     }
 
+    /// What a recorder's type tells of it.
+    pub fn keeps(&self)
+        ensures { IsRecorded N.site N.launcher self.now }
+    {
+        let _own = &self.own;
+    }
+
     /// Makes room for n more items. Where memory is refused, the items are as before.
     pub fn make_room(&mut self, n: usize) -> Result<(), AllocError>
         ensures same { self.new ≡ record self.old { room = self.new.room } }
@@ -108,6 +118,7 @@ impl<N: Backed, J: Site, C: CellNames, K: Keeper, S: Sink, L: Link> Recorder<N, 
         ensures cells { self.new.watch ≡ self.old.watch }
         ensures downs { Downs service self.old.sat self.new.sat }
         ensures came { NoneCame self.old.sat self.new.sat }
+        ensures own { self.new.own ≡ with_down service self.old.own }
         ensures room { self.old.room ≤ self.new.room + 1 }
     {
         if let Some(incarnation) = self.seats.down(rt, locks, service) {
@@ -134,6 +145,8 @@ impl<N: Backed, J: Site, C: CellNames, K: Keeper, S: Sink, L: Link> Recorder<N, 
         ensures err { OnErr result (Looks self.old.sat self.new.sat) }
         ensures came { OnOk result (Came service incarnation self.old.sat self.new.sat) }
         ensures none { OnErr result (NoneCame self.old.sat self.new.sat) }
+        ensures added { OnOk result (self.new.own ≡ own.Okd (event.Up service incarnation) ∷ self.old.own) }
+        ensures kept { OnErr result (self.new.own ≡ self.old.own) }
         ensures room { self.old.room ≤ self.new.room + 1 }
     {
         self.seats.up(rt, locks, service, incarnation)?;

@@ -4,7 +4,7 @@ ghost use Rattle.std.specs.Prelude.{◌≡◌, ◌<◌, ◌≤◌, None, Some, I
 ghost use Rattle.okws_outer.specs.Families.{IsNewLink, with_start, with_end};
 ghost use Rattle.okws_outer.specs.Lives.{new_life};
 ghost use Rattle.okws_outer.specs.Streams.{Rose};
-ghost use Rattle.launch_crew.specs.Crews.{running_at};
+ghost use Rattle.launch_crew.specs.Crews.{running_at, IsStaff};
 ghost use Rattle.launch_crew.specs.Steps.{AsksChild};
 ghost use Rattle.launch_crew.specs.Told.{with_end_of};
 
@@ -93,6 +93,13 @@ impl<N: Numbered, F: Children> Staff<N, F> {
         ensures { F.family result ≡ self.family }
     {
         self.children
+    }
+
+    /// What a staff's type tells of it.
+    pub fn fits(&self)
+        ensures { IsStaff N.site self.now }
+    {
+        let _running = &self.running;
     }
 
     /// Asks the child of the service whether it has ended, where one runs.

@@ -1,5 +1,5 @@
 -- What a turn enters is entered under the number of who takes it alone.
-use Rattle.std.proofs.Common.{◌≡◌, ℕ, ◌≤◌, List, [], ◌∷◌, length, refl, arith}
+use Rattle.std.proofs.Common.{ℕ, ◌≤◌, List, [], ◌∷◌, length, refl, arith}
 use Rattle.okws_base.specs.Turns.{AllBy, AddsBy}
 use Rattle.okws_base.specs.declared.journal.Entry.{Entry}
 use Rattle.okws_base.specs.declared.limit.TheConstants.{GREATEST_RETRY}

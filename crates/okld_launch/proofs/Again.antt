@@ -1,14 +1,14 @@
 -- A service that was given up may be given up once more where its greatest incarnation has crashed since.
-use Rattle.std.proofs.Common.{◌≡◌, ◌≢◌, ◌∙◌, inl, inr, ℕ, ◌+◌, ◌<◌, ◌≤◌, ◌==◌, Bool, true, false, cond, List, [], ◌∷◌, Option, Some, None, refl, sym, ap, subst, eq-eqb, le-leb, arith}
-use Rattle.std.specs.Prelude.{◌&&◌, ◌||◌, is_some, nat_le, not}
+use Rattle.std.proofs.Common.{◌≡◌, ◌∙◌, inl, inr, ℕ, ◌+◌, ◌≤◌, ◌==◌, Bool, true, false, cond, List, [], ◌∷◌, Option, Some, None, refl, sym, ap, eq-eqb, le-leb, arith}
+use Rattle.std.specs.Prelude.{◌&&◌, is_some, nat_le}
 use Rattle.std.proofs.lemmas.Bool.{and_from, and_parts, eqb-true, leb-true}
 use Rattle.okws_base.specs.declared.journal.Entry.{Entry}
 use Rattle.okws_plan.specs.declared.configuration.Config.{Config}
 use Rattle.okws_plan.specs.declared.event.LauncherEvent.{LauncherEvent}
 use Rattle.okws_plan.specs.declared.event.LauncherEvent.TheVariants as event
 use Rattle.okws_outer.specs.Families.{Family}
-use Rattle.monitor_model.specs.Launcher.{LauncherLaw, begun, fell, is_asked_of, is_dead, is_new_try, may_enter, may_give_up, tried, tries}
-use Rattle.launch_journal.specs.Launches.{Launches, entered, given_up}
+use Rattle.monitor_model.specs.Launcher.{LauncherLaw, begun, fell, is_dead, is_new_try, may_enter, may_give_up, tried, tries}
+use Rattle.launch_journal.specs.Launches.{given_up}
 use Rattle.okld_launch.specs.Going.{GivesUpAgain, GoesCrashed, with_entry}
 use Rattle.okld_launch.specs.Launchers.{LauncherIs}
 use Rattle.okld_launch.specs.declared.answer.Crashed.{Crashed}

@@ -18,7 +18,7 @@ use Rattle.okld_launch.specs.Launchers.{LauncherIs, AreCaused, MayLaunch, up_in}
 use Rattle.okld_launch.specs.Going.{with_begun, with_entry, with_failed}
 use Rattle.okld_launch.proofs.Begins.{begun_here, no_ups}
 use Rattle.okld_launch.proofs.Causing.{caused_begun, caused_ended, caused_same, caused_up, failed_follows, fallen_follows, none_caused}
-use Rattle.okld_launch.proofs.Placing.{Clears, zeroed}
+use Rattle.okld_launch.proofs.Placing.{Clears}
 
 -- ---- what changes nothing of it
 

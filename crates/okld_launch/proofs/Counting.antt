@@ -1,5 +1,5 @@
 -- The attempts of a launch that failed: what they enter, and that they are no more than the tries that a service has.
-use Rattle.std.proofs.Common.{◌≡◌, ◌≢◌, ◌∙◌, ◌⊎◌, inl, inr, ⊎_elim, ℕ, zero, suc, ◌+◌, ◌<◌, ◌≤◌, Bool, true, false, List, ◌∷◌, ◌++◌, Option, Some, None, length, refl, sym, ap, subst, arith, eq-eqb, ne_eqb}
+use Rattle.std.proofs.Common.{◌≡◌, ◌≢◌, ◌∙◌, ◌⊎◌, inl, inr, ⊎_elim, ℕ, zero, suc, ◌+◌, ◌<◌, ◌≤◌, Bool, true, false, List, ◌++◌, Option, Some, None, length, refl, sym, ap, subst, arith, eq-eqb, ne_eqb}
 use Rattle.std.specs.Prelude.{◌==◌, ◌&&◌, ◌||◌, nat_lt, not, max, if◌then◌else◌, option_to_list}
 use Rattle.std.proofs.lemmas.Bool.{ltb-true}
 use Rattle.okws_base.specs.declared.journal.Entry.{Entry}
@@ -7,13 +7,13 @@ use Rattle.okws_plan.specs.declared.configuration.Config.{Config}
 use Rattle.okws_plan.specs.declared.event.LauncherEvent.{LauncherEvent}
 use Rattle.okws_plan.specs.declared.event.LauncherEvent.TheVariants as event
 use Rattle.okws_outer.specs.Families.{Family}
-use Rattle.monitor_model.specs.Launcher.{begun, tried, tries, is_dead, may_begin}
+use Rattle.monitor_model.specs.Launcher.{begun, tried, tries, is_dead}
 use Rattle.launch_journal.specs.Launches.{Allows}
 use Rattle.launch_journal.specs.declared.next.Next.TheVariants as next
 use Rattle.okld_launch.specs.Launchers.{LauncherIs, TriedAreBegun, IsOut}
 use Rattle.okld_launch.specs.Going.{with_entry, with_begun, with_failed, Fell, Attempts}
 use Rattle.okld_launch.specs.declared.answer.Attempt.TheVariants as attempt
-use Rattle.okld_launch.specs.Entering.{entries_of, Enters, failed_from, events_of, most_entered}
+use Rattle.okld_launch.specs.Entering.{Enters, failed_from, events_of, most_entered}
 use Rattle.okld_launch.proofs.Begins.{begun_here, tried_on}
 use Rattle.okld_launch.proofs.Trying.{begun_tried, failed_begun}
 use Rattle.okld_launch.proofs.Told.{begun_failed}

@@ -1,5 +1,5 @@
 -- What each step of a launch leaves of the launcher.
-use Rattle.std.proofs.Common.{◌≡◌, ◌≢◌, ◌∙◌, ⊎_elim, ℕ, ◌+◌, ◌<◌, ◌≤◌, List, [], ◌∷◌, Option, Some, None, length, refl, sym, ap, subst, arith, get_or-set_same, get_or-set_other}
+use Rattle.std.proofs.Common.{◌≡◌, ◌≢◌, ◌∙◌, ⊎_elim, ℕ, ◌<◌, ◌≤◌, [], Option, None, length, refl, sym, ap, subst, arith, get_or-set_other}
 use Rattle.std.specs.Prelude.{slice_index, slice_set}
 use Rattle.std.proofs.lemmas.Bool.{cases_eq}
 use Rattle.okws_plan.specs.declared.configuration.Config.{Config}
@@ -9,9 +9,9 @@ use Rattle.monitor_model.specs.Cell.{incarnation, last_booted}
 use Rattle.monitor_model.specs.Launcher.{begun}
 use Rattle.cell_locks.specs.Row.{CellsSeen, seen_at, OnlyAt}
 use Rattle.site_locks.specs.Sat.{Sat}
-use Rattle.launch_crew.specs.Crews.{CrewIs, child_of, up_of, stands_at, lasts_at, whole, Below, Under, IsQuiet, StandsAt, RunsAs, IsUp, IsColumnOf}
+use Rattle.launch_crew.specs.Crews.{CrewIs, child_of, up_of, stands_at, lasts_at, Below, Under, RunsAs, IsUp}
 use Rattle.okld_launch.specs.Launchers.{LauncherIs, up_in, TriedAreBegun, IsKept, IsLauncher}
-use Rattle.launch_crew.specs.Steps.{OnlyOkd, OnlyColumns, SameHands, Downs, Ups, Looks, Thins, Revokes, Installs, Empties, Tries, Starts, Misses}
+use Rattle.launch_crew.specs.Steps.{OnlyOkd, OnlyColumns, SameHands, Downs, Ups, Looks, Thins, Installs, Empties, Tries, Starts, Misses}
 
 -- of every service but s the crew knows and has the same
 pub record Spares (s : ℕ) (c d : CrewIs) : Type 0 where

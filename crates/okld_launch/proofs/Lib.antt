@@ -13,3 +13,13 @@ pub mod Causing
 pub mod Caused
 pub mod Opened
 pub mod Again
+pub mod Children
+pub mod Pieces
+pub mod OnWay
+pub mod Deeds
+pub mod Turning
+pub mod Attending
+pub mod Standing
+pub mod Kin
+pub mod Gone
+pub mod Heard

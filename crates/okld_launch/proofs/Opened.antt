@@ -1,7 +1,6 @@
 -- A launcher in which a crash was entered.
 use Rattle.std.proofs.Common.{◌≡◌, ◌∙◌, ℕ, ◌≤◌, List, ap, arith}
 use Rattle.okws_base.specs.declared.journal.Entry.{Entry}
-use Rattle.okws_outer.specs.Families.{Family}
 use Rattle.okws_plan.specs.declared.event.LauncherEvent.{LauncherEvent}
 use Rattle.okws_plan.specs.declared.event.LauncherEvent.TheVariants as event
 use Rattle.monitor_model.specs.Launcher.{begun}

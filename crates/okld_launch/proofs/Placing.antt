@@ -1,24 +1,19 @@
 -- What each step of a launch leaves of the launcher.
-use Rattle.std.proofs.Common.{◌≡◌, ◌≢◌, ◌∙◌, ℕ, zero, suc, ◌+◌, ◌<◌, ◌≤◌, List, [], ◌∷◌, Option, Some, None, length, refl, sym, ap, subst, arith, length-set}
+use Rattle.std.proofs.Common.{◌≡◌, ◌≢◌, ◌∙◌, ℕ, zero, suc, ◌<◌, ◌≤◌, List, [], ◌∷◌, Option, None, length, refl, sym, ap, subst, length-set}
 use Rattle.std.specs.Prelude.{slice_index, slice_set, slice_index_or, Result, OnOk, OnErr}
-use Rattle.okws_base.specs.declared.journal.Entry.{Entry}
-use Rattle.okws_plan.specs.Lines.{PlaceFits}
 use Rattle.okws_plan.specs.declared.configuration.Config.{Config}
-use Rattle.okws_plan.specs.declared.script.Place.{Place}
 use Rattle.okws_outer.specs.Lives.{Life}
-use mathlib.Core.Logic.{dite}
-use native.Mathlib.Decide.{ℕ_discrete}
-use Rattle.monitor_model.specs.Cell.{incarnation, last_booted}
+use Rattle.monitor_model.specs.Cell.{incarnation}
 use Rattle.monitor_model.specs.Launcher.{begun}
 use Rattle.monitor_model.specs.Standing.{up_at_okd}
-use Rattle.cell_locks.proofs.Onlys.{only_else}
-use Rattle.cell_locks.specs.Row.{CellsSeen, seen_at}
 use Rattle.launch_journal.specs.Launches.{Launches}
 use Rattle.site_locks.specs.Sat.{Sat}
-use Rattle.launch_crew.specs.Crews.{CrewIs, child_of, lasts_at, up_of, stands_at, Below, Under, IsQuiet, NoneStands, StandsAt, RunsAs, IsUp}
-use Rattle.okld_launch.specs.Launchers.{LauncherIs, up_in, TriedAreBegun, IsKept, IsLauncher}
-use Rattle.launch_crew.specs.Steps.{OnlyOkd, SameHands, Downs, Ups, Looks, Revokes, Installs, Empties, Tries, Starts, Misses}
-use Rattle.okld_launch.proofs.Keeps.{stands_okd, Spares, spares_on, spares_downs, spares_ups, spares_looks, spares_thins, spares_installs, spares_empties, spares_starts, spares_misses, StepsAt, keeps, IsDown, kept_down, IsRaised, kept_up, below_okd, below_thins, below_installs, below_empties, below_tries, under_okd, under_thins, under_empties}
+use Rattle.launch_crew.specs.Crews.{CrewIs, child_of, up_of, stands_at, Below, Under, IsQuiet, StandsAt, RunsAs}
+use Rattle.okld_launch.specs.Children.{StaysAttended}
+use Rattle.okld_launch.specs.Launchers.{LauncherIs, up_in, TriedAreBegun, IsLauncher}
+use Rattle.launch_crew.specs.Steps.{SameHands, Downs, Ups, Looks, Revokes, Installs, Empties, Tries, Starts, Misses}
+use Rattle.okld_launch.proofs.Keeps.{stands_okd, Spares, spares_on, spares_downs, spares_ups, spares_looks, spares_thins, spares_installs, spares_empties, spares_starts, spares_misses, StepsAt, keeps, kept_down, kept_up, below_okd, below_thins, below_installs, below_empties, below_tries, under_okd, under_thins, under_empties}
+use Rattle.okld_launch.proofs.Children.{stays_missed, stays_started}
 use Rattle.launch_crew.proofs.Places.{either_way}
 use Rattle.launch_crew.proofs.Slots.{set_here, set_there}
 
@@ -177,3 +172,8 @@ looked_kept C s l m h journal ups hands looks down spare = turned_down C s l m h
     (looks.same s ∙ (h.each s).down down)
     (below_okd s (begun l.journal.past s) l.crew m.crew looks.only hands (h.each s).below)
     looks.only.board_is
+
+-- ---- what is known of the children
+
+pub stays_tried : {A X : Type 0} (r : Result A X) (s k : ℕ) (c d : CrewIs) → child_of c s ≡ None → OnOk r (Starts s k c d) → OnErr r (Misses s k c d) → StaysAttended c d
+stays_tried r s k c d none ok err = either_way r (Starts s k c d) (Misses s k c d) (StaysAttended c d) ok err (stays_started s k c d none) (stays_missed s k c d none)

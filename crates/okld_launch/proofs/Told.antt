@@ -1,5 +1,5 @@
 -- What the answers of a launch say.
-use Rattle.std.proofs.Common.{◌≡◌, ◌∙◌, ◌⊎◌, inl, inr, ⊎_elim, ℕ, zero, suc, ◌+◌, ◌-◌, ◌<◌, ◌≤◌, List, None, refl, sym, ap, subst, arith}
+use Rattle.std.proofs.Common.{◌≡◌, ◌∙◌, ◌⊎◌, inl, inr, ⊎_elim, ℕ, suc, ◌+◌, ◌-◌, ◌<◌, List, None, refl, ap, subst, arith}
 use Rattle.okws_base.specs.declared.journal.Entry.{Entry}
 use Rattle.okws_base.specs.declared.limit.TheConstants.{MOST_INCARNATIONS}
 use Rattle.okws_plan.specs.declared.configuration.Config.{Config}
@@ -7,10 +7,10 @@ use Rattle.okws_plan.specs.declared.event.LauncherEvent.{LauncherEvent}
 use Rattle.okws_plan.specs.declared.event.LauncherEvent.TheVariants as event
 use Rattle.okws_outer.specs.Families.{Family}
 use Rattle.okws_outer.specs.declared.child.Ended.TheVariants.{Yes}
-use Rattle.monitor_model.specs.Launcher.{begun, tries}
+use Rattle.monitor_model.specs.Launcher.{begun}
 use Rattle.launch_journal.specs.Launches.{Launches, Allows, entered, given_up}
 use Rattle.launch_journal.specs.declared.next.Next.TheVariants as next
-use Rattle.okld_launch.specs.Going.{with_entry, with_begun, with_failed, Closes, Attempts, Fell, Ends, Goes, GoesCrashed, Tends, GoesTended, AsksUp, HasEnded, crashed_as, tended_as}
+use Rattle.okld_launch.specs.Going.{with_entry, with_begun, with_failed, Closes, Attempts, Fell, Ends, Goes, GoesCrashed, Tends, GoesTended, AsksUp, crashed_as, tended_as}
 use Rattle.okld_launch.specs.Launchers.{LauncherIs, IsOut, up_in}
 use Rattle.okld_launch.specs.States.{LaunchIs, GoesOn}
 use Rattle.launch_crew.specs.Told.{FailsBy}
@@ -20,8 +20,6 @@ use Rattle.okld_launch.specs.declared.answer.Attempt.TheVariants as attempt
 use Rattle.okld_launch.specs.declared.answer.Launched.{Launched}
 use Rattle.okld_launch.specs.declared.answer.Launched.TheVariants as launched
 use Rattle.okld_launch.specs.declared.answer.Crashed.{Crashed}
-use Rattle.okld_launch.specs.declared.answer.Crashed.TheVariants as crashed
-use Rattle.okld_launch.specs.declared.answer.Tended.{Tended}
 use Rattle.okld_launch.specs.declared.answer.Tended.TheVariants as tended
 use Rattle.okld_launch.proofs.Begins.{begun_here}
 

@@ -10,8 +10,10 @@ use Rattle.monitor_model.specs.Launcher.{begun, tried}
 use Rattle.launch_journal.specs.Launches.{Launches}
 use Rattle.launch_crew.specs.Coming.{came_up}
 use Rattle.launch_crew.specs.Crews.{CrewIs, Below, IsUp, NoneStands, up_of}
+use Rattle.launch_crew.specs.Ended.{Attended}
 use Rattle.okld_launch.specs.Causing.{Caused, MayFollow}
 use Rattle.okld_launch.specs.Failures.{FailuresAreTold}
+use Rattle.okld_launch.specs.Kin.{AreKin}
 
 -- Its journal, its crew, and the incarnation of each service that is up, 0 for none.
 pub record LauncherIs : Type 0 where
@@ -51,7 +53,7 @@ pub record IsLauncher (C : Config) (l : LauncherIs) : Type 0 where
   pub spare : length C.services ≤ l.crew.room
   pub each : (s : ℕ) → IsKept C l s
 
--- It is the launcher of a run with this site and this seed, which began when `first` was told of its children: for each Failed of its journal a fault was told since. What was begun was begun for a cause.
+-- It is the launcher of a run with this site and this seed, which began when `first` was told of its children: for each Failed of its journal a fault was told since. What was begun was begun for a cause. Each child that runs has its link at its service's cell; each that was finished was given what it heard.
 pub record IsPlaced (C : Config) (run_seed : List ℕ) (first : Family) (l : LauncherIs) (site : Config) (seed : List ℕ) : Type 0 where
   pub site_is : site ≡ C
   pub seed_is : seed ≡ run_seed
@@ -59,6 +61,8 @@ pub record IsPlaced (C : Config) (run_seed : List ℕ) (first : Family) (l : Lau
   pub keeps : IsLauncher C l
   pub failed : FailuresAreTold first l.journal.past l.crew.family
   pub caused : AreCaused l
+  pub attended : Attended l.crew
+  pub kin : AreKin C run_seed first l.crew.watch l.crew.running l.crew.family
 
 -- It may be entered that incarnation k of s failed: a fault was told for it too.
 abbrev pub MayFail : Family → ℕ → ℕ → LauncherIs → Type 0

@@ -1,12 +1,12 @@
 -- The states of a launch: what is known of service s, of which incarnation k was begun.
-use Rattle.std.specs.Prelude.{◌≡◌, ◌<◌, ◌≤◌, ◌+◌, ℕ, length}
+use Rattle.std.specs.Prelude.{◌≡◌, ◌<◌, ◌≤◌, ◌+◌, ℕ, None, length}
 use Rattle.okws_base.specs.declared.limit.TheConstants.{MOST_INCARNATIONS, MOST_PROXIES}
 use Rattle.okws_plan.specs.declared.configuration.Config.{Config}
 use Rattle.monitor_model.specs.Cell.{incarnation, last_booted}
 use Rattle.monitor_model.specs.Launcher.{begun}
 use Rattle.cell_locks.specs.Row.{seen_at}
 use Rattle.launch_crew.specs.Coming.{came_up}
-use Rattle.launch_crew.specs.Crews.{CrewIs, Under, IsQuiet, StandsAt, RunsAs, child_of}
+use Rattle.launch_crew.specs.Crews.{Under, IsQuiet, StandsAt, RunsAs, child_of}
 use Rattle.launch_crew.specs.Told.{TellsMore}
 use Rattle.okld_launch.specs.Causing.{BrokeOff}
 use Rattle.okld_launch.specs.Launchers.{LauncherIs, up_in}
@@ -39,12 +39,13 @@ pub record IsRevoked (C : Config) (a : LaunchIs) : Type 0 where
   pub quiet : IsQuiet C a.service a.launcher.crew
   pub down : up_in a.launcher a.service ≡ 0
 
--- It stands at each column of the service.
+-- It stands at each column of the service, whose cell is empty and of which no child runs.
 pub record IsInstalled (C : Config) (a : LaunchIs) : Type 0 where
   pub begins : IsBegun C (MOST_PROXIES + 4) a
   pub stands : StandsAt C a.service a.incarnation a.launcher.crew.sat
   pub empty : incarnation (seen_at a.launcher.crew.watch a.service) ≡ 0
   pub later : last_booted (seen_at a.launcher.crew.watch a.service) < a.incarnation
+  pub child : child_of a.launcher.crew a.service ≡ None
   pub down : up_in a.launcher a.service ≡ 0
 
 -- Its child was started, and its cell was booted.

@@ -1,5 +1,8 @@
 //! What the launcher's calls answer.
 
+ghost use Rattle.std.specs.Prelude.{◌≡◌};
+ghost use Rattle.okld_launch.specs.Deeds.{crash_up, launch_up, tend_up};
+
 /// What `launch` and `relaunch` answer.
 #[derive(Clone, Copy, Debug, PartialEq, Eq)]
 pub enum Launched {
@@ -11,6 +14,15 @@ pub enum Launched {
     Spent,
     /// Memory was refused.
     NoMemory,
+}
+
+impl Launched {
+    /// Whether an incarnation was begun in the call, and is up.
+    pub fn is_up(self) -> bool
+        ensures { result ≡ launch_up self }
+    {
+        matches!(self, Launched::Up(_))
+    }
 }
 
 /// What `crashed` answers.
@@ -28,6 +40,15 @@ pub enum Crashed {
     NoMemory,
 }
 
+impl Crashed {
+    /// Whether an incarnation was begun in the call, and is up.
+    pub fn is_up(self) -> bool
+        ensures { result ≡ crash_up self }
+    {
+        matches!(self, Crashed::Up(_))
+    }
+}
+
 /// What `tend` answers.
 #[derive(Clone, Copy, Debug, PartialEq, Eq)]
 pub enum Tended {
@@ -41,6 +62,15 @@ pub enum Tended {
     Spent,
     /// Memory was refused.
     NoMemory,
+}
+
+impl Tended {
+    /// Whether an incarnation was begun in the call, and is up.
+    pub fn is_up(self) -> bool
+        ensures { result ≡ tend_up self }
+    {
+        matches!(self, Tended::Up(_))
+    }
 }
 
 /// How one attempt at a launch went.

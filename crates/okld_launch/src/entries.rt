@@ -7,6 +7,8 @@ ghost use Rattle.monitor_model.specs.Cell.{last_booted};
 ghost use Rattle.monitor_model.specs.Launcher.{LauncherLaw, begun, may_give_up, tries};
 ghost use Rattle.launch_journal.specs.Launches.{Allows, entered, given_up};
 ghost use Rattle.launch_journal.specs.declared.next.Next.TheVariants as next;
+ghost use Rattle.launch_crew.specs.Listed.{AreCounted, CellsGo};
+ghost use Rattle.okld_launch.specs.Children.{StaysAttended};
 ghost use Rattle.okld_launch.specs.Launchers.{AreCaused, IsLauncher, MayFail, up_in};
 ghost use Rattle.okld_launch.specs.Going.{AsksUp, with_entry};
 
@@ -162,6 +164,7 @@ impl<N: Staffed, J: Site, C: CellNames, K: Keeper, S: Sink, F: Children> Launche
         requires service { service < length N.site.services }
         requires up { 0 < up_in self.old service }
         ensures asks { AsksUp service self.old result self.new }
+        ensures stays { StaysAttended self.old.crew self.new.crew }
         ensures same { self.new ≡ record self.old { crew = record self.old.crew { running = self.new.crew.running } } }
     {
         match self.crew.staff.ended(service) {
@@ -184,7 +187,11 @@ impl<N: Staffed, J: Site, C: CellNames, K: Keeper, S: Sink, F: Children> Launche
     pub(crate) fn meet(&mut self, cells: &CellLocks<N, C, F::Link>, note: CellNote<N, C, F::Link>)
         ensures begun { last_booted note.seen ≤ begun self.new.journal.past note.service }
         ensures same { self.new ≡ record self.old { crew = record self.old.crew { watch = self.new.crew.watch } } }
+        ensures behind { CellsGo self.old.crew.watch self.new.crew.watch }
+        ensures counted { AreCounted self.old.crew.watch self.old.crew.own }
+        ensures stays { StaysAttended self.old.crew self.new.crew }
     {
+        self.crew.recorder.keeps();
         self.crew.recorder.meet(cells, note);
     }
 }

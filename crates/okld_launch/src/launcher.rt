@@ -1,14 +1,17 @@
-//! The launcher's value, as it stands behind its lock.
+//! The launcher's value.
 
-ghost use Rattle.std.specs.Prelude.{◌≡◌, ◌<◌, ◌≤◌, ℕ, [], length, slice_index, IfOk, IfErr};
+ghost use Rattle.std.specs.Prelude.{◌≡◌, ◌<◌, ◌≤◌, ℕ, Bool, false, [], length, slice_index, IfOk, IfErr};
 ghost use Rattle.std.specs.Arc.{arc_value};
 ghost use Rattle.okws_base.specs.declared.limit.TheConstants.{MOST_PROXIES};
 ghost use Rattle.monitor_model.specs.Launcher.{LauncherLaw, begun};
 ghost use Rattle.launch_crew.specs.Coming.{came_up};
 ghost use Rattle.launch_crew.specs.Crews.{Below, crew_of};
+ghost use Rattle.launch_crew.specs.Ended.{Attended};
 ghost use Rattle.launch_crew.specs.Recorded.{IsUnused};
 ghost use Rattle.okld_launch.specs.Causing.{AllCaused};
 ghost use Rattle.okld_launch.specs.Failures.{FailuresAreTold};
+ghost use Rattle.okld_launch.specs.Kin.{AreKin};
+ghost use Rattle.okld_launch.specs.Pieces.{IsClosed, IsWhole};
 
 use crate::named::Staffed;
 use cell_locks::named::CellNames;
@@ -74,11 +77,13 @@ impl<N: Staffed, J: Site, C: CellNames, K: Keeper, S: Sink, F: Children + Drop> 
         requires none { journal.past ≡ [] }
         requires unused { IsUnused N.site N.launcher crew.recorder }
         requires spare { length N.site.services ≤ crew.recorder.room }
+        requires attended { Attended (crew_of crew.recorder crew.staff) }
         requires few { length N.site.proxies ≤ MOST_PROXIES }
         requires children { crew.staff.family ≡ N.children }
         requires site { arc_value site ≡ N.site }
         requires seed { seed ≡ N.run_seed }
         ensures ok { IfOk result (λ l. (l.journal ≡ journal) × (l.crew ≡ crew_of crew.recorder crew.staff)) }
+        ensures closed { IfOk result (λ l. IsClosed N.site N.run_seed (λ s k. false) (λ s k. false) l) }
         ensures err { IfErr result (λ c. c ≡ crew) }
     {
         let services = crew.recorder.services();
@@ -106,14 +111,16 @@ impl<N: Staffed, J: Site, C: CellNames, K: Keeper, S: Sink, F: Children> Launche
 > {
     /// What was entered, which keeps the launcher's law, and the crew, by which nothing was launched that
     /// was not begun, and of whose children a fault was told for each Failed. What was begun has its cause.
-    pub fn close(self) -> (Past<Entry<LauncherEvent>>, Crew<N, J, C, K, S, F>)
+    pub(crate) fn close(self) -> (Past<Entry<LauncherEvent>>, Crew<N, J, C, K, S, F>)
         ensures past { result.0 ≡ self.journal.past }
         ensures law { LauncherLaw N.site result.0 }
         ensures crew { crew_of result.1.recorder result.1.staff ≡ self.crew }
         ensures failed { FailuresAreTold N.children result.0 result.1.staff.family }
+        ensures kin { AreKin N.site N.run_seed N.children result.1.recorder.watch result.1.staff.running result.1.staff.family }
         ensures caused { AllCaused (came_up result.1.recorder.sat) result.0 result.0 }
         ensures below { (s : ℕ) → Below s (begun result.0 s) result.1.recorder.sat result.1.recorder.watch }
         ensures shown { (s : ℕ) → s < length N.site.services → slice_index result.1.recorder.sat.board s ≡ begun result.0 s }
+        ensures whole { (up ended : ℕ → ℕ → Bool) → IsClosed N.site N.run_seed up ended self → IsWhole N.site N.run_seed up result.0 result.1.recorder.watch.cells result.1.recorder.own }
         ensures spare { length N.site.services ≤ result.1.recorder.room }
     {
         let Launcher {
@@ -126,37 +133,11 @@ impl<N: Staffed, J: Site, C: CellNames, K: Keeper, S: Sink, F: Children> Launche
         } = self;
         (journal.close(), crew)
     }
-}
 
-impl<N: Staffed, J: Site, C: CellNames, K: Keeper, S: Sink, F: Children> Journaled
-    for Launcher<N, J, C, K, S, F> {
-    ghost use Rattle.named_columns.specs.Launched.{by_entry};
-
-    type Entry = Entry<LauncherEvent>;
-
-    ghost journal = { λ l. l.journal.past };
-
-    ghost by = { by_entry };
-
-    ghost holder = { λ l. l.journal.holder };
-
-    ghost label = { λ _. 0 };
-
-    ghost held = { λ l n. record l { journal = record l.journal { holder = n } } };
-
-    fn hold(&mut self, number: u16)
-        ensures same { self.new.journal.past ≡ self.old.journal.past }
-        ensures holder { self.new.journal.holder ≡ number }
-        ensures all { self.new ≡ record self.old { journal = record self.old.journal { holder = number } } }
+    /// Names the number under which is entered from now on.
+    pub(crate) fn hold(&mut self, number: u16)
+        ensures { self.new ≡ record self.old { journal = record self.old.journal { holder = number } } }
     {
         self.journal.hold(number);
-    }
-
-    fn label(&self) -> u16 {
-        0
-    }
-
-    fn holder(&self) -> u16 {
-        self.journal.holder()
     }
 }

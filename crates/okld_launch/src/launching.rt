@@ -1,16 +1,19 @@
 //! How the launcher launches.
 
-ghost use Rattle.std.specs.Prelude.{◌≡◌, ◌≢◌, ◌<◌, ◌≤◌, ◌++◌, true, false, List, Some, None, is_some, length, option_to_list};
+ghost use Rattle.std.specs.Prelude.{◌≡◌, ◌≢◌, ◌<◌, ◌≤◌, ◌++◌, ℕ, Bool, true, false, List, Some, None, is_some, length, option_to_list};
 ghost use Rattle.okws_base.specs.declared.journal.Entry.{Entry};
 ghost use Rattle.okws_plan.specs.declared.event.LauncherEvent.{LauncherEvent};
 ghost use Rattle.okws_plan.specs.declared.event.LauncherEvent.TheVariants as event;
 ghost use Rattle.okws_base.specs.Turns.{AddsBy};
+ghost use Rattle.monitor_model.specs.Causes.{is_crashed_of};
 ghost use Rattle.monitor_model.specs.Launcher.{begun, fell};
 ghost use Rattle.named_columns.specs.Launched.{by_entry};
 ghost use Rattle.launch_journal.specs.Launches.{Allows, given_up};
 ghost use Rattle.launch_journal.specs.declared.next.Next.TheVariants as next;
 ghost use Rattle.okld_launch.specs.Launchers.{MayLaunch, up_in};
 ghost use Rattle.okld_launch.specs.Entering.{Enters, entries_of, most_entered};
+ghost use Rattle.okld_launch.specs.Deeds.{crash_up, is_one, launch_up, oldest, ups_after};
+ghost use Rattle.okld_launch.specs.Pieces.{HasBegun, HasBooted, HasCleared, HasInstalled, IsClosed, attempt_ups};
 ghost use Rattle.okld_launch.specs.Going.{Attempts, Closes, GivesUpAgain, Goes, GoesAsked, GoesCrashed, Ends, crashed_as, tended_as};
 
 use crate::answer::{Attempt, Crashed, Launched, Tended};
@@ -41,6 +44,7 @@ impl<N: Staffed, J: Site, C: CellNames, K: Keeper, S: Sink, F: Children> Booted<
         locks: &Locks<N, J, K, S>,
     ) -> (Launcher<N, J, C, K, S, F>, Attempt)
         ensures closes { Closes N.site self.launcher.journal.holder self result.1 result.0 }
+        ensures whole { (up ended : ℕ → ℕ → Bool) → HasBooted N.site N.run_seed up ended self → IsClosed N.site N.run_seed (attempt_ups self.service result.1 up) ended result.0 }
         ensures holder { result.0.journal.holder ≡ self.launcher.journal.holder }
     {
         let incarnation = self.incarnation;
@@ -67,6 +71,7 @@ impl<N: Staffed, J: Site, C: CellNames, K: Keeper, S: Sink, F: Children> Install
         cells: &CellLocks<N, C, F::Link>,
     ) -> (Launcher<N, J, C, K, S, F>, Attempt)
         ensures closes { Closes N.site self.launcher.journal.holder self result.1 result.0 }
+        ensures whole { (up ended : ℕ → ℕ → Bool) → HasInstalled N.site N.run_seed up ended self → IsClosed N.site N.run_seed (attempt_ups self.service result.1 up) ended result.0 }
         ensures holder { result.0.journal.holder ≡ self.launcher.journal.holder }
     {
         match self.boot(rt, cells) {
@@ -86,6 +91,7 @@ impl<N: Staffed, J: Site, C: CellNames, K: Keeper, S: Sink, F: Children> Revoked
         cells: &CellLocks<N, C, F::Link>,
     ) -> (Launcher<N, J, C, K, S, F>, Attempt)
         ensures closes { Closes N.site self.launcher.journal.holder self result.1 result.0 }
+        ensures whole { (up ended : ℕ → ℕ → Bool) → HasCleared N.site N.run_seed up ended self → IsClosed N.site N.run_seed (attempt_ups self.service result.1 up) ended result.0 }
         ensures holder { result.0.journal.holder ≡ self.launcher.journal.holder }
     {
         match self.install(rt, locks) {
@@ -104,6 +110,7 @@ impl<N: Staffed, J: Site, C: CellNames, K: Keeper, S: Sink, F: Children> Quiet<N
         cells: &CellLocks<N, C, F::Link>,
     ) -> (Launcher<N, J, C, K, S, F>, Attempt)
         ensures closes { Closes N.site self.launcher.journal.holder self result.1 result.0 }
+        ensures whole { (up ended : ℕ → ℕ → Bool) → HasBegun N.site N.run_seed up ended self → IsClosed N.site N.run_seed (attempt_ups self.service result.1 up) ended result.0 }
         ensures holder { result.0.journal.holder ≡ self.launcher.journal.holder }
     {
         self.revoke(rt, locks, cells).close(rt, locks, cells)
@@ -165,6 +172,7 @@ impl<N: Staffed, J: Site, C: CellNames, K: Keeper, S: Sink, F: Children> Launche
         requires may { Allows N.site self.journal.past service next.Begin }
         requires cause { MayLaunch service self }
         ensures attempts { Attempts N.site self.journal.holder service self.journal.past self.crew.family result.1 result.0 }
+        ensures whole { (up ended : ℕ → ℕ → Bool) → IsClosed N.site N.run_seed up ended self → IsClosed N.site N.run_seed (attempt_ups service result.1 up) ended result.0 }
         ensures holder { result.0.journal.holder ≡ self.journal.holder }
     {
         let mut launcher = self;
@@ -187,6 +195,9 @@ impl<N: Staffed, J: Site, C: CellNames, K: Keeper, S: Sink, F: Children> Launche
         requires no_more { what ≢ next.Begin }
         ensures ends { Ends N.site self.journal.holder service self.journal.past result.1 result.0 }
         ensures enters { Enters self.journal.holder (option_to_list result.2) self.journal.past result.0.journal.past }
+        ensures closing { (t j : ℕ) → is_one (is_crashed_of t j) result.2 ≡ false }
+        ensures down { launch_up result.1 ≡ false }
+        ensures whole { (up ended : ℕ → ℕ → Bool) → IsClosed N.site N.run_seed up ended self → IsClosed N.site N.run_seed up ended result.0 }
         ensures holder { result.0.journal.holder ≡ self.journal.holder }
     {
         let mut launcher = self;
@@ -212,6 +223,7 @@ impl<N: Staffed, J: Site, C: CellNames, K: Keeper, S: Sink, F: Children> Launche
         ensures again { GivesUpAgain self.journal.holder service self.journal.past result.1 result.0 }
         ensures enters { (J : List (Entry LauncherEvent)) → Enters self.journal.holder (option_to_list (Some crash)) J self.journal.past → Enters self.journal.holder result.2 J result.0.journal.past }
         ensures few { length result.2 ≤ most_entered N.site }
+        ensures whole { (up ended : ℕ → ℕ → Bool) → IsClosed N.site N.run_seed up ended self → IsClosed N.site N.run_seed up ended result.0 }
         ensures holder { result.0.journal.holder ≡ self.journal.holder }
     {
         let mut launcher = self;
@@ -245,6 +257,8 @@ impl<N: Staffed, J: Site, C: CellNames, K: Keeper, S: Sink, F: Children> Launche
         ensures goes { Goes N.site self.journal.holder service self.journal.past self.crew.family result.1 result.0 }
         ensures enters { (J : List (Entry LauncherEvent)) → Enters self.journal.holder (option_to_list opening) J self.journal.past → Enters self.journal.holder result.2 J result.0.journal.past }
         ensures few { length result.2 ≤ most_entered N.site }
+        ensures whole { (up ended : ℕ → ℕ → Bool) → IsClosed N.site N.run_seed up ended self → IsClosed N.site N.run_seed (ups_after (launch_up result.1) result.2 up) ended result.0 }
+        ensures oldest { (t j : ℕ) → is_one (is_crashed_of t j) (oldest result.2) ≡ is_one (is_crashed_of t j) opening }
         ensures holder { result.0.journal.holder ≡ self.journal.holder }
     {
         let mut launcher = self;
@@ -292,6 +306,7 @@ impl<N: Staffed, J: Site, C: CellNames, K: Keeper, S: Sink, F: Children> Launche
         ensures goes { Goes N.site self.journal.holder service self.journal.past self.crew.family result.1 result.0 }
         ensures enters { Enters self.journal.holder result.2 self.journal.past result.0.journal.past }
         ensures few { length result.2 ≤ most_entered N.site }
+        ensures whole { (up ended : ℕ → ℕ → Bool) → IsClosed N.site N.run_seed up ended self → IsClosed N.site N.run_seed (ups_after (launch_up result.1) result.2 up) ended result.0 }
         ensures holder { result.0.journal.holder ≡ self.journal.holder }
     {
         self.keeps();
@@ -312,6 +327,7 @@ impl<N: Staffed, J: Site, C: CellNames, K: Keeper, S: Sink, F: Children> Launche
         ensures goes { GoesAsked N.site self.journal.holder service self.journal.past self.crew.family result.1 result.0 }
         ensures enters { Enters self.journal.holder result.2 self.journal.past result.0.journal.past }
         ensures few { length result.2 ≤ most_entered N.site }
+        ensures whole { (up ended : ℕ → ℕ → Bool) → IsClosed N.site N.run_seed up ended self → IsClosed N.site N.run_seed (ups_after (launch_up result.1) result.2 up) ended result.0 }
         ensures holder { result.0.journal.holder ≡ self.journal.holder }
     {
         let mut launcher = self;
@@ -342,6 +358,7 @@ impl<N: Staffed, J: Site, C: CellNames, K: Keeper, S: Sink, F: Children> Launche
         ensures goes { GoesCrashed N.site self.journal.holder service incarnation self.journal.past self.crew.family result.1 result.0 }
         ensures enters { Enters self.journal.holder result.2 self.journal.past result.0.journal.past }
         ensures few { length result.2 ≤ most_entered N.site }
+        ensures whole { (up ended : ℕ → ℕ → Bool) → IsClosed N.site N.run_seed up ended self → IsClosed N.site N.run_seed (ups_after (crash_up result.1) result.2 up) ended result.0 }
         ensures holder { result.0.journal.holder ≡ self.journal.holder }
     {
         let mut launcher = self;

@@ -3,12 +3,15 @@
 #![tactic(auto)]
 
 pub mod answer;
+pub mod deed;
 pub mod entered;
 mod entries;
 pub mod launcher;
 mod launching;
 pub mod named;
+pub mod notes;
 pub mod papers;
+pub mod resting;
 mod states;
 mod steps;
 mod tending;

@@ -9,10 +9,12 @@ ghost use Rattle.okld_launch.specs.Launchers.{ArePapers};
 
 use crate::launcher::Launcher;
 use crate::named::Staffed;
+use crate::resting::Resting;
 use cell_locks::named::CellNames;
 use cell_locks::seats::CellSeats;
 use launch_crew::crew::Crew;
 use launch_journal::LaunchJournal;
+use okws_base::told::Told;
 use okws_outer::children::Children;
 use okws_outer::keeper::Keeper;
 use okws_outer::stream::Sink;
@@ -65,13 +67,13 @@ impl Papers {
         cells: CellSeats<N, C, F::Link>,
         children: F,
         keeps: bool,
-    ) -> Result<Launcher<N, J, C, K, S, F>, F>
+    ) -> Result<Resting<N, J, C, K, S, F>, F>
         requires papers { ArePapers N.site N.run_seed self.journal (arc_value self.site) self.seed }
         requires seats { seats ≡ fresh (length N.site.proxies) N.launcher }
         requires cells { IsNew (length N.site.services) N.launcher cells }
         requires few { (length N.site.proxies ≤ MOST_PROXIES) × (length N.site.services ≤ MOST_SERVICES) }
         requires children { F.family children ≡ N.children }
-        ensures ok { IfOk result (λ l. (l.journal.past ≡ []) × (l.crew.family ≡ F.family children)) }
+        ensures ok { IfOk result (λ l. (l.deeds ≡ []) × (l.launcher.crew.family ≡ F.family children)) }
         ensures err { IfErr result (λ f. F.family f ≡ F.family children) }
     {
         let Papers {
@@ -81,7 +83,7 @@ impl Papers {
         } = self;
         let crew = Crew::new(alloc, seats, cells, children, keeps)?;
         match Launcher::new(alloc, journal, crew, site, seed) {
-            Ok(launcher) => Ok(launcher),
+            Ok(launcher) => Ok(Resting::new(launcher, Told::new())),
             Err(crew) => Err(crew.into_children()),
         }
     }

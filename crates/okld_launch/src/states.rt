@@ -1,12 +1,13 @@
 //! The states of a launch. Each owns the launcher, and the next step consumes it; a step that is refused
 //! hands back the state from which what was installed is revoked.
 
-ghost use Rattle.std.specs.Prelude.{◌≡◌, ◌<◌, ◌≤◌, IfOk, IfErr, OnOk, OnErr, length};
+ghost use Rattle.std.specs.Prelude.{◌≡◌, ◌<◌, ◌≤◌, ℕ, Bool, IfOk, IfErr, OnOk, OnErr, length};
 ghost use Rattle.okws_base.specs.declared.limit.TheConstants.{MOST_INCARNATIONS};
 ghost use Rattle.okws_plan.specs.declared.event.LauncherEvent.TheVariants as event;
 ghost use Rattle.launch_journal.specs.Launches.{entered};
 ghost use Rattle.launch_crew.specs.Told.{FailsBy};
 ghost use Rattle.okld_launch.specs.Launchers.{IsOut, MayFail, up_in};
+ghost use Rattle.okld_launch.specs.Pieces.{BreaksOff, HasBegun, HasBooted, HasCleared, HasInstalled, IsClosed, with_up};
 ghost use Rattle.okld_launch.specs.States.{GoesOn};
 
 use crate::launcher::Launcher;
@@ -120,7 +121,8 @@ impl<N: Staffed, J: Site, C: CellNames, K: Keeper, S: Sink, F: Children> Quiet<N
         locks: &Locks<N, J, K, S>,
         cells: &CellLocks<N, C, F::Link>,
     ) -> Revoked<N, J, C, K, S, F>
-        ensures { GoesOn self result }
+        ensures on { GoesOn self result }
+        ensures way { (up ended : ℕ → ℕ → Bool) → HasBegun N.site N.run_seed up ended self → HasCleared N.site N.run_seed up ended result }
     {
         let Quiet {
             mut launcher,
@@ -145,6 +147,8 @@ impl<N: Staffed, J: Site, C: CellNames, K: Keeper, S: Sink, F: Children> Revoked
     ) -> Result<Installed<N, J, C, K, S, F>, Broken<N, J, C, K, S, F>>
         ensures ok { IfOk result (λ a. GoesOn self a) }
         ensures err { IfErr result (λ a. GoesOn self a) }
+        ensures way { IfOk result (λ a. (up ended : ℕ → ℕ → Bool) → HasCleared N.site N.run_seed up ended self → HasInstalled N.site N.run_seed up ended a) }
+        ensures broken { IfErr result (λ a. (up ended : ℕ → ℕ → Bool) → HasCleared N.site N.run_seed up ended self → BreaksOff N.site N.run_seed up ended a) }
     {
         let Revoked {
             mut launcher,
@@ -184,6 +188,8 @@ impl<N: Staffed, J: Site, C: CellNames, K: Keeper, S: Sink, F: Children> Install
         ensures err { IfErr result (λ e. GoesOn self e.1) }
         ensures cause { IfErr result (λ e. e.0 ≡ Missed.Failed → FailsBy self.service self.incarnation self.launcher.crew.family e.1.launcher.crew.family) }
         ensures fault { IfErr result (λ e. e.0 ≡ Missed.Failed → MayFail N.children e.1.service e.1.incarnation e.1.launcher) }
+        ensures way { IfOk result (λ a. (up ended : ℕ → ℕ → Bool) → HasInstalled N.site N.run_seed up ended self → HasBooted N.site N.run_seed up ended a) }
+        ensures missed { IfErr result (λ e. (up ended : ℕ → ℕ → Bool) → HasInstalled N.site N.run_seed up ended self → HasInstalled N.site N.run_seed up ended e.1) }
     {
         let Installed {
             mut launcher,
@@ -217,6 +223,8 @@ impl<N: Staffed, J: Site, C: CellNames, K: Keeper, S: Sink, F: Children> Booted<
     ) -> Result<Launcher<N, J, C, K, S, F>, Broken<N, J, C, K, S, F>>
         ensures ok { IfOk result (λ l. (l.journal ≡ self.launcher.journal) × (up_in l self.service ≡ self.incarnation)) }
         ensures err { IfErr result (λ a. GoesOn self a) }
+        ensures whole { IfOk result (λ l. (up ended : ℕ → ℕ → Bool) → HasBooted N.site N.run_seed up ended self → IsClosed N.site N.run_seed (with_up self.service self.incarnation up) ended l) }
+        ensures broken { IfErr result (λ a. (up ended : ℕ → ℕ → Bool) → HasBooted N.site N.run_seed up ended self → BreaksOff N.site N.run_seed up ended a) }
     {
         let Booted {
             mut launcher,
@@ -242,6 +250,7 @@ impl<N: Staffed, J: Site, C: CellNames, K: Keeper, S: Sink, F: Children> Broken<
         ensures journal { result.journal ≡ entered self.launcher.journal (event.Failed self.service self.incarnation) }
         ensures family { result.crew.family ≡ self.launcher.crew.family }
         ensures down { up_in result self.service ≡ 0 }
+        ensures whole { (up ended : ℕ → ℕ → Bool) → HasInstalled N.site N.run_seed up ended self → IsClosed N.site N.run_seed up ended result }
     {
         let Broken {
             mut launcher,
@@ -260,6 +269,7 @@ impl<N: Staffed, J: Site, C: CellNames, K: Keeper, S: Sink, F: Children> Broken<
     ) -> Launcher<N, J, C, K, S, F>
         ensures journal { result.journal ≡ self.launcher.journal }
         ensures out { IsOut N.site self.service result }
+        ensures whole { (up ended : ℕ → ℕ → Bool) → BreaksOff N.site N.run_seed up ended self → IsClosed N.site N.run_seed up ended result }
     {
         let Broken {
             mut launcher,

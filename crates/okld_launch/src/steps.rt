@@ -1,18 +1,25 @@
 //! The steps of a launch.
 
-ghost use Rattle.std.specs.Prelude.{◌≡◌, ◌<◌, ◌≤◌, ◌+◌, ℕ, length, OnOk, OnErr, IfOk, IsErrOf};
+ghost use Rattle.std.specs.Prelude.{◌≡◌, ◌<◌, ◌≤◌, ◌+◌, ◌∷◌, ℕ, List, None, length, OnOk, OnErr, IfOk, IsErrOf};
 ghost use Rattle.okws_base.specs.declared.limit.TheConstants.{MOST_INCARNATIONS, MOST_PROXIES};
 ghost use Rattle.okws_plan.specs.declared.event.LauncherEvent.TheVariants as event;
+ghost use Rattle.okws_plan.specs.Configuration.{cols};
+ghost use Rattle.okws_plan.specs.declared.event.OkdEvent.TheVariants as okd;
+ghost use Rattle.okws_plan.specs.declared.script.Place.{Place};
+ghost use Rattle.monitor_model.specs.declared.record.Own.TheVariants as own;
 ghost use Rattle.monitor_model.specs.Cell.{incarnation as incarnation_of, last_booted, boot_frame};
 ghost use Rattle.monitor_model.specs.Launcher.{begun};
+ghost use Rattle.monitor_model.specs.Launches.{with_cleared, with_installs, with_revokes};
 ghost use Rattle.cell_locks.specs.Row.{seen_at};
 ghost use Rattle.launch_journal.specs.Launches.{Allows, entered};
 ghost use Rattle.launch_journal.specs.declared.next.Next.TheVariants as next;
 ghost use Rattle.launch_crew.specs.Coming.{came_up};
 ghost use Rattle.launch_crew.specs.Crews.{Under, IsQuiet, StandsAt, RunsAs, NoneStands, child_of};
+ghost use Rattle.launch_crew.specs.Listed.{AreCounted, CellsGo, InstallsFirst, of_cells};
 ghost use Rattle.launch_crew.specs.Steps.{SameHands};
 ghost use Rattle.launch_crew.specs.Told.{FailsBy, TellsMore};
 ghost use Rattle.okld_launch.specs.Causing.{BrokeOff};
+ghost use Rattle.okld_launch.specs.Children.{StaysAttended};
 ghost use Rattle.okld_launch.specs.Launchers.{MayFail, MayLaunch, up_in};
 
 use crate::launcher::Launcher;
@@ -56,6 +63,8 @@ impl<N: Staffed, J: Site, C: CellNames, K: Keeper, S: Sink, F: Children> Launche
         ensures under { Under service result self.new.crew }
         ensures fresh { BrokeOff (came_up self.new.crew.sat) self.new.journal.past service result }
         ensures family { self.new.crew.family ≡ self.old.crew.family }
+        ensures list { (self.new.crew.own ≡ self.old.crew.own) × (self.new.crew.watch ≡ self.old.crew.watch) }
+        ensures running { self.new.crew.running ≡ self.old.crew.running }
         ensures room { self.new.crew.room ≡ self.old.crew.room }
     {
         let incarnation = self.journal.begin(service);
@@ -80,8 +89,13 @@ impl<N: Staffed, J: Site, C: CellNames, K: Keeper, S: Sink, F: Children> Launche
         ensures down { up_in self.new service ≡ 0 }
         ensures under { (k : ℕ) → Under service k self.old.crew → Under service k self.new.crew }
         ensures told { TellsMore self.old.crew.family self.new.crew.family }
+        ensures stays { StaysAttended self.old.crew self.new.crew }
+        ensures own { self.new.crew.own ≡ with_cleared N.site (of_cells self.new.crew.watch.cells) service self.old.crew.own }
+        ensures behind { CellsGo self.old.crew.watch self.new.crew.watch }
+        ensures counted { AreCounted self.old.crew.watch self.old.crew.own }
         ensures room { self.old.crew.room ≤ self.new.crew.room + (MOST_PROXIES + 4) }
     {
+        self.crew.recorder.keeps();
         self.crew.recorder.down(rt, locks, service);
         self.ups[service as usize] = 0;
         self.crew.recorder.revoke(rt, locks, service);
@@ -106,6 +120,8 @@ impl<N: Staffed, J: Site, C: CellNames, K: Keeper, S: Sink, F: Children> Launche
         ensures ups { self.new.ups ≡ self.old.ups }
         ensures hands { SameHands self.old.crew self.new.crew }
         ensures stands { OnOk result (StandsAt N.site service incarnation self.new.crew.sat) }
+        ensures added { OnOk result (self.new.crew.own ≡ with_installs N.run_seed service incarnation (cols N.site service) self.old.crew.own) }
+        ensures front { OnErr result ((rest : List Place) × InstallsFirst N.run_seed service incarnation (cols N.site service) rest self.old.crew.own self.new.crew.own) }
         ensures room { self.old.crew.room ≤ self.new.crew.room + (MOST_PROXIES + 2) }
     {
         let site = &self.site;
@@ -123,6 +139,10 @@ impl<N: Staffed, J: Site, C: CellNames, K: Keeper, S: Sink, F: Children> Launche
         ensures journal { self.new.journal ≡ self.old.journal }
         ensures ups { self.new.ups ≡ self.old.ups }
         ensures none { NoneStands N.site service self.new.crew.sat }
+        ensures cells { self.new.crew.watch ≡ self.old.crew.watch }
+        ensures running { self.new.crew.running ≡ self.old.crew.running }
+        ensures family { self.new.crew.family ≡ self.old.crew.family }
+        ensures own { self.new.crew.own ≡ with_revokes N.site service self.old.crew.own }
     {
         self.crew.recorder.revoke(rt, locks, service);
     }
@@ -153,6 +173,7 @@ impl<N: Staffed, J: Site, C: CellNames, K: Keeper, S: Sink, F: Children> Launche
         requires empty { incarnation_of (seen_at self.old.crew.watch service) ≡ 0 }
         requires later { last_booted (seen_at self.old.crew.watch service) < incarnation }
         requires down { up_in self.old service ≡ 0 }
+        requires child { child_of self.old.crew service ≡ None }
         requires room { 1 + length N.site.services ≤ self.old.crew.room }
         ensures journal { self.new.journal ≡ self.old.journal }
         ensures ups { self.new.ups ≡ self.old.ups }
@@ -161,8 +182,14 @@ impl<N: Staffed, J: Site, C: CellNames, K: Keeper, S: Sink, F: Children> Launche
         ensures cause { IsErrOf result Missed.Failed → FailsBy service incarnation self.old.crew.family self.new.crew.family }
         ensures fault { IsErrOf result Missed.Failed → MayFail N.children service incarnation self.new }
         ensures told { TellsMore self.old.crew.family self.new.crew.family }
+        ensures stays { child_of self.old.crew service ≡ None → StaysAttended self.old.crew self.new.crew }
+        ensures added { OnOk result (self.new.crew.own ≡ own.Boot service incarnation ∷ self.old.crew.own) }
+        ensures kept { OnErr result (self.new.crew.own ≡ self.old.crew.own) }
+        ensures behind { CellsGo self.old.crew.watch self.new.crew.watch }
+        ensures counted { AreCounted self.old.crew.watch self.old.crew.own }
         ensures room { self.old.crew.room ≤ self.new.crew.room + 1 }
     {
+        self.crew.recorder.keeps();
         let Ok(tokens) = self.tokens(service, incarnation) else {
             return Err(Missed::NoMemory);
         };
@@ -192,6 +219,10 @@ impl<N: Staffed, J: Site, C: CellNames, K: Keeper, S: Sink, F: Children> Launche
         ensures family { self.new.crew.family ≡ self.old.crew.family }
         ensures ok { OnOk result (up_in self.new service ≡ incarnation) }
         ensures err { OnErr result (up_in self.new service ≡ 0) }
+        ensures cells { self.new.crew.watch ≡ self.old.crew.watch }
+        ensures running { self.new.crew.running ≡ self.old.crew.running }
+        ensures added { OnOk result (self.new.crew.own ≡ own.Okd (okd.Up service incarnation) ∷ self.old.crew.own) }
+        ensures kept { OnErr result (self.new.crew.own ≡ self.old.crew.own) }
         ensures room { self.old.crew.room ≤ self.new.crew.room + 1 }
     {
         self.crew.recorder.up(rt, locks, service, incarnation)?;

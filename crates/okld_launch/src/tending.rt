@@ -1,7 +1,9 @@
 //! How the launcher looks after a service.
 
-ghost use Rattle.std.specs.Prelude.{◌≡◌, ◌<◌, ◌≤◌, length};
+ghost use Rattle.std.specs.Prelude.{◌≡◌, ◌<◌, ◌≤◌, ℕ, Bool, true, length};
 ghost use Rattle.okld_launch.specs.Going.{GoesTended};
+ghost use Rattle.okld_launch.specs.Deeds.{ends_after, tend_up, ups_after};
+ghost use Rattle.okld_launch.specs.Pieces.{IsClosed};
 ghost use Rattle.okld_launch.specs.Entering.{Enters, most_entered};
 
 use crate::answer::Tended;
@@ -43,6 +45,7 @@ impl<N: Staffed, J: Site, C: CellNames, K: Keeper, S: Sink, F: Children> Launche
         ensures goes { GoesTended N.site self.journal.holder service self result.1 result.0 }
         ensures enters { Enters self.journal.holder result.2 self.journal.past result.0.journal.past }
         ensures few { length result.2 ≤ most_entered N.site }
+        ensures whole { (up ended : ℕ → ℕ → Bool) → IsClosed N.site N.run_seed up ended self → IsClosed N.site N.run_seed (ups_after (tend_up result.1) result.2 up) (ends_after true result.2 ended) result.0 }
         ensures holder { result.0.journal.holder ≡ self.journal.holder }
     {
         let mut launcher = self;

@@ -1,16 +1,20 @@
 //! The launcher's turns, which any worker takes. Nobody takes one while it holds a cell's: the seats at the
 //! cells hold none but inside their own calls.
 
-ghost use Rattle.std.specs.Prelude.{◌≡◌, ◌<◌, ◌≤◌, length};
+ghost use Rattle.std.specs.Prelude.{◌≡◌, ◌<◌, ◌≤◌, ℕ, Bool, length};
 ghost use Rattle.monitor_model.specs.Cell.{last_booted};
 ghost use Rattle.turn_lock.specs.Rows.{RestsAt};
+ghost use Rattle.okld_launch.specs.Deeds.{launch_up_if, ups_after};
 ghost use Rattle.okld_launch.specs.Entering.{Enters, most_entered};
+ghost use Rattle.okld_launch.specs.Pieces.{IsClosed};
 ghost use Rattle.okld_launch.specs.Turns.{GoesIf, LaunchesBy, RelaunchesBy, ReportsBy, TendsBy};
 
 use crate::answer::{Crashed, Launched, Tended};
+use crate::deed::Took;
 use crate::entered::Entered;
 use crate::launcher::Launcher;
 use crate::named::Staffed;
+use crate::resting::Resting;
 use cell_locks::locks::CellLocks;
 use cell_locks::named::CellNames;
 use cell_locks::note::CellNote;
@@ -44,6 +48,7 @@ impl<N: Staffed, J: Site, C: CellNames, K: Keeper, S: Sink, F: Children> Launche
         ensures goes { GoesIf N.site self.journal.holder service self result.1 result.0 }
         ensures enters { Enters self.journal.holder result.2 self.journal.past result.0.journal.past }
         ensures few { length result.2 ≤ most_entered N.site }
+        ensures whole { (up ended : ℕ → ℕ → Bool) → IsClosed N.site N.run_seed up ended self → IsClosed N.site N.run_seed (ups_after (launch_up_if result.1) result.2 up) ended result.0 }
         ensures holder { result.0.journal.holder ≡ self.journal.holder }
     {
         match self.up_now(service) {
@@ -53,6 +58,16 @@ impl<N: Staffed, J: Site, C: CellNames, K: Keeper, S: Sink, F: Children> Launche
                 (launcher, Some(answer), entered)
             }
         }
+    }
+}
+
+// Whether there was a launch by which an incarnation is up.
+fn up_if(answer: Option<Launched>) -> bool
+    ensures { result ≡ launch_up_if answer }
+{
+    match answer {
+        Some(launched) => launched.is_up(),
+        None => false,
     }
 }
 
@@ -70,8 +85,8 @@ pub fn launch_by<
 >(
     rt: &R,
     gate: &G,
-    turn: &Turn<Launcher<N, J, C, K, S, F>>,
-    seat: &mut Seat<Launcher<N, J, C, K, S, F>>,
+    turn: &Turn<Resting<N, J, C, K, S, F>>,
+    seat: &mut Seat<Resting<N, J, C, K, S, F>>,
     locks: &Locks<N, J, K, S>,
     cells: &CellLocks<N, C, F::Link>,
     service: u16,
@@ -81,11 +96,18 @@ pub fn launch_by<
     ensures goes { LaunchesBy N.site service seat.old result.0 result.1 seat.new }
     ensures seat { seat.new ≡ record seat.old { seen = seat.new.seen } }
 {
-    let launcher = turn.take(rt, seat);
+    let resting = turn.take(rt, seat);
+    let (launcher, deeds) = resting.into_parts();
     launcher.keeps();
     let (launcher, answer, entered) = launcher.launch_if_down(rt, gate, locks, cells, service);
     launcher.keeps();
-    turn.give(seat, launcher);
+    let took = Took {
+        worker: seat.number(),
+        entered: &entered,
+        up: up_if(answer),
+        tended: false,
+    };
+    turn.give(seat, Resting::after(launcher, &deeds, &took));
     (answer, entered)
 }
 
@@ -102,8 +124,8 @@ pub fn relaunch_by<
 >(
     rt: &R,
     gate: &G,
-    turn: &Turn<Launcher<N, J, C, K, S, F>>,
-    seat: &mut Seat<Launcher<N, J, C, K, S, F>>,
+    turn: &Turn<Resting<N, J, C, K, S, F>>,
+    seat: &mut Seat<Resting<N, J, C, K, S, F>>,
     locks: &Locks<N, J, K, S>,
     cells: &CellLocks<N, C, F::Link>,
     service: u16,
@@ -113,11 +135,18 @@ pub fn relaunch_by<
     ensures goes { RelaunchesBy N.site service seat.old result.0 result.1 seat.new }
     ensures seat { seat.new ≡ record seat.old { seen = seat.new.seen } }
 {
-    let launcher = turn.take(rt, seat);
+    let resting = turn.take(rt, seat);
+    let (launcher, deeds) = resting.into_parts();
     launcher.keeps();
     let (launcher, answer, entered) = launcher.relaunch(rt, gate, locks, cells, service);
     launcher.keeps();
-    turn.give(seat, launcher);
+    let took = Took {
+        worker: seat.number(),
+        entered: &entered,
+        up: answer.is_up(),
+        tended: false,
+    };
+    turn.give(seat, Resting::after(launcher, &deeds, &took));
     (answer, entered)
 }
 
@@ -135,8 +164,8 @@ pub fn report_by<
 >(
     rt: &R,
     gate: &G,
-    turn: &Turn<Launcher<N, J, C, K, S, F>>,
-    seat: &mut Seat<Launcher<N, J, C, K, S, F>>,
+    turn: &Turn<Resting<N, J, C, K, S, F>>,
+    seat: &mut Seat<Resting<N, J, C, K, S, F>>,
     locks: &Locks<N, J, K, S>,
     cells: &CellLocks<N, C, F::Link>,
     note: CellNote<N, C, F::Link>,
@@ -151,7 +180,8 @@ pub fn report_by<
     ensures goes { ReportsBy N.site service incarnation seat.old result.0 result.1 seat.new }
     ensures seat { seat.new ≡ record seat.old { seen = seat.new.seen } }
 {
-    let mut launcher = turn.take(rt, seat);
+    let resting = turn.take(rt, seat);
+    let (mut launcher, deeds) = resting.into_parts();
     launcher.keeps();
     launcher.meet(cells, note);
     let (launcher, answer, entered) = launcher.crashed(
@@ -163,7 +193,13 @@ pub fn report_by<
         incarnation,
     );
     launcher.keeps();
-    turn.give(seat, launcher);
+    let took = Took {
+        worker: seat.number(),
+        entered: &entered,
+        up: answer.is_up(),
+        tended: false,
+    };
+    turn.give(seat, Resting::after(launcher, &deeds, &took));
     (answer, entered)
 }
 
@@ -180,8 +216,8 @@ pub fn tend_by<
 >(
     rt: &R,
     gate: &G,
-    turn: &Turn<Launcher<N, J, C, K, S, F>>,
-    seat: &mut Seat<Launcher<N, J, C, K, S, F>>,
+    turn: &Turn<Resting<N, J, C, K, S, F>>,
+    seat: &mut Seat<Resting<N, J, C, K, S, F>>,
     locks: &Locks<N, J, K, S>,
     cells: &CellLocks<N, C, F::Link>,
     service: u16,
@@ -191,10 +227,17 @@ pub fn tend_by<
     ensures goes { TendsBy N.site service seat.old result.0 result.1 seat.new }
     ensures seat { seat.new ≡ record seat.old { seen = seat.new.seen } }
 {
-    let launcher = turn.take(rt, seat);
+    let resting = turn.take(rt, seat);
+    let (launcher, deeds) = resting.into_parts();
     launcher.keeps();
     let (launcher, answer, entered) = launcher.tend(rt, gate, locks, cells, service);
     launcher.keeps();
-    turn.give(seat, launcher);
+    let took = Took {
+        worker: seat.number(),
+        entered: &entered,
+        up: answer.is_up(),
+        tended: true,
+    };
+    turn.give(seat, Resting::after(launcher, &deeds, &took));
     (answer, entered)
 }

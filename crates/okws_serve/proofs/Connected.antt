@@ -1,8 +1,8 @@
 -- The connections of a run's doors were answered by their workers' pieces.
-use Rattle.std.proofs.Common.{◌≡◌, ◌≤◌, ◌<◌, ◌+◌, ◌-◌, ◌^◌, inl, inr, min, ℕ, suc, Bool, true, false, cond, List, [], ◌∷◌, ◌++◌, length, map, get_or, refl, sym, ap, ◌∙◌, subst, arith, append-nil, filter_map, Option, Some, None}
+use Rattle.std.proofs.Common.{◌≡◌, ◌≤◌, ◌<◌, ◌+◌, ◌-◌, ◌^◌, inl, ℕ, suc, Bool, true, false, cond, List, [], ◌∷◌, ◌++◌, length, map, refl, sym, ap, ◌∙◌, subst, arith, append-nil, filter_map, Option, Some, None}
 use Rattle.std.proofs.lemmas.Bool.{true≢false}
 use Rattle.std.proofs.lemmas.List.{get_or_append_left}
-use Rattle.std.specs.Prelude.{count_by, nat_le, slice_index_or}
+use Rattle.std.specs.Prelude.{nat_le}
 use Rattle.std.specs.List.{list_all}
 use Rattle.okws_outer.specs.Conns.{ConnWire}
 use Rattle.okws_outer.specs.Doors.{Entrance}
@@ -59,19 +59,19 @@ same_visits C R connections w items = refl
 worker_is : (R : Record) (w : ℕ) → w < length R.workers → worker_list R w ≡ list_of R w
 worker_is R w l = sym (get_or_append_left R.workers (R.launches ∷ []) [] w l)
 
-module _ {X : Type 0} (wire : X → ConnWire) (C : Config) (n most : ℕ) (R : Record) (many : length R.proxies ≡ length C.proxies) where
+module _ {X : Type 0} (wire : X → ConnWire) (C : Config) (n most : ℕ) (R : Record) (ended : ℕ → ℕ → Bool) (many : length R.proxies ≡ length C.proxies) where
   -- all that a worker did at its door
   pub record Connects (w : ℕ) (e f : Entrance) : Type 0 where
     pub connections : List Connection
     pub finishes : Finishes wire e f connections
     pub served : (all : List (List Connection)) → DoorIsServed C (record R { doors = all }) (rise e.faults f.faults) w connections
 
-  door_connects : (w : ℕ) (e f : Entrance) (a : Attended) → w < length R.workers → AttendsAt wire C n most R w e f a → Connects w e f
+  door_connects : (w : ℕ) (e f : Entrance) (a : Attended) → w < length R.workers → AttendsAt wire C n most R ended w e f a → Connects w e f
   door_connects w e f a l h =
       let all : ServesAll wire C w e f h.before h.after
-      = doors_are_served C n w wire most e f h.before h.after [] h.drawn a (first_is C n R w h.before h.after many h.begins h.left) h.attends in
+      = doors_are_served C n w wire most e f h.before h.after [] h.drawn a (first_is C n R ended w h.before h.after many h.begins h.left) h.attends in
       let pieces = all.lives.lives.pieces in
-      let made : Listed C n R w h.before h.after many h.begins h.left is_order all.lives.lives = listed C n R w h.before h.after many h.begins h.left is_order all.lives.lives in
+      let made : Listed C n R ended w h.before h.after many h.begins h.left is_order all.lives.lives = listed C n R ended w h.before h.after many h.begins h.left is_order all.lives.lives in
       let given : List Visit = filter_map (λ (share : Share). share.visit) all.shares in
       let before : AreVisits [] (piece_visits made.before)
       = launched_had made.before (subst (λ (items : List Own). list_all is_launching items ≡ true) (sym made.first) h.begins.launches.only) in
@@ -97,7 +97,7 @@ module _ {X : Type 0} (wire : X → ConnWire) (C : Config) (n most : ℕ) (R : R
     pub finish : AllFinish wire es fs connections
     pub served : (all : List (List Connection)) (T : Outside) → TellsRises T.doors w es fs → EachFrom (λ v cs. DoorIsServed C (record R { doors = all }) (T.doors v) v cs) w connections
 
-  doors_connect : (w : ℕ) (es fs : List Entrance) (as' : List Attended) → length es + w ≤ length R.workers → AllAttend wire C n most R w es fs as' → AllConnect w es fs
+  doors_connect : (w : ℕ) (es fs : List Entrance) (as' : List Attended) → length es + w ≤ length R.workers → AllAttend wire C n most R ended w es fs as' → AllConnect w es fs
   doors_connect w [] [] [] l h = record { connections = []; finish = tt; served = λ all T tells. tt }
   doors_connect w [] [] (a ∷ as') l h = absurd h
   doors_connect w [] (f ∷ fs) as' l h = absurd h
@@ -115,7 +115,7 @@ module _ {X : Type 0} (wire : X → ConnWire) (C : Config) (n most : ℕ) (R : R
         );
       }
 
-  pub connects_doors : (es fs : List Entrance) (as' : List Attended) → length es ≤ length R.workers → AllAttend wire C n most R 0 es fs as' → ServesConnections wire C R es fs
+  pub connects_doors : (es fs : List Entrance) (as' : List Attended) → length es ≤ length R.workers → AllAttend wire C n most R ended 0 es fs as' → ServesConnections wire C R es fs
   connects_doors es fs as' l h =
       let all : AllConnect 0 es fs = doors_connect 0 es fs as' (omega arith) h in
       record { connections = all.connections; finish = all.finish; served = all.served all.connections }

@@ -6,7 +6,9 @@ use Rattle.atomic_table.specs.Seated.{TableId}
 use Rattle.live_board.specs.Seats.{AllAt}
 use Rattle.okws_outer.specs.Conns.{ConnWire}
 use Rattle.okws_outer.specs.Doors.{Entrance}
+use Rattle.okws_base.specs.declared.journal.Entry.{Entry}
 use Rattle.okws_plan.specs.declared.configuration.Config.{Config}
+use Rattle.okws_plan.specs.declared.event.OkdEvent.{OkdEvent}
 use Rattle.site_worker.specs.Lives.{Life}
 use Rattle.site_worker.specs.declared.console.Overseen.{Overseen}
 use Rattle.site_worker.specs.declared.door.Attended.{Attended}
@@ -65,10 +67,10 @@ attended_same wire C n z most k (d ∷ ds) (a ∷ as') [] h = absurd h
 attended_same wire C n z most k (d ∷ ds) (a ∷ as') (e ∷ es) h = ap suc (attended_same wire C n z most (suc k) ds as' es h.3)
 
 -- the doors and their places are there as before
-pub places_back : {X : Type 0} (wire : X → ConnWire) (C : Config) (n : ℕ) (t : TurnIs) (z : TableId) (most : ℕ) (es : List Entrance) (w : ConnWire) (qs : List (Post DoorIs ConsoleIs)) (q : Post DoorIs ConsoleIs) (new : PlacesAre)
-    → AllServed wire C n t z most es w qs q → new.entrances ≡ map (λ (d : DoorIs). d.entrance) (doors_of qs) → new.places ≡ map (λ (d : DoorIs). d.place) (doors_of qs)
+pub places_back : {X : Type 0} (wire : X → ConnWire) (C : Config) (n : ℕ) (t : TurnIs) (z : TableId) (most : ℕ) (entries : List (Entry OkdEvent)) (es : List Entrance) (w : ConnWire) (qs : List (Post DoorIs ConsoleIs)) (q : Post DoorIs ConsoleIs) (new : PlacesAre)
+    → AllServed wire C n t z most entries es w qs q → new.entrances ≡ map (λ (d : DoorIs). d.entrance) (doors_of qs) → new.places ≡ map (λ (d : DoorIs). d.place) (doors_of qs)
     → (length new.entrances ≡ length es) × (length new.places ≡ length es) × AllAt z new.places
-places_back wire C n t z most es w qs q new h e f =
+places_back wire C n t z most entries es w qs q new h e f =
     let a = attended_same wire C n z most 0 (doors_of h.doors) _ (doors_of qs) h.done.attended in
     let m : length (doors_of h.doors) ≡ length es = sym (length-map (doors_of h.doors) (λ (d : DoorIs). d.entrance)) ∙ ap length h.entrances_are in (
       ap length e ∙ (length-map (doors_of qs) (λ (d : DoorIs). d.entrance) ∙ (a ∙ m)),
@@ -77,13 +79,13 @@ places_back wire C n t z most es w qs q new h e f =
     )
 
 -- the console's worker is the same
-pub overseer_back : {X : Type 0} (wire : X → ConnWire) (C : Config) (n : ℕ) (t : TurnIs) (z : TableId) (most : ℕ) (es : List Entrance) (w : ConnWire) (qs : List (Post DoorIs ConsoleIs)) (q : Post DoorIs ConsoleIs) (d : ConsoleIs) (k : ℕ)
-    → AllServed wire C n t z most es w qs q → q ≡ Console d → k ≡ length es → WorksAs t k d.life
-overseer_back wire C n t z most es w qs q d k h e m =
+pub overseer_back : {X : Type 0} (wire : X → ConnWire) (C : Config) (n : ℕ) (t : TurnIs) (z : TableId) (most : ℕ) (entries : List (Entry OkdEvent)) (es : List Entrance) (w : ConnWire) (qs : List (Post DoorIs ConsoleIs)) (q : Post DoorIs ConsoleIs) (d : ConsoleIs) (k : ℕ)
+    → AllServed wire C n t z most entries es w qs q → q ≡ Console d → k ≡ length es → WorksAs t k d.life
+overseer_back wire C n t z most entries es w qs q d k h e m =
     subst (λ x. WorksAs t x d.life) (sym m) (all_back C t (length es) h.console d h.none (here_overseen wire C n h.console q d h.overseen e) h.works)
 
 -- and the console was served
-pub console_back : {X : Type 0} (wire : X → ConnWire) (C : Config) (n : ℕ) (t : TurnIs) (z : TableId) (most : ℕ) (es : List Entrance) (w x : ConnWire) (qs : List (Post DoorIs ConsoleIs)) (q : Post DoorIs ConsoleIs) (d : ConsoleIs) (how : Overseen)
-    → AllServed wire C n t z most es w qs q → q ≡ Console d → d.overseen ≡ Some how → x ≡ d.wire → ConsoleDone C (length es) d.life w x (is_fault how)
-console_back wire C n t z most es w x qs q d how h e s f =
-    console_served C (length es) h.console.overseen h.console d how w x h.begins h.none (here_overseen wire C n h.console q d h.overseen e) s h.wire_is (sym f) h.first
+pub console_back : {X : Type 0} (wire : X → ConnWire) (C : Config) (n : ℕ) (t : TurnIs) (z : TableId) (most : ℕ) (entries : List (Entry OkdEvent)) (es : List Entrance) (w x : ConnWire) (qs : List (Post DoorIs ConsoleIs)) (q : Post DoorIs ConsoleIs) (d : ConsoleIs) (how : Overseen)
+    → AllServed wire C n t z most entries es w qs q → q ≡ Console d → d.overseen ≡ Some how → x ≡ d.wire → ConsoleDone C n (length es) d.life w x (is_fault how)
+console_back wire C n t z most entries es w x qs q d how h e s f =
+    console_served C n (length es) h.console.overseen h.console d how w x h.begins h.none (here_overseen wire C n h.console q d h.overseen e) s h.wire_is (sym f) h.first

@@ -1,5 +1,5 @@
 -- A run's journals and cells are lawful, and each dialog fits the entries that its worker made in it.
-use Rattle.std.proofs.Common.{◌≡◌, ◌<◌, ◌≤◌, ◌+◌, ℕ, suc, Bool, true, List, [], ◌∷◌, length, sym, subst, arith}
+use Rattle.std.proofs.Common.{◌≡◌, ◌<◌, ℕ, suc, Bool, true, List, [], ◌∷◌, length, sym, subst, arith}
 use Rattle.std.specs.declared.option.Option.{Option}
 use mathlib.Core.Logic.{dite}
 use native.Mathlib.Decide.{ℕ_discrete}
@@ -18,7 +18,7 @@ use Rattle.monitor_model.specs.Placed.{EachFrom}
 use Rattle.monitor_model.specs.Talks.{talks}
 use Rattle.site_run.specs.Closing.{AllKept}
 use Rattle.site_run.specs.Journals.{AllProxies, KeepLaws}
-use Rattle.site_run.specs.Keepers.{KeeperIs}
+use Rattle.site_making.specs.Keepers.{KeeperIs}
 use Rattle.okws_serve.specs.Lived.{ListIsPieces}
 use Rattle.okws_serve.specs.Told.{TellsFaults}
 use Rattle.okws_serve.proofs.Connected.{within_rise}
@@ -36,10 +36,10 @@ each_count C steady told first p (k ∷ ks) [] h t = absurd h
 each_count C steady told first p (k ∷ ks) (J ∷ Js) h t =
     (subst (λ (rose : Option ℕ). WithinCount rose (faults J)) (sym t.0) (within_rise (first p) k.faults (faults J) h.0.faults_are), each_count C steady told first (suc p) ks Js h.1 t.1)
 
-pub are_lawful : (C : Config) (seed : List ℕ) (n doors : ℕ) (R : Record) (steady : Bool) (first : ℕ → ℕ) (ks : List KeeperIs) → length R.workers ≡ suc doors → KeepLaws C seed n R → EachFrom (λ s J. AllStandThere J) 0 R.cells
-    → ((w : ℕ) → w < doors → ListIsPieces C R is_ordered w) → ListIsPieces C R is_accept_item doors → AllKept C true steady first 0 ks R.proxies
+pub are_lawful : (C : Config) (seed : List ℕ) (n doors : ℕ) (R : Record) (ended : ℕ → ℕ → Bool) (steady : Bool) (first : ℕ → ℕ) (ks : List KeeperIs) → length R.workers ≡ suc doors → KeepLaws C seed n R → EachFrom (λ s J. AllStandThere J) 0 R.cells
+    → ((w : ℕ) → w < doors → ListIsPieces C R ended is_ordered w) → ListIsPieces C R ended is_accept_item doors → AllKept C true steady first 0 ks R.proxies
     → (T : Outside) → TellsFaults T.keepers first 0 ks → JournalsAreLawful C seed T R
-are_lawful C seed n doors R steady first ks many laws stand at console kept T told =
+are_lawful C seed n doors R ended steady first ks many laws stand at console kept T told =
     record {
       proxies_are = laws.proxies_are;
       cells_are = laws.cells_are;

@@ -1,5 +1,5 @@
 -- All that a run's workers entered at the launcher leads on.
-use Rattle.std.proofs.Common.{◌≡◌, ◌≤◌, ◌<◌, ◌+◌, ◌⊎◌, inl, inr, ℕ, true, false, List, [], ◌∷◌, ◌++◌, None, length, refl, sym, ap, ◌∙◌, subst, append-nil, arith}
+use Rattle.std.proofs.Common.{◌≡◌, ◌≤◌, ◌<◌, ◌+◌, ◌⊎◌, inl, inr, ℕ, Bool, true, false, List, [], None, length, sym, ap, ◌∙◌, subst, append-nil, arith}
 use mathlib.Core.Logic.{dite}
 use native.Mathlib.Decide.{ℕ_discrete}
 use Rattle.std.proofs.lemmas.Bool.{cases_lt}
@@ -23,9 +23,9 @@ use Rattle.okws_serve.proofs.Whole.{list_is}
 none_lead : (w : ℕ) (m : ℕ → ℕ) (items : List Own) (J : List (Entry LauncherEvent)) → of by_entry w J ≡ [] → own_lead w m false items None J ≡ true
 none_lead w m items J none = ap (own_lead w m false items None) (sym (append-nil J)) ∙ own_beside w m false items None J [] (foreign_of w J none)
 
-pub all_lead : (C : Config) (R : Record) (n doors : ℕ) → length R.workers ≡ n → doors + 1 ≡ n → ((k : ℕ) → n ≤ k → of by_entry k R.launcher ≡ []) → ((w : ℕ) → w < doors → ListIsPieces C R is_ordered w) → ListIsPieces C R is_accept_item doors
+pub all_lead : (C : Config) (R : Record) (ended : ℕ → ℕ → Bool) (n doors : ℕ) → length R.workers ≡ n → doors + 1 ≡ n → ((k : ℕ) → n ≤ k → of by_entry k R.launcher ≡ []) → ((w : ℕ) → w < doors → ListIsPieces C R ended is_ordered w) → ListIsPieces C R ended is_accept_item doors
     → all_lead_on R [] R.launcher ≡ true
-all_lead C R n doors many next none at console = workers_lead R each
+all_lead C R ended n doors many next none at console = workers_lead R each
   where
     there : (w : ℕ) → w < n → leads_in R w (worker_list R w) ≡ true
     there w l = dite (ℕ_discrete w doors)

@@ -14,5 +14,8 @@ pub mod Listing
 pub mod Pieces
 pub mod Whole
 pub mod Leading
+pub mod First
+pub mod Launches
 pub mod Connected
 pub mod Lawful
+pub mod Before

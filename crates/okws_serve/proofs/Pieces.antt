@@ -1,49 +1,53 @@
 -- The lists of a run's workers are made of whole pieces.
-use Rattle.std.proofs.Common.{◌≡◌, ◌≤◌, ◌<◌, ◌+◌, inl, inr, ℕ, suc, Bool, true, false, List, [], ◌∷◌, ◌++◌, length, map, filter_map, reverse, get_or, refl, sym, ap, ◌∙◌, subst, arith}
+use Rattle.std.proofs.Common.{◌≡◌, ◌≤◌, ◌<◌, ◌+◌, inl, inr, ℕ, suc, Bool, true, false, List, [], ◌∷◌, ◌++◌, length, map, filter_map, reverse, get_or, refl, sym, ap, ◌∙◌, subst, append-nil, arith}
 use Rattle.std.proofs.lemmas.Bool.{true≢false}
 use Rattle.std.proofs.lemmas.List.{map-append}
 use Rattle.std.proofs.lemmas.List.Folds.{list_any-append}
-use Rattle.std.specs.Prelude.{◌&&◌, ◌||◌, is_some, is_none, Some, None}
+use Rattle.std.specs.Prelude.{◌&&◌, ◌||◌, None}
 use Rattle.std.specs.List.{list_all, list_any}
-use Rattle.std.specs.declared.option.Option.{Option}
 use mathlib.Core.Logic.{dite}
 use native.Mathlib.Decide.{ℕ_discrete}
 use Rattle.okws_outer.specs.Conns.{ConnWire}
 use Rattle.okws_outer.specs.Doors.{Entrance}
 use Rattle.okws_plan.specs.declared.configuration.Config.{Config}
-use Rattle.okws_plan.specs.declared.event.LauncherEvent.{LauncherEvent}
+use Rattle.okws_plan.specs.declared.event.LauncherEvent.TheVariants as event
 use Rattle.monitor_model.specs.declared.record.Own.{Own}
 use Rattle.monitor_model.specs.declared.record.Own.TheVariants as own
 use Rattle.monitor_model.specs.declared.record.Record.{Record}
-use Rattle.monitor_model.specs.Cell.{dialogs_of}
+use Rattle.monitor_model.specs.Causes.{has_up}
 use Rattle.monitor_model.specs.Merged.{list_of}
-use Rattle.monitor_model.specs.Outside.{Order, Ordered, come_of, item_order, launcher_order}
+use Rattle.monitor_model.specs.Outside.{Order, Ordered, come_of, item_order}
 use Rattle.monitor_model.specs.Pieces.{is_accept_item, is_ordered}
 use Rattle.monitor_model.specs.Seen.{Seen}
-use Rattle.monitor_model.specs.Worker.{IsWorker, Piece, nothing_seen}
+use Rattle.monitor_model.specs.Worker.{IsWorker, Piece, Accepted, Published, Launched, Wants}
 use Rattle.monitor_model.proofs.Lived.{lives_are_pieces}
 use Rattle.site_cell.specs.Held.{by_event}
-use Rattle.cell_locks.proofs.Onlys.{new_at}
+use Rattle.okld_launch.specs.Deeds.{ended_in, entries, up_in}
 use Rattle.worker_lives.specs.Beginning.{IsOfTurn, turned_alone}
+use Rattle.worker_lives.specs.Ending.{crashes_came, launches_end}
 use Rattle.worker_lives.specs.Going.{GoesOn, IsBlank, Sights}
+use Rattle.worker_lives.specs.Leading.{spoken_in}
 use Rattle.worker_lives.specs.Listing.{are_told, first_item}
 use Rattle.worker_lives.specs.Waiting.{LeadsSo}
 use Rattle.worker_lives.proofs.Begun.{turns_alone_are_lives}
+use Rattle.worker_lives.proofs.Endings.{crashes_had_causes, launches_ended}
 use Rattle.worker_lives.proofs.Listed.{items_are_of_pieces, orders_are_of_pieces}
 use Rattle.worker_lives.proofs.Others.{others_leave_dialogs}
 use Rattle.worker_lives.proofs.Steps.{goings_are_lives, goings_join, lives_end_in_records}
 use Rattle.worker_lives.proofs.Told.{crashes_told, told_both}
 use Rattle.worker_lives.proofs.Waited.{pieces_lead}
 use Rattle.round_lives.specs.Laws.{is_accepted}
-use Rattle.round_lives.specs.Living.{IsOf, LivesOn, sights_of}
+use Rattle.round_lives.specs.Living.{EndsWell, IsOf, LivesOn, sights_of}
 use Rattle.round_lives.specs.Orders.{Steers, carried_out}
 use Rattle.round_lives.proofs.Coming.{filter_map-both, filter_map-reverse}
+use Rattle.round_lives.proofs.Ended.{ends_both, ends_then}
 use Rattle.round_lives.proofs.Obeyed.{consoles_are_obeyed, nothing_carried}
 use Rattle.round_lives.proofs.Rounded.{consoles_are_lived, doors_are_lived}
 use Rattle.site_worker.specs.Lives.{Life}
 use Rattle.site_worker.specs.declared.door.Attended.{Attended}
 use Rattle.site_run.specs.Tied.{LifeBegins, LifeEnds, is_launching}
 use Rattle.site_run.proofs.Leaving.{cell_at}
+use Rattle.site_run.proofs.Once.{up_begun}
 use Rattle.okws_serve.specs.Doors.{AllAttend, AttendsAt, ServesConsole}
 use Rattle.okws_serve.specs.Lived.{ListIsPieces, OrdersAreObeyed}
 
@@ -61,10 +65,6 @@ of_turn (own.Missed s k is) h = absurd (true≢false (sym h))
 of_turn (own.Boot s k) h = absurd (true≢false (sym h))
 of_turn (own.Retired s) h = absurd (true≢false (sym h))
 
-none_some : {A : Type 0} (o : Option A) → is_none o ≡ true → is_some o ≡ false
-none_some None h = refl
-none_some (Some x) h = absurd (true≢false (sym h))
-
 pub both_of : (a b : Bool) → (a && b) ≡ true → (a ≡ true) × (b ≡ true)
 both_of true b h = (refl, h)
 both_of false b h = absurd (true≢false (sym h))
@@ -76,7 +76,11 @@ module _ (forbidden : Own → Bool) (few : (item : Own) → is_launching item �
   launches_allowed (item ∷ items) h = let b = both_of (is_launching item) (list_all is_launching items) h in rw (few item b.0) (launches_allowed items b.1)
 
 few_ordered : (item : Own) → is_launching item ≡ true → is_ordered item ≡ false
-few_ordered (own.Launcher e) h = none_some (launcher_order e) h
+few_ordered (own.Launcher (event.Begun s k)) h = refl
+few_ordered (own.Launcher (event.Failed s k)) h = refl
+few_ordered (own.Launcher (event.Dead s n)) h = refl
+few_ordered (own.Launcher (event.Crashed s k)) h = absurd (true≢false (sym h))
+few_ordered (own.Launcher (event.Asked s)) h = absurd (true≢false (sym h))
 few_ordered own.NoMemory h = refl
 few_ordered (own.Okd e) h = absurd (true≢false (sym h))
 few_ordered (own.Proxy p e) h = absurd (true≢false (sym h))
@@ -103,9 +107,21 @@ any_first : (forbidden : Own → Bool) (pieces : List Piece) → list_any (λ (p
 any_first forbidden [] = refl
 any_first forbidden (piece ∷ pieces) = ap (λ (b : Bool). forbidden (first_item piece) || b) (any_first forbidden pieces)
 
+-- nothing that is launched is a crash
+launched_came : (ended : ℕ → ℕ → Bool) (pieces : List Piece) → list_all is_launching (map first_item pieces) ≡ true → crashes_came ended pieces ≡ true
+launched_came ended [] h = refl
+launched_came ended (Accepted path head content outcome ∷ pieces) h = absurd (true≢false (sym h))
+launched_came ended (Published t content ∷ pieces) h = absurd (true≢false (sym h))
+launched_came ended (Launched (event.Begun s k) ∷ pieces) h = launched_came ended pieces h
+launched_came ended (Launched (event.Failed s k) ∷ pieces) h = launched_came ended pieces h
+launched_came ended (Launched (event.Dead s n) ∷ pieces) h = launched_came ended pieces h
+launched_came ended (Launched (event.Crashed s k) ∷ pieces) h = absurd (true≢false (sym h))
+launched_came ended (Launched (event.Asked s) ∷ pieces) h = absurd (true≢false (sym h))
+launched_came ended (Wants ∷ pieces) h = launched_came ended pieces h
+
 -- ---- a worker's list
 
-module _ (C : Config) (n : ℕ) (R : Record) (w : ℕ) (J K : Life) (many : length R.proxies ≡ length C.proxies) (begins : LifeBegins C w J) (ends : LifeEnds n w K R) where
+module _ (C : Config) (n : ℕ) (R : Record) (ended : ℕ → ℕ → Bool) (w : ℕ) (J K : Life) (many : length R.proxies ≡ length C.proxies) (begins : LifeBegins C n w J) (ends : LifeEnds n w K R ended) where
   pub first_is : IsOf w J
   first_is = record { number_is = begins.cells.number_is; seat_is = begins.seat }
 
@@ -120,15 +136,19 @@ module _ (C : Config) (n : ℕ) (R : Record) (w : ℕ) (J K : Life) (many : leng
   listed forbidden lives =
       let items = J.seen.own in
       let m = length C.proxies in
+      let seen = entries J.launcher.seen in
       let blank : Sights = turned_alone m [] [] J.cells.cells in
-      let turned : Sights = turned_alone m items J.launcher.seen J.cells.cells in
-      let at = turns_alone_are_lives is_launching C w items J.launcher.seen J.cells.cells of_turn begins.launches.only begins.launches.entered in
-      let there : sights_of J ≡ turned = ap (λ (S : Seen). record { columns = S; launcher = J.launcher.seen; cells = J.cells.cells }) begins.seen_is in
+      let turned : Sights = turned_alone m items seen J.cells.cells in
+      let at = turns_alone_are_lives is_launching C w items seen J.cells.cells of_turn begins.launches.only begins.launches.entered in
+      let there : sights_of J ≡ turned = ap (λ (S : Seen). record { columns = S; launcher = seen; cells = J.cells.cells }) begins.seen_is in
       let goes : GoesOn C w lives.pieces turned (sights_of K) = subst (λ (X : Sights). GoesOn C w lives.pieces X (sights_of K)) there lives.goes in
       let all = lives.pieces ++ at.0 in
       let joined : GoesOn C w all blank (sights_of K) = goings_join C w at.0 lives.pieces blank turned (sights_of K) at.1 goes in
-      let begun : IsBlank m blank = record { columns = refl; launcher = refl; cells = λ s. new_at (length C.services) w s J.cells begins.cells } in
-      let lived = goings_are_lives C w all blank (sights_of K) begun joined in
+      let empty : Sights = turned_alone m [] [] [] in
+      let silent = λ (s : ℕ). others_leave_dialogs (by_event n) w [] (get_or J.cells.cells s []) (λ d. refl) (get_or J.cells.cells s [], begins.cells.none s, sym (append-nil (get_or J.cells.cells s []))) in
+      let since : GoesOn C w all empty (sights_of K) = record { leads = joined.leads; dialogs = λ s. joined.dialogs s ∙ ap (λ ds. spoken_in s all ++ ds) (silent s) } in
+      let begun : IsBlank m empty = record { columns = refl; launcher = refl; cells = λ s. refl } in
+      let lived = goings_are_lives C w all empty (sights_of K) begun since in
       let dialogs = λ (s : ℕ). others_leave_dialogs (by_event n) w (get_or K.cells.cells s []) (get_or R.cells s []) (λ d. refl) (cell_at n w K.cells.cells R.cells ends.cells s) in
       record {
         before = at.0;
@@ -143,18 +163,29 @@ module _ (C : Config) (n : ℕ) (R : Record) (w : ℕ) (J K : Life) (many : leng
   before_allowed forbidden few before first = any_first forbidden before ∙ (ap (list_any forbidden) first ∙ launches_allowed forbidden few J.seen.own begins.launches.only)
 
   -- the first items of all pieces lead on
-  lead_on : (forbidden : Piece → Bool) (lives : LivesOn C w forbidden J K) (before : List Piece) → map first_item before ≡ J.seen.own → LeadsSo w false (map first_item (lives.pieces ++ before)) K.launcher.seen
+  lead_on : (forbidden : Piece → Bool) (lives : LivesOn C w forbidden J K) (before : List Piece) → map first_item before ≡ J.seen.own → LeadsSo w false (map first_item (lives.pieces ++ before)) (entries K.launcher.seen)
   lead_on forbidden lives before first =
-      subst (λ (items : List Own). LeadsSo w false items K.launcher.seen) (ap (λ (items : List Own). map first_item lives.pieces ++ items) (sym first) ∙ sym (map-append first_item lives.pieces before)) (lives.leads J.seen.own begins.launches.lead)
+      subst (λ (items : List Own). LeadsSo w false items (entries K.launcher.seen)) (ap (λ (items : List Own). map first_item lives.pieces ++ items) (sym first) ∙ sym (map-append first_item lives.pieces before)) (lives.leads J.seen.own begins.launches.lead)
+
+  -- each launch that they begin ended, and each crash that they enter had its cause
+  all_well : (forbidden : Piece → Bool) (lives : LivesOn C w forbidden J K) (before : List Piece) → map first_item before ≡ J.seen.own → EndsWell [] K.launcher.seen (lives.pieces ++ before)
+  all_well forbidden lives before first = ends_then [] J.launcher.seen K.launcher.seen before lives.pieces
+      (record {
+        deeds = (J.launcher.seen, sym (append-nil J.launcher.seen));
+        launches = subst (λ (items : List Own). launches_end (up_in J.launcher.seen) None items ≡ true) (sym first) begins.launches.ends;
+        crashes = launched_came (ended_in J.launcher.seen) before (subst (λ (items : List Own). list_all is_launching items ≡ true) (sym first) begins.launches.only);
+      })
+      lives.ends
 
   pub list_is : (forbidden : Own → Bool) → ((item : Own) → is_launching item ≡ true → forbidden item ≡ false)
       → ((pieces : List Piece) (items : List Own) → IsWorker C R w pieces items → list_any forbidden items ≡ list_any (λ (piece : Piece). forbidden (first_item piece)) pieces)
-      → LivesOn C w (λ (piece : Piece). forbidden (first_item piece)) J K → ListIsPieces C R forbidden w
+      → LivesOn C w (λ (piece : Piece). forbidden (first_item piece)) J K → ListIsPieces C R ended forbidden w
   list_is forbidden few link lives =
       let l = listed (λ (piece : Piece). forbidden (first_item piece)) lives in
       let all = lives.pieces ++ l.before in
       let pieced = lives_are_pieces C R w all (list_of R w) many l.worker in
       let told : are_told None all ≡ true = told_both None l.before lives.pieces l.told lives.told in
+      let well = all_well (λ (piece : Piece). forbidden (first_item piece)) lives l.before l.first in
       record {
         whole = pieced.0;
         allowed = link all (list_of R w) l.worker
@@ -162,7 +193,9 @@ module _ (C : Config) (n : ℕ) (R : Record) (w : ℕ) (J K : Life) (many : leng
             ∙ (ap (λ (b : Bool). b || list_any (λ (piece : Piece). forbidden (first_item piece)) l.before) lives.allowed ∙ before_allowed forbidden few l.before l.first));
         fits = pieced.1;
         told = crashes_told C R w all (list_of R w) many l.worker told;
-        lead = pieces_lead C R w all (list_of R w) K.launcher.seen many l.worker (lead_on (λ (piece : Piece). forbidden (first_item piece)) lives l.before l.first) ends.launcher;
+        lead = pieces_lead C R w all (list_of R w) (entries K.launcher.seen) many l.worker (lead_on (λ (piece : Piece). forbidden (first_item piece)) lives l.before l.first) ends.launcher;
+        launches = launches_ended C R w (has_up R) all (list_of R w) many l.worker (ends_both (up_in K.launcher.seen) (has_up R) (λ s k up. ends.ups s k (up_begun s k K.launcher.seen up) ∙ up) None (map first_item all) [] well.launches refl);
+        crashed = λ T tells. crashes_had_causes C T R w (ended_in K.launcher.seen) all (list_of R w) many l.worker (λ s k over. tells s k (ends.ends s k over)) well.crashes;
       }
 
   -- what it carried out comes of the orders of which its life's pieces do
@@ -179,37 +212,37 @@ module _ (C : Config) (n : ℕ) (R : Record) (w : ℕ) (J K : Life) (many : leng
       subst (λ (done : List Order). come_of false orders done ≡ true) (sym is) steers.comes
 
 -- of a worker at a door: it carries out no order
-pub door_is : {X : Type 0} (wire : X → ConnWire) (C : Config) (n most : ℕ) (R : Record) (w : ℕ) (e f : Entrance) (a : Attended) → length R.proxies ≡ length C.proxies → AttendsAt wire C n most R w e f a
-    → ListIsPieces C R is_ordered w
-door_is wire C n most R w e f a many h =
-    list_is C n R w h.before h.after many h.begins h.left is_ordered few_ordered (λ pieces items worker. (items_are_of_pieces C R w pieces items many worker).0)
-    (doors_are_lived C n w wire most e f h.before h.after [] h.drawn a (first_is C n R w h.before h.after many h.begins h.left) h.attends)
+pub door_is : {X : Type 0} (wire : X → ConnWire) (C : Config) (n most : ℕ) (R : Record) (ended : ℕ → ℕ → Bool) (w : ℕ) (e f : Entrance) (a : Attended) → length R.proxies ≡ length C.proxies → AttendsAt wire C n most R ended w e f a
+    → ListIsPieces C R ended is_ordered w
+door_is wire C n most R ended w e f a many h =
+    list_is C n R ended w h.before h.after many h.begins h.left is_ordered few_ordered (λ pieces items worker. (items_are_of_pieces C R w pieces items many worker).0)
+    (doors_are_lived C n w wire most e f h.before h.after [] h.drawn a (first_is C n R ended w h.before h.after many h.begins h.left) h.attends)
 
 -- of all workers at doors
-pub doors_are : {X : Type 0} (wire : X → ConnWire) (C : Config) (n most : ℕ) (R : Record) (k w : ℕ) (es fs : List Entrance) (as' : List Attended) → length R.proxies ≡ length C.proxies
-    → AllAttend wire C n most R k es fs as' → k ≤ w → w < length es + k → ListIsPieces C R is_ordered w
-doors_are wire C n most R k w [] fs as' many h l u = absurd (omega arith)
-doors_are wire C n most R k w (e ∷ es) [] as' many h l u = absurd h
-doors_are wire C n most R k w (e ∷ es) (f ∷ fs) [] many h l u = absurd h
-doors_are wire C n most R k w (e ∷ es) (f ∷ fs) (a ∷ as') many h l u = dite (ℕ_discrete k w)
-    (λ is. subst (ListIsPieces C R is_ordered) is (door_is wire C n most R k e f a many h.0))
-    (λ not. doors_are wire C n most R (suc k) w es fs as' many h.1 (omega arith) (omega arith))
+pub doors_are : {X : Type 0} (wire : X → ConnWire) (C : Config) (n most : ℕ) (R : Record) (ended : ℕ → ℕ → Bool) (k w : ℕ) (es fs : List Entrance) (as' : List Attended) → length R.proxies ≡ length C.proxies
+    → AllAttend wire C n most R ended k es fs as' → k ≤ w → w < length es + k → ListIsPieces C R ended is_ordered w
+doors_are wire C n most R ended k w [] fs as' many h l u = absurd (omega arith)
+doors_are wire C n most R ended k w (e ∷ es) [] as' many h l u = absurd h
+doors_are wire C n most R ended k w (e ∷ es) (f ∷ fs) [] many h l u = absurd h
+doors_are wire C n most R ended k w (e ∷ es) (f ∷ fs) (a ∷ as') many h l u = dite (ℕ_discrete k w)
+    (λ is. subst (ListIsPieces C R ended is_ordered) is (door_is wire C n most R ended k e f a many h.0))
+    (λ not. doors_are wire C n most R ended (suc k) w es fs as' many h.1 (omega arith) (omega arith))
 
 -- of the console's worker: it accepts no connection
-pub console_is : (C : Config) (n : ℕ) (R : Record) (w : ℕ) (x y : ConnWire) (failed : Bool) → length R.proxies ≡ length C.proxies → ServesConsole C n R w x y failed → ListIsPieces C R is_accept_item w
-console_is C n R w x y failed many h =
-    list_is C n R w h.before h.after many h.begins h.left is_accept_item few_accepted (λ pieces items worker. (items_are_of_pieces C R w pieces items many worker).1)
-    (consoles_are_lived C w x y 0 h.lines h.before h.after h.how (first_is C n R w h.before h.after many h.begins h.left) h.oversees)
+pub console_is : (C : Config) (n : ℕ) (R : Record) (ended : ℕ → ℕ → Bool) (w : ℕ) (x y : ConnWire) (failed : Bool) → length R.proxies ≡ length C.proxies → ServesConsole C n R ended w x y failed → ListIsPieces C R ended is_accept_item w
+console_is C n R ended w x y failed many h =
+    list_is C n R ended w h.before h.after many h.begins h.left is_accept_item few_accepted (λ pieces items worker. (items_are_of_pieces C R w pieces items many worker).1)
+    (consoles_are_lived C w x y 0 h.lines h.before h.after h.how (first_is C n R ended w h.before h.after many h.begins h.left) h.oversees)
 
 -- and what it carried out comes of what was ordered there
-pub console_obeys : (C : Config) (n : ℕ) (R : Record) (w : ℕ) (x y : ConnWire) (failed : Bool) → length R.proxies ≡ length C.proxies → ServesConsole C n R w x y failed → OrdersAreObeyed C R w x y failed
-console_obeys C n R w x y failed many h =
-    let it = consoles_are_obeyed C w x y 0 h.lines h.before h.after h.how (first_is C n R w h.before h.after many h.begins h.left) h.oversees in
+pub console_obeys : (C : Config) (n : ℕ) (R : Record) (ended : ℕ → ℕ → Bool) (w : ℕ) (x y : ConnWire) (failed : Bool) → length R.proxies ≡ length C.proxies → ServesConsole C n R ended w x y failed → OrdersAreObeyed C R w x y failed
+console_obeys C n R ended w x y failed many h =
+    let it = consoles_are_obeyed C w x y 0 h.lines h.before h.after h.how (first_is C n R ended w h.before h.after many h.begins h.left) h.oversees in
     record {
       lines = h.lines;
       how = h.how;
       failed_is = h.failed_is;
       orders = it.0;
       reads = it.1;
-      comes = list_obeys C n R w h.before h.after many h.begins h.left it.0 it.2;
+      comes = list_obeys C n R ended w h.before h.after many h.begins h.left it.0 it.2;
     }

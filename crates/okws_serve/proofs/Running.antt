@@ -10,28 +10,31 @@ use Rattle.live_board.specs.Seats.{SeatIs as Place}
 use Rattle.named_columns.specs.Counts.{capped}
 use Rattle.okws_outer.specs.Conns.{ConnWire}
 use Rattle.okws_outer.specs.Doors.{Entrance}
+use Rattle.okws_base.specs.declared.journal.Entry.{Entry}
 use Rattle.okws_plan.specs.declared.configuration.Config.{Config}
+use Rattle.okws_plan.specs.declared.event.OkdEvent.{OkdEvent}
 use Rattle.site_worker.specs.Commands.{Oversees}
 use Rattle.site_worker.specs.Lives.{Life}
 use Rattle.site_worker.specs.declared.console.Overseen.{Overseen}
 use Rattle.site_worker.specs.declared.door.Attended.{Attended}
 use Rattle.turn_lock.specs.Seats.{TurnIs}
 use Rattle.site_run.specs.Places.{AllIdle, PlacesAre, Placed, HasPlaces, SamePlaces}
+use Rattle.site_run.specs.Meeting.{HasShown}
 use Rattle.site_run.specs.Opening.{HasOpened}
 use Rattle.site_run.specs.Rows.{ChairsAre, Spacious, SameRoom, WorksAs}
-use Rattle.site_run.specs.Tied.{AllBegin, LifeBegins, MoreOf, Unused}
+use Rattle.site_run.specs.Tied.{AllBegin, LifeBegins, MoreOf, Waiting}
 use Rattle.site_run.proofs.Lists.{rising_pop}
 use Rattle.site_run.proofs.Seating.{push_length}
 use Rattle.site_run.proofs.Tying.{begin_pop, lives_begin, more_then}
 use Rattle.okws_serve.specs.Doors.{any_starved, is_fault}
-use Rattle.okws_serve.specs.Opened.{OpensFirst}
+use Rattle.okws_serve.specs.Opened.{OpensFirst, ShowsFirst}
 use Rattle.okws_serve.specs.Posts.{DoorIs, ConsoleIs, OverseenBy, OverseenIf, WorksAt}
 use Rattle.okws_serve.specs.Manned.{ArePosted, AllWork, AllAttended, ConsoleDone, DoorsDone, doors_of, lives_of, attended_of, served_of}
 use Rattle.okws_serve.specs.declared.post.Post.{Post}
 use Rattle.okws_serve.specs.declared.post.Post.TheVariants.{Door, Console}
 use Rattle.okws_serve.proofs.Left.{served_push, counts_on, starved_push}
 use Rattle.okws_serve.proofs.Manned.{Done, all_done, doors_push, works_on, works_pop}
-use Rattle.okws_serve.proofs.Opened.{lives_opened}
+use Rattle.okws_serve.proofs.Opened.{lives_opened, lives_shown}
 use Rattle.okws_serve.proofs.Posting.{idle_pop}
 
 -- the last of the places of doors
@@ -53,7 +56,7 @@ works_many wire C n (p ∷ ps) [] w = absurd w
 works_many wire C n (p ∷ ps) (q ∷ qs) w = ap suc (works_many wire C n ps qs w.1)
 
 -- what was done at the doors, and at the console, whose post was the last
-pub record AllServed {X : Type 0} (wire : X → ConnWire) (C : Config) (n : ℕ) (t : TurnIs) (z : TableId) (most : ℕ) (es : List Entrance) (w : ConnWire) (qs : List (Post DoorIs ConsoleIs)) (q : Post DoorIs ConsoleIs) : Type 0 where
+pub record AllServed {X : Type 0} (wire : X → ConnWire) (C : Config) (n : ℕ) (t : TurnIs) (z : TableId) (most : ℕ) (entries : List (Entry OkdEvent)) (es : List Entrance) (w : ConnWire) (qs : List (Post DoorIs ConsoleIs)) (q : Post DoorIs ConsoleIs) : Type 0 where
   pub doors : List (Post DoorIs ConsoleIs)
   pub console : ConsoleIs
   pub done : Done wire C n t z most 0 doors qs
@@ -64,13 +67,14 @@ pub record AllServed {X : Type 0} (wire : X → ConnWire) (C : Config) (n : ℕ)
   pub wire_is : console.wire ≡ w
   pub first : console.lines ≡ 0
   pub none : console.overseen ≡ None
-  pub begin : AllBegin C 0 (lives_of (doors_of doors))
-  pub begins : LifeBegins C (length es) console.life
+  pub begin : AllBegin C n 0 (lives_of (doors_of doors))
+  pub begins : LifeBegins C n (length es) console.life
   pub opened : OpensFirst C (length es + 1) (lives_of (doors_of doors))
+  pub shown : ShowsFirst C n (length es + 1) entries (lives_of (doors_of doors))
 
-pub all_served : {X : Type 0} (wire : X → ConnWire) (C : Config) (n : ℕ) (t : TurnIs) (z : TableId) (most : ℕ) (chairs : ChairsAre) (es : List Entrance) (w : ConnWire) (before after qs : List (Post DoorIs ConsoleIs)) (q : Post DoorIs ConsoleIs)
-    → Unused C chairs → HasOpened C chairs → ArePosted t z most chairs es w before → AllWork wire C n before after → after ≡ qs ++ q ∷ [] → AllServed wire C n t z most es w qs q
-all_served wire C n t z most chairs es w before after qs q unused opened h work f =
+pub all_served : {X : Type 0} (wire : X → ConnWire) (C : Config) (n : ℕ) (t : TurnIs) (z : TableId) (most : ℕ) (chairs : ChairsAre) (entries : List (Entry OkdEvent)) (es : List Entrance) (w : ConnWire) (before after qs : List (Post DoorIs ConsoleIs)) (q : Post DoorIs ConsoleIs)
+    → Waiting C n chairs → HasOpened C chairs → HasShown C n chairs entries → ArePosted t z most chairs es w before → AllWork wire C n before after → after ≡ qs ++ q ∷ [] → AllServed wire C n t z most entries es w qs q
+all_served wire C n t z most chairs entries es w before after qs q waiting opened shown h work f =
     let ps = h.doors in
     let c = h.console in
     let v = subst (λ xs. AllWork wire C n xs (qs ++ q ∷ [])) h.posts_are (subst (AllWork wire C n before) f work) in
@@ -81,7 +85,7 @@ all_served wire C n t z most chairs es w before after qs q unused opened h work 
     let p = works_pop wire C n ps (Console c) qs q (omega arith) v in
     let lives = lives_of (doors_of ps) in
     let size : length lives ≡ length es = length-map (doors_of ps) (λ (d : DoorIs). d.life) ∙ (sym (length-map (doors_of ps) (λ (d : DoorIs). d.entrance)) ∙ ap length h.entrances_are) in
-    let first = begin_pop C 0 (length es) lives c.life (omega arith) (lives_begin C 0 (lives ++ c.life ∷ []) chairs.seats chairs.cells chairs.turns unused h.seats) in
+    let first = begin_pop C n 0 (length es) lives c.life (omega arith) (lives_begin C n 0 (lives ++ c.life ∷ []) chairs.seats chairs.cells chairs.turns waiting h.seats) in
     record {
       doors = ps;
       console = c;
@@ -96,6 +100,7 @@ all_served wire C n t z most chairs es w before after qs q unused opened h work 
       begin = first.0;
       begins = first.1;
       opened = lives_opened C (length es + 1) lives c.life chairs h.seats (push_length lives c.life ∙ omega (arith, size)) opened;
+      shown = lives_shown C n entries (length es + 1) lives c.life chairs h.seats (push_length lives c.life ∙ omega (arith, size)) shown;
     }
 
 -- posts of a run are as many as the doors and one
@@ -111,7 +116,7 @@ here_overseen wire C n c q d w e = subst (λ x. WorksAt wire C n (Console c) x) 
 
 -- the doors of a run were attended
 abbrev pub doors_done : {X : Type 0} (wire : X → ConnWire) (C : Config) (n : ℕ) (t : TurnIs) (z : TableId) (most : ℕ) (old new : PlacesAre) (ps qs : List (Post DoorIs ConsoleIs)) (connections : ℕ) (starved : Bool)
-    → Done wire C n t z most 0 ps qs → AllBegin C 0 (lives_of (doors_of ps)) → map (λ (d : DoorIs). d.entrance) (doors_of ps) ≡ old.entrances
+    → Done wire C n t z most 0 ps qs → AllBegin C n 0 (lives_of (doors_of ps)) → map (λ (d : DoorIs). d.entrance) (doors_of ps) ≡ old.entrances
     → new.entrances ≡ map (λ (d : DoorIs). d.entrance) (doors_of qs) → new.places ≡ map (λ (d : DoorIs). d.place) (doors_of qs)
     → connections ≡ capped (served_of (attended_of (doors_of qs))) → starved ≡ any_starved (attended_of (doors_of qs)) → AllIdle new.entrances
     → DoorsDone wire C n z most (lives_of (doors_of qs)) old new connections starved
@@ -141,8 +146,8 @@ same_some : {A : Type 0} (x y : A) → Some x ≡ Some y → x ≡ y
 same_some x y e = cc
 
 -- and served from its first line
-pub console_served : (C : Config) (k : ℕ) (o : Option Overseen) (c d : ConsoleIs) (how : Overseen) (w x : ConnWire) → LifeBegins C k c.life → o ≡ None → OverseenIf C c o d → d.overseen ≡ Some how → c.wire ≡ w → d.wire ≡ x → c.lines ≡ 0 → ConsoleDone C k d.life w x (is_fault how)
-console_served C k o c d how w x l e i s p q f =
+pub console_served : (C : Config) (n k : ℕ) (o : Option Overseen) (c d : ConsoleIs) (how : Overseen) (w x : ConnWire) → LifeBegins C n k c.life → o ≡ None → OverseenIf C c o d → d.overseen ≡ Some how → c.wire ≡ w → d.wire ≡ x → c.lines ≡ 0 → ConsoleDone C n k d.life w x (is_fault how)
+console_served C n k o c d how w x l e i s p q f =
     let b = overseen_by C o c d e i in
     let same : b.0 ≡ how = same_some b.0 how (sym b.1.done ∙ s) in
     record {

@@ -167,10 +167,10 @@ map_length f [] = refl
 map_length f (x ∷ xs) = ap suc (map_length f xs)
 
 -- what was done at all doors, whose workers have numbers that rise by one from k
-pub record AllTallied {X : Type 0} (wire : X → ConnWire) (C : Config) (n most : ℕ) (R : Record) (hand : ℕ → ℕ) (count k : ℕ) (olds news : List Entrance) (as' : List Attended) : Type 0 where
+pub record AllTallied {X : Type 0} (wire : X → ConnWire) (C : Config) (n most : ℕ) (R : Record) (ended : ℕ → ℕ → Bool) (hand : ℕ → ℕ) (count k : ℕ) (olds news : List Entrance) (as' : List Attended) : Type 0 where
   pub tallies : List Tally
   pub tallied : AllTally tallies olds news
-  pub attend : AllAttend wire C n most R k olds news as'
+  pub attend : AllAttend wire C n most R ended k olds news as'
   pub served : total connections_of tallies ≡ served_of as'
   pub begun : sum_below most hand count k (length as') ≡ total begun_of tallies + starved_in as'
 
@@ -181,15 +181,15 @@ module _ {X : Type 0} (wire : X → ConnWire) (C : Config) (n : ℕ) (z : TableI
   one_tallied k d a e f l b = subst (λ m. Attends wire C n m d.entrance e.entrance d.life e.life [] e.place.drawn a) l
       (subst (λ xs. Attends wire C n d.most d.entrance e.entrance d.life e.life xs e.place.drawn a) f.drawn b.attends)
 
-  pub all_tallied : (R : Record) (k : ℕ) (ds : List DoorIs) (as' : List Attended) (es : List DoorIs) → AllAttended wire C n z most k ds as' es → AllDrewAt hand count (map (λ (d : DoorIs). d.place) es)
-      → AllBegin C k (lives_of ds) → AllEnd n k (lives_of es) R → AllTallied wire C n most R hand count k (map (λ (d : DoorIs). d.entrance) ds) (map (λ (d : DoorIs). d.entrance) es) as'
-  all_tallied R k [] [] [] h w begin end = record { tallies = []; tallied = tt; attend = tt; served = refl; begun = refl }
-  all_tallied R k [] [] (e ∷ es) h w begin end = absurd h
-  all_tallied R k [] (a ∷ as') es h w begin end = absurd h
-  all_tallied R k (d ∷ ds) [] es h w begin end = absurd h
-  all_tallied R k (d ∷ ds) (a ∷ as') [] h w begin end = absurd h
-  all_tallied R k (d ∷ ds) (a ∷ as') (e ∷ es) h w begin end =
-      let rest = all_tallied R (suc k) ds as' es h.3 w.1 begin.1 end.1 in
+  pub all_tallied : (R : Record) (ended : ℕ → ℕ → Bool) (k : ℕ) (ds : List DoorIs) (as' : List Attended) (es : List DoorIs) → AllAttended wire C n z most k ds as' es → AllDrewAt hand count (map (λ (d : DoorIs). d.place) es)
+      → AllBegin C n k (lives_of ds) → AllEnd n k (lives_of es) R ended → AllTallied wire C n most R ended hand count k (map (λ (d : DoorIs). d.entrance) ds) (map (λ (d : DoorIs). d.entrance) es) as'
+  all_tallied R ended k [] [] [] h w begin end = record { tallies = []; tallied = tt; attend = tt; served = refl; begun = refl }
+  all_tallied R ended k [] [] (e ∷ es) h w begin end = absurd h
+  all_tallied R ended k [] (a ∷ as') es h w begin end = absurd h
+  all_tallied R ended k (d ∷ ds) [] es h w begin end = absurd h
+  all_tallied R ended k (d ∷ ds) (a ∷ as') [] h w begin end = absurd h
+  all_tallied R ended k (d ∷ ds) (a ∷ as') (e ∷ es) h w begin end =
+      let rest = all_tallied R ended (suc k) ds as' es h.3 w.1 begin.1 end.1 in
       let attends = one_tallied k d a e h.0 h.1 h.2 in
       let t = door_tallied wire C n most d.entrance e.entrance d.life e.life e.place.drawn a attends in
       let number : e.place.number ≡ k = ap (λ (p : Place). p.number) h.2.place_is ∙ h.0.number_is in
@@ -228,13 +228,13 @@ attended_many wire C n z most k (d ∷ ds) (a ∷ as') [] h = absurd h
 attended_many wire C n z most k (d ∷ ds) (a ∷ as') (e ∷ es) h = let m = attended_many wire C n z most (suc k) ds as' es h.3 in omega arith
 
 -- the doors of a run were served, where all numbers were drawn from their workers' seats
-pub serves_doors : {X : Type 0} (wire : X → ConnWire) (C : Config) (n : ℕ) (z : TableId) (most many : ℕ) (R : Record) (lives : List Life) (old new : PlacesAre) (connections : ℕ) (starved : Bool)
-    → most ≤ 1000000 → 0 < many → length new.entrances ≡ many → AllDrawn many new.places → DoorsDone wire C n z most lives old new connections starved → AllEnd n 0 lives R
-    → ServesDoors wire C n most R old.entrances new.entrances connections starved
-serves_doors wire C n z most many R lives old new connections starved few some l w d end =
+pub serves_doors : {X : Type 0} (wire : X → ConnWire) (C : Config) (n : ℕ) (z : TableId) (most many : ℕ) (R : Record) (ended : ℕ → ℕ → Bool) (lives : List Life) (old new : PlacesAre) (connections : ℕ) (starved : Bool)
+    → most ≤ 1000000 → 0 < many → length new.entrances ≡ many → AllDrawn many new.places → DoorsDone wire C n z most lives old new connections starved → AllEnd n 0 lives R ended
+    → ServesDoors wire C n most R ended old.entrances new.entrances connections starved
+serves_doors wire C n z most many R ended lives old new connections starved few some l w d end =
     let places = λ (x : DoorIs). x.place in
     let drew : AllDrewAt w.hand w.count (map (λ (x : DoorIs). x.place) d.after) = subst (AllDrewAt w.hand w.count) d.places_are w.drew in
-    let t = all_tallied wire C n z most w.hand w.count R 0 d.before d.attended d.after d.each drew d.begin (subst (λ Js. AllEnd n 0 Js R) d.lives_are end) in
+    let t = all_tallied wire C n z most w.hand w.count R ended 0 d.before d.attended d.after d.each drew d.begin (subst (λ Js. AllEnd n 0 Js R ended) d.lives_are end) in
     let m : length d.attended ≡ many = attended_many wire C n z most 0 d.before d.attended d.after d.each ∙ (sym (map_length (λ (x : DoorIs). x.entrance) d.after) ∙ (sym (ap length d.new_is) ∙ l)) in
     let s : sum_below most w.hand w.count 0 (length d.attended) ≡ min most w.count = subst (λ x. sum_below most w.hand w.count 0 x ≡ min most w.count) (sym m) (sum-all most w.hand many w.count w.seated) in
     let b = t.begun in
@@ -242,7 +242,7 @@ serves_doors wire C n z most many R lives old new connections starved few some l
     let e = d.connections_are in
     record {
       attended = d.attended;
-      attend = subst (λ x. AllAttend wire C n most R 0 x new.entrances d.attended) (sym d.old_is) (subst (λ x. AllAttend wire C n most R 0 (map (λ (y : DoorIs). y.entrance) d.before) x d.attended) (sym d.new_is) t.attend);
+      attend = subst (λ x. AllAttend wire C n most R ended 0 x new.entrances d.attended) (sym d.old_is) (subst (λ x. AllAttend wire C n most R ended 0 (map (λ (y : DoorIs). y.entrance) d.before) x d.attended) (sym d.new_is) t.attend);
       starved_is = d.starved_is;
       tallies = t.tallies;
       tallied = subst (λ x. AllTally t.tallies x new.entrances) (sym d.old_is) (subst (λ x. AllTally t.tallies (map (λ (y : DoorIs). y.entrance) d.before) x) (sym d.new_is) t.tallied);
@@ -263,8 +263,8 @@ lives_many wire C n z most lives old new connections starved d =
     ∙ (sym (map_length (λ (x : DoorIs). x.entrance) d.before) ∙ ap length (sym d.old_is))))
 
 -- the console was served, by a worker whose life ended in the record
-pub console_ends : (C : Config) (n : ℕ) (R : Record) (w : ℕ) (life : Life) (old new : ConnWire) (failed : Bool) → ConsoleDone C w life old new failed → LifeEnds n w life R → ServesConsole C n R w old new failed
-console_ends C n R w life old new failed d end = record {
+pub console_ends : (C : Config) (n : ℕ) (R : Record) (ended : ℕ → ℕ → Bool) (w : ℕ) (life : Life) (old new : ConnWire) (failed : Bool) → ConsoleDone C n w life old new failed → LifeEnds n w life R ended → ServesConsole C n R ended w old new failed
+console_ends C n R ended w life old new failed d end = record {
   lines = d.lines;
   before = d.before;
   after = life;

@@ -1,8 +1,8 @@
 -- The lists of a run's workers are made of pieces, as a legal record's are.
-use Rattle.std.proofs.Common.{◌≡◌, ◌<◌, ◌≤◌, ◌+◌, ℕ, zero, suc, Bool, true, false, List, [], ◌∷◌, ◌++◌, length, filter_map, reverse, get_or, refl, sym, ap, ◌∙◌, subst, arith}
+use Rattle.std.proofs.Common.{◌≡◌, ◌<◌, ◌+◌, ℕ, suc, Bool, true, false, List, [], ◌∷◌, length, filter_map, reverse, get_or, sym, ap, ◌∙◌, subst, arith}
 use Rattle.std.proofs.lemmas.List.{get_or_append_left}
 use Rattle.std.specs.List.{list_any}
-use Rattle.std.specs.Prelude.{IfSome, IsFalse, IsTrue, Some, None}
+use Rattle.std.specs.Prelude.{IfSome, Some, None}
 use Rattle.std.specs.declared.option.Option.{Option}
 use mathlib.Core.Logic.{dite}
 use native.Mathlib.Decide.{ℕ_discrete}
@@ -29,9 +29,9 @@ come_told : (failed : Bool) (orders : List Ordered) (done : List _) (told : Opti
 come_told failed orders done None comes is = is
 come_told failed orders done (Some os) comes is = subst (λ xs. come_of failed xs done ≡ true) (sym is) (come_anyway failed orders done comes)
 
-pub all_pieces : (C : Config) (R : Record) (doors : ℕ) (failed : Bool) (orders : List Ordered) → length R.workers ≡ suc doors → ((w : ℕ) → w < doors → ListIsPieces C R is_ordered w) → ListIsPieces C R is_accept_item doors
+pub all_pieces : (C : Config) (R : Record) (ended : ℕ → ℕ → Bool) (doors : ℕ) (failed : Bool) (orders : List Ordered) → length R.workers ≡ suc doors → ((w : ℕ) → w < doors → ListIsPieces C R ended is_ordered w) → ListIsPieces C R ended is_accept_item doors
     → come_of false orders (filter_map item_order (reverse (list_of R doors))) ≡ true → AreAllPieces C R doors orders failed
-all_pieces C R doors failed orders many at console comes T connections told fails as_many =
+all_pieces C R ended doors failed orders many at console comes T connections told fails as_many =
     let here : list_of R doors ≡ worker_list R doors = list_is R doors (omega arith) in
     let done : come_of false orders (filter_map item_order (reverse (worker_list R doors))) ≡ true = subst (λ (items : List Own). come_of false orders (filter_map item_order (reverse items)) ≡ true) here comes in
     let accepts : list_any is_accept_item (worker_list R doors) ≡ false = subst (λ (items : List Own). list_any is_accept_item items ≡ false) here console.allowed in

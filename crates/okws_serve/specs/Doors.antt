@@ -48,22 +48,22 @@ AllTally (t ∷ ts) (e ∷ es) [] = ⊥
 AllTally (t ∷ ts) (e ∷ es) (f ∷ fs) = TalliesAt t e f × AllTally ts es fs
 
 -- A worker of number w, whose life began at a door of a site, attended it: one connection after the other, as its rounds say; and this life ended in the record, so that the journals there are those by which it answered. Number n launches.
-pub record AttendsAt {X : Type 0} (wire : X → ConnWire) (C : Config) (n most : ℕ) (R : Record) (w : ℕ) (old new : Entrance) (a : Attended) : Type 0 where
+pub record AttendsAt {X : Type 0} (wire : X → ConnWire) (C : Config) (n most : ℕ) (R : Record) (ended : ℕ → ℕ → Bool) (w : ℕ) (old new : Entrance) (a : Attended) : Type 0 where
   pub before : Life
   pub after : Life
   pub drawn : List ℕ
-  pub begins : LifeBegins C w before
+  pub begins : LifeBegins C n w before
   pub attends : Attends wire C n most old new before after [] drawn a
-  pub left : LifeEnds n w after R
+  pub left : LifeEnds n w after R ended
 
 -- The same at each door, by workers whose numbers rise by one from w.
-abbrev pub AllAttend : {X : Type 0} → (X → ConnWire) → Config → ℕ → ℕ → Record → ℕ → List Entrance → List Entrance → List Attended → Type 0
-AllAttend wire C n most R w [] [] [] = Unit {0}
-AllAttend wire C n most R w [] [] (a ∷ as') = ⊥
-AllAttend wire C n most R w [] (f ∷ fs) as' = ⊥
-AllAttend wire C n most R w (e ∷ es) [] as' = ⊥
-AllAttend wire C n most R w (e ∷ es) (f ∷ fs) [] = ⊥
-AllAttend wire C n most R w (e ∷ es) (f ∷ fs) (a ∷ as') = AttendsAt wire C n most R w e f a × AllAttend wire C n most R (suc w) es fs as'
+abbrev pub AllAttend : {X : Type 0} → (X → ConnWire) → Config → ℕ → ℕ → Record → (ℕ → ℕ → Bool) → ℕ → List Entrance → List Entrance → List Attended → Type 0
+AllAttend wire C n most R ended w [] [] [] = Unit {0}
+AllAttend wire C n most R ended w [] [] (a ∷ as') = ⊥
+AllAttend wire C n most R ended w [] (f ∷ fs) as' = ⊥
+AllAttend wire C n most R ended w (e ∷ es) [] as' = ⊥
+AllAttend wire C n most R ended w (e ∷ es) (f ∷ fs) [] = ⊥
+AllAttend wire C n most R ended w (e ∷ es) (f ∷ fs) (a ∷ as') = AttendsAt wire C n most R ended w e f a × AllAttend wire C n most R ended (suc w) es fs as'
 
 -- Memory was refused to one of the workers, before it took a connection.
 abbrev pub any_starved : List Attended → Bool
@@ -71,9 +71,9 @@ any_starved [] = false
 any_starved (a ∷ as') = a.starved || any_starved as'
 
 -- The doors of a run were attended, door w by number w, whose life ended in the record: at most `most` connections were begun in all; and just so many, unless memory was refused to a worker, where those that were cut or did not come are among them and were counted at their doors.
-pub record ServesDoors {X : Type 0} (wire : X → ConnWire) (C : Config) (n most : ℕ) (R : Record) (old new : List Entrance) (connections : ℕ) (starved : Bool) : Type 0 where
+pub record ServesDoors {X : Type 0} (wire : X → ConnWire) (C : Config) (n most : ℕ) (R : Record) (ended : ℕ → ℕ → Bool) (old new : List Entrance) (connections : ℕ) (starved : Bool) : Type 0 where
   pub attended : List Attended
-  pub attend : AllAttend wire C n most R 0 old new attended
+  pub attend : AllAttend wire C n most R ended 0 old new attended
   pub starved_is : starved ≡ any_starved attended
   pub tallies : List Tally
   pub tallied : AllTally tallies old new
@@ -87,13 +87,13 @@ is_fault overseen.Finished = false
 is_fault overseen.ConsoleFault = true
 
 -- A console of a site was overseen from its first line by a worker of number w, whose life began there and ended in the record: its commands were carried out and answered one after the other, to `end` or its end, or until a call of it failed. Where a publication was refused since all editions of its template are spent, the record has as many as a template may have. Number n launches.
-pub record ServesConsole (C : Config) (n : ℕ) (R : Record) (w : ℕ) (old new : ConnWire) (failed : Bool) : Type 0 where
+pub record ServesConsole (C : Config) (n : ℕ) (R : Record) (ended : ℕ → ℕ → Bool) (w : ℕ) (old new : ConnWire) (failed : Bool) : Type 0 where
   pub lines : ℕ
   pub before : Life
   pub after : Life
   pub how : Overseen
-  pub begins : LifeBegins C w before
+  pub begins : LifeBegins C n w before
   pub oversees : Oversees C old new 0 lines before after how
   pub failed_is : failed ≡ is_fault how
-  pub left : LifeEnds n w after R
+  pub left : LifeEnds n w after R ended
   pub spent : OverseesSpent C R old new 0 lines before after how oversees

@@ -1,7 +1,9 @@
 -- The workers of a run at their posts, from when they are put there until they have left.
 use Rattle.std.specs.Prelude.{◌≡◌, ℕ, suc, ◌+◌, Bool, List, [], ◌∷◌, ◌++◌, length, map, None, IsSome, option_to_list}
 use Rattle.atomic_table.specs.Seated.{TableId}
+use Rattle.okws_base.specs.declared.journal.Entry.{Entry}
 use Rattle.okws_plan.specs.declared.configuration.Config.{Config}
+use Rattle.okws_plan.specs.declared.event.OkdEvent.{OkdEvent}
 use Rattle.okws_outer.specs.Conns.{ConnWire}
 use Rattle.okws_outer.specs.Doors.{Entrance}
 use Rattle.turn_lock.specs.Seats.{TurnIs}
@@ -15,7 +17,7 @@ use Rattle.site_run.specs.Places.{AllIdle, PlacesAre}
 use Rattle.site_run.specs.Rows.{ChairsAre, WorksAs}
 use Rattle.site_run.specs.Tied.{AllBegin, LifeBegins, SeatsOf}
 use Rattle.okws_serve.specs.Doors.{any_starved, is_fault}
-use Rattle.okws_serve.specs.Opened.{OpensFirst}
+use Rattle.okws_serve.specs.Opened.{OpensFirst, ShowsFirst}
 use Rattle.okws_serve.specs.Posts.{DoorIs, ConsoleIs, AttendedBy, WorksAt}
 use Rattle.okws_serve.specs.declared.post.Post.{Post}
 use Rattle.okws_serve.specs.declared.post.Post.TheVariants.{Door, Console}
@@ -101,7 +103,7 @@ pub record DoorsDone {X : Type 0} (wire : X → ConnWire) (C : Config) (n : ℕ)
   pub before : List DoorIs
   pub attended : List Attended
   pub after : List DoorIs
-  pub begin : AllBegin C 0 (lives_of before)
+  pub begin : AllBegin C n 0 (lives_of before)
   pub each : AllAttended wire C n z most 0 before attended after
   pub lives_are : lives ≡ lives_of after
   pub old_is : old.entrances ≡ map (λ (d : DoorIs). d.entrance) before
@@ -111,20 +113,21 @@ pub record DoorsDone {X : Type 0} (wire : X → ConnWire) (C : Config) (n : ℕ)
   pub starved_is : starved ≡ any_starved attended
   pub idle : AllIdle new.entrances
 
--- A console was overseen from its first line, by a worker of number w whose life began there and is this now.
-pub record ConsoleDone (C : Config) (w : ℕ) (life : Life) (old new : ConnWire) (failed : Bool) : Type 0 where
+-- A console was overseen from its first line, by a worker of number w whose life began there and is this now. Number n launches.
+pub record ConsoleDone (C : Config) (n w : ℕ) (life : Life) (old new : ConnWire) (failed : Bool) : Type 0 where
   pub lines : ℕ
   pub before : Life
   pub how : Overseen
-  pub begins : LifeBegins C w before
+  pub begins : LifeBegins C n w before
   pub oversees : Oversees C old new 0 lines before life how
   pub failed_is : failed ≡ is_fault how
 
--- All workers of a run left their posts, at the doors and at the console, and these are the seats of their lives. The first of these lives began with the first launches of all services.
-pub record WorkDone {X : Type 0} (wire : X → ConnWire) (C : Config) (n : ℕ) (z : TableId) (most : ℕ) (chairs : ChairsAre) (old new : PlacesAre) (before after : ConnWire) (connections : ℕ) (starved failed : Bool) : Type 0 where
+-- All workers of a run left their posts, at the doors and at the console, and these are the seats of their lives. The first of these lives began with the first launches of all services; what came up in them stands among these entries of okd, before any that a worker made.
+pub record WorkDone {X : Type 0} (wire : X → ConnWire) (C : Config) (n : ℕ) (z : TableId) (most : ℕ) (chairs : ChairsAre) (entries : List (Entry OkdEvent)) (old new : PlacesAre) (before after : ConnWire) (connections : ℕ) (starved failed : Bool) : Type 0 where
   pub lives : List Life
   pub last : Life
   pub seats : SeatsOf (lives ++ last ∷ []) chairs
   pub doors : DoorsDone wire C n z most lives old new connections starved
   pub opened : OpensFirst C (length old.entrances + 1) (lives_of doors.before)
-  pub console : ConsoleDone C (length old.entrances) last before after failed
+  pub shown : ShowsFirst C n (length old.entrances + 1) entries (lives_of doors.before)
+  pub console : ConsoleDone C n (length old.entrances) last before after failed

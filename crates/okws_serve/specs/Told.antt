@@ -1,7 +1,7 @@
 -- What a run's objects tell of how often their calls failed.
 use Rattle.std.specs.Prelude.{◌≡◌, ℕ, suc, List, [], ◌∷◌}
 use Rattle.std.specs.declared.option.Option.{Option}
-use Rattle.site_run.specs.Keepers.{KeeperIs}
+use Rattle.site_making.specs.Keepers.{KeeperIs}
 use Rattle.okws_serve.specs.Connected.{rise}
 
 -- It is told of each keeper, the first of which is that of proxy p, how much its count rose, by what the counts were when the run began.

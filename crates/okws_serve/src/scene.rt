@@ -6,8 +6,8 @@ ghost use Rattle.okws_base.specs.declared.limit.TheConstants.{MOST_CONNECTIONS, 
 ghost use Rattle.okws_outer.specs.Conns.{ConnWire};
 ghost use Rattle.turn_lock.specs.Rows.{AllCount};
 ghost use Rattle.site_locks.specs.Sat.{ids_of};
-ghost use Rattle.site_run.specs.Keepers.{keeper_of};
-ghost use Rattle.site_run.specs.Making.{IsServable};
+ghost use Rattle.site_making.specs.Keepers.{keeper_of};
+ghost use Rattle.site_making.specs.Making.{IsServable};
 ghost use Rattle.site_run.specs.Places.{AllIdle, PlacesAre};
 ghost use Rattle.site_run.specs.Rooms.{HasRoom, IsStock};
 ghost use Rattle.site_run.specs.Whole.{IsHeld, IsReady};
@@ -31,6 +31,7 @@ use okws_outer::keeper::Keeper;
 use okws_outer::stream::{Link, Sink};
 use okws_plan::configuration::Config;
 use site_locks::named::Site;
+use site_locks::note::OkdNote;
 use site_run::ended::Ended;
 use site_run::kit::{Begun, Kit, begin};
 use site_run::places::Doors;
@@ -193,7 +194,7 @@ pub(crate) fn work_in<
     places: &mut Doors<D>,
     console: Console<O>,
     posts: Vec<PostOf<'a, R, G, N, J, C, K, S, F, D, O>>,
-) -> (O, Served, Overseen)
+) -> (O, Served, Overseen, OkdNote<N, J>)
 where
     D::Conn: Send,
     F::Child: Send,
@@ -208,7 +209,7 @@ where
     requires first { console.reader ≡ 0 }
     ensures held { IsHeld N.site N.launcher scene.now.hall.turn scene.now.hall.numbers scene.now.hall.cells chairs.new places.new }
     ensures idle { AllIdle places.new.entrances }
-    ensures done { WorkDone D.Conn.wire N.site N.launcher scene.now.hall.numbers.id most chairs.new places.old places.new (O.wire console.console) (O.wire result.0) result.1.connections result.1.starved (is_fault result.2) }
+    ensures done { WorkDone D.Conn.wire N.site N.launcher scene.now.hall.numbers.id most chairs.new result.3 places.old places.new (O.wire console.console) (O.wire result.0) result.1.connections result.1.starved (is_fault result.2) }
 {
     let common = scene.ground(alloc, most);
     run(&common, chairs, places, console, posts)
@@ -235,6 +236,7 @@ pub(crate) fn end_run<
     console: O,
     served: Served,
     overseen: Overseen,
+    okd: OkdNote<N, J>,
 ) -> Left<D, O, F, K, S, G>
     requires held { IsHeld N.site N.launcher scene.hall.turn scene.hall.numbers scene.hall.cells chairs places }
     requires tells { N.tells ≡ true }
@@ -243,7 +245,7 @@ pub(crate) fn end_run<
     ensures idle { AllIdle (map D.entrance result.doors.items) }
     ensures some { IsSome result.ran × IsSome result.log }
     ensures ran { IfSome result.ran (λ ran. IfSome result.log (λ log. (most : ℕ) (old : PlacesAre) (w : ConnWire) → most ≤ MOST_CONNECTIONS
-        → WorkDone D.Conn.wire N.site N.launcher scene.hall.numbers.id most chairs old places w (O.wire console) served.connections served.starved (is_fault overseen)
+        → WorkDone D.Conn.wire N.site N.launcher scene.hall.numbers.id most chairs okd old places w (O.wire console) served.connections served.starved (is_fault overseen)
         → Runs D.Conn.wire N.site N.run_seed N.launcher most (record { steady = N.steady; keeper_faults = N.keeper_faults; sink_faults = N.sink_faults; children = N.children }) old.entrances w ran
         (record { entrances = map D.entrance result.doors.items; console = O.wire result.console; children = F.family result.children; keepers = map (keeper_of K.tables K.told K.faults K.steady) result.keepers.items; given = S.given log; faults = S.faults log }))) }
 {
@@ -258,7 +260,7 @@ pub(crate) fn end_run<
         chairs,
         places,
     };
-    let ended = run.end(&rt, alloc, room, served.connections);
+    let ended = run.end(&rt, alloc, room, served.connections, okd);
     left(ended, console, gate, served, overseen)
 }
 

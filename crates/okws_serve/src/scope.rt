@@ -24,6 +24,7 @@ use okws_outer::gate::Gate;
 use okws_outer::keeper::Keeper;
 use okws_outer::stream::{Link, Sink};
 use site_locks::named::Site;
+use site_locks::note::OkdNote;
 use site_run::launching::launch_all;
 use site_run::places::Doors;
 use site_run::row::{Chairs, Ground};
@@ -95,7 +96,7 @@ where
 }
 
 /// Launches all services, and then has a worker attend each door and one oversee the console, all at once.
-/// `posts` is room for them all.
+/// `posts` is room for them all. Tells what stood at okd before they began, where all that came up does.
 pub(crate) fn run<
     'a,
     R: Threads + Wait + Sync,
@@ -114,7 +115,7 @@ pub(crate) fn run<
     places: &mut Doors<D>,
     console: Console<O>,
     posts: Vec<PostOf<'a, R, G, N, J, C, K, S, F, D, O>>,
-) -> (O, Served, Overseen)
+) -> (O, Served, Overseen, OkdNote<N, J>)
 where
     D::Conn: Send,
     F::Child: Send,
@@ -140,10 +141,10 @@ where
     ensures room { SameRoom chairs.old chairs.new }
     ensures idle { AllIdle places.new.entrances }
     ensures places { (length places.new.entrances ≡ length places.old.entrances) × (length places.new.places ≡ length places.old.entrances) × AllAt ground.now.numbers.now.id places.new.places }
-    ensures done { WorkDone D.Conn.wire N.site N.launcher ground.now.numbers.now.id ground.now.most chairs.new places.old places.new (O.wire console.console) (O.wire result.0) result.1.connections result.1.starved (is_fault result.2) }
+    ensures done { WorkDone D.Conn.wire N.site N.launcher ground.now.numbers.now.id ground.now.most chairs.new result.3 places.old places.new (O.wire console.console) (O.wire result.0) result.1.connections result.1.starved (is_fault result.2) }
 {
     let mut posts = posts;
-    launch_all(ground, chairs);
+    let okd = launch_all(ground, chairs);
     man_all(ground, chairs, places, console, &mut posts);
     work_posts(ground.rt, &mut posts);
     let Some(last) = posts.pop() else {
@@ -154,5 +155,5 @@ where
     };
     let served = leave_doors(posts, chairs, places);
     let (console, overseen) = leave_console(overseer, chairs);
-    (console, served, overseen)
+    (console, served, overseen, okd)
 }

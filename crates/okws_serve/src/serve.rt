@@ -5,8 +5,8 @@ ghost use Rattle.std.specs.Arc.{arc_value};
 ghost use Rattle.okws_base.specs.declared.limit.TheConstants.{MOST_CONNECTIONS, MOST_DOORS};
 ghost use Rattle.turn_lock.specs.Rows.{AllCount};
 ghost use Rattle.site_locks.specs.Sat.{ids_of};
-ghost use Rattle.site_run.specs.Keepers.{keeper_of, AreKeepers, are_steady, faults_at, AreBacked};
-ghost use Rattle.site_run.specs.Making.{IsServable};
+ghost use Rattle.site_making.specs.Keepers.{keeper_of, AreKeepers, are_steady, faults_at, AreBacked};
+ghost use Rattle.site_making.specs.Making.{IsServable};
 ghost use Rattle.site_run.specs.Places.{AllIdle};
 ghost use Rattle.site_run.specs.Rooms.{IsStock};
 ghost use Rattle.okws_serve.specs.Runs.{Runs};
@@ -200,7 +200,7 @@ where
                 console,
                 room,
             } = staged;
-            let (console, served, overseen) = work_in(
+            let (console, served, overseen, okd) = work_in(
                 &scene,
                 alloc,
                 limits.connections,
@@ -210,7 +210,7 @@ where
                 posts,
             );
             end_run(
-                scene, alloc, chairs, places, room, console, served, overseen,
+                scene, alloc, chairs, places, room, console, served, overseen, okd,
             )
         }
     }

@@ -1,5 +1,5 @@
 -- What a request had of its worker is a visit, and the response that goes by what became of it is due to that.
-use Rattle.std.proofs.Common.{◌≡◌, inl, inr, ℕ, List, [], ◌∷◌, ◌++◌, refl, sym, ap, ◌∙◌, subst, Some, None}
+use Rattle.std.proofs.Common.{◌≡◌, inl, inr, ℕ, true, List, [], ◌∷◌, ◌++◌, refl, sym, ap, ◌∙◌, subst, Some, None}
 use Rattle.http_text.specs.Reading.{Asks, IsInterim, IsMethod, IsReading}
 use Rattle.okws_base.specs.declared.crash.Cause.{Cause}
 use Rattle.okws_base.specs.declared.crash.Cause.TheVariants as cause
@@ -14,6 +14,7 @@ use Rattle.monitor_model.specs.declared.record.Item.TheVariants.{Said}
 use Rattle.monitor_model.specs.declared.verdict.Way.{Way}
 use Rattle.monitor_model.specs.declared.verdict.Way.TheVariants as way
 use Rattle.monitor_model.specs.Answering.{end_response}
+use Rattle.monitor_model.specs.Causes.{is_crash}
 use Rattle.monitor_model.specs.Connections.{IsDue, OutcomeCarries, Visit, outcome_text}
 use Rattle.monitor_model.specs.Connections as visit
 use Rattle.monitor_model.specs.Seen.{noted}
@@ -51,6 +52,13 @@ crash_alike cause.Ended method items others = refl
 crash_alike cause.LinkFault method items others = refl
 crash_alike cause.FrameLimit method items others = refl
 crash_alike cause.Starved method items others = refl
+
+crash_crashes : (why : Cause) → is_crash (crash_end why) ≡ true
+crash_crashes cause.BadFrame = refl
+crash_crashes cause.Ended = refl
+crash_crashes cause.LinkFault = refl
+crash_crashes cause.FrameLimit = refl
+crash_crashes cause.Starved = refl
 
 spoke_text : (s k : ℕ) (how : End) (outcome : Outcome) (new : List CellEvent) (reply : Replied) (method : List ℕ) → EndsAlike how method → SpokeLast s k how outcome new
     → outcome_response (became.Ended how) reply method ≡ outcome_text outcome method
@@ -145,7 +153,7 @@ module _ (C : Config) (n w : ℕ) (asked : Asked) (told : Told) (reply : Replied
     follows_answers (spoken.Crashed why) J M N K of a t h then f =
         let last : SpokeLast s k (crash_end why) h.outcome (seen_at N.cells s) = h.had.tells in
         went (spoken.Crashed why) J M N K h
-        (crash_visits C w s k asked.path asked.head asked.content h.outcome last.0 J N K last.1 (visited C n w s k asked (spoken.Crashed why) J M N N of a t h refl refl refl) (t.launcher_is ∙ a.rest.launcher_is) then f.1)
+        (crash_visits C w s k asked.path asked.head asked.content h.outcome last.0 J N K last.1 (ap is_crash last.2 ∙ crash_crashes why) (visited C n w s k asked (spoken.Crashed why) J M N N of a t h refl refl refl) (t.launcher_is ∙ a.rest.launcher_is) then f.1)
         (λ method. ap (λ (x : Told). outcome_response x reply method) f.0 ∙ spoke_text s k (crash_end why) h.outcome (seen_at N.cells s) reply method (crash_alike why method) last)
     follows_answers (spoken.Missed wanted is) J M N K of a t h then f =
         let here : LivesFor C w (visit.Accepted asked.path h.outcome ∷ []) J N

@@ -1,6 +1,6 @@
 -- What a turn at the launcher enters leads on within the turn, or memory was refused in it, or the last incarnation was begun.
-use Rattle.std.proofs.Common.{◌≡◌, inl, inr, ⊎_elim, ℕ, zero, suc, ◌+◌, ◌<◌, ◌≤◌, ◌==◌, Bool, true, false, List, [], ◌∷◌, ◌++◌, Option, Some, None, not, refl, sym, ap, ◌∙◌, subst, eq-eqb, ne_eqb, le-leb, arith}
-use Rattle.std.specs.Prelude.{◌⊎◌, ◌||◌, ◌&&◌, is_some, nat_le, nat_lt}
+use Rattle.std.proofs.Common.{◌≡◌, inl, inr, ℕ, zero, suc, ◌+◌, ◌<◌, ◌≤◌, ◌==◌, Bool, true, false, List, [], ◌∷◌, ◌++◌, Option, Some, None, not, refl, sym, ap, ◌∙◌, subst, eq-eqb, ne_eqb, le-leb, arith}
+use Rattle.std.specs.Prelude.{◌⊎◌, ◌||◌, ◌&&◌, nat_le, nat_lt}
 use Rattle.std.proofs.lemmas.Bool.{and_from, and_parts}
 use Rattle.okws_base.specs.declared.journal.Entry.{Entry}
 use Rattle.okws_base.specs.declared.limit.TheConstants.{MOST_INCARNATIONS}
@@ -12,7 +12,7 @@ use Rattle.monitor_model.specs.Launcher.{begun, is_dead, tries}
 use Rattle.launch_journal.specs.Launches.{Allows, given_up}
 use Rattle.launch_journal.specs.declared.next.Next.TheVariants as next
 use Rattle.okld_launch.specs.Entering.{entries_of}
-use Rattle.okld_launch.specs.Going.{Ends, Fell, Goes, GoesAsked, GoesCrashed, GoesTended, Tends, with_begun, with_entry, with_failed}
+use Rattle.okld_launch.specs.Going.{Ends, Fell, Goes, GoesAsked, GoesCrashed, GoesTended, Tends, with_entry, with_failed}
 use Rattle.okld_launch.specs.Launchers.{LauncherIs, up_in}
 use Rattle.okld_launch.specs.Turns.{GoesIf}
 use Rattle.okld_launch.specs.declared.answer.Launched.{Launched}

@@ -2,6 +2,8 @@ pub mod Coming
 pub mod Entered
 pub mod Led
 pub mod Awaited
+pub mod Ended
+pub mod Closing
 pub mod Stepped
 pub mod Visiting
 pub mod Answered

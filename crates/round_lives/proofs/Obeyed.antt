@@ -34,12 +34,10 @@ use Rattle.site_worker.specs.declared.console.Overseen.TheVariants as overseen
 use Rattle.round_lives.specs.Laws.{is_accepted, is_order}
 use Rattle.round_lives.specs.Living.{IsOf, LivesOn}
 use Rattle.round_lives.specs.Orders.{AreAnswered, AreBehind, EndsBehind, Reads, Steers, Taken, Takes, became_of, carried_out, order_by, order_in, orders_in}
-use Rattle.worker_lives.specs.Waiting.{owes}
 use Rattle.round_lives.proofs.Awaited.{with_wants}
 use Rattle.round_lives.proofs.Coming.{come_then, comes_alone, filter_map-both, filter_map-reverse}
 use Rattle.round_lives.proofs.Entered.{BeginsWithAsked, Behind, asked_entered, is_asked}
-use Rattle.round_lives.proofs.Led.{asks_led}
-use Rattle.round_lives.proofs.Stepped.{lives_then, lives_then_by, publishes_lives, publishes_lives_by, same_lives, sees_lives, starves_lives, turn_led, turned_lives, turned_lives_by, unaccepted_pieces, unasked_pieces}
+use Rattle.round_lives.proofs.Stepped.{asks_lives, asks_lives_by, lives_then, lives_then_by, publishes_lives, publishes_lives_by, same_lives, sees_lives, starves_lives, unasked_pieces}
 
 -- ---- pieces that carry nothing out
 
@@ -85,7 +83,7 @@ unordered (piece ∷ pieces) h =
 module _ (C : Config) (w : ℕ) where
   idles : (orders : List Ordered) (J K : Life) → come_of false orders [] ≡ true → LivesOn C w is_busy J K → Steers C w orders J K
   idles orders J K none lives = record {
-    lives = record { pieces = lives.pieces; goes = lives.goes; same = lives.same; told = lives.told; allowed = unaccepted lives.pieces lives.allowed; leads = lives.leads };
+    lives = record { pieces = lives.pieces; goes = lives.goes; same = lives.same; told = lives.told; allowed = unaccepted lives.pieces lives.allowed; ends = lives.ends; leads = lives.leads };
     comes = subst (λ (done : List Order). come_of false orders done ≡ true) (sym (nothing_carried lives.pieces (unordered lives.pieces lives.allowed))) none;
   }
 
@@ -147,17 +145,12 @@ module _ (C : Config) (w : ℕ) where
   asks_steers : (s line : ℕ) (answer : Launch) (J K : Life) → IsOf w J → Asks C s answer J K → Steers C w (record { order = Relaunch s; became = became_of (relaunching_answer line (told_of answer)) } ∷ []) J K
   asks_steers s line answer J K of h =
       let t = h.relaunches in
-      let starved = launch_starved answer in
       let orders : List Ordered = record { order = Relaunch s; became = became_of (relaunching_answer line (told_of answer)) } ∷ [] in
-      let enters = t.turn.seen_is ∙ t.turn.enters in
       let entered : BeginsWithAsked s h.events answer = asked_entered C J.launcher.number s t.before.journal.past t.before.crew.family h.events answer t.after t.turn.enters t.goes in
-      let led = turn_led J.launcher.number (owes starved h.events) h.events t.before.journal.past t.after.journal.past h.mid.launcher.seen t.turn.seen_is
-      (asks_led C J.launcher.number s h.events t.before.journal.past t.before.crew.family answer t.after t.turn.enters t.goes) in
       record {
-        lives = turned_lives C w is_accepted starved h.events J h.mid K t.before.journal.past refl (unaccepted_pieces h.events) of h.only t.turn.grows enters led h.notes;
+        lives = asks_lives C w s answer J K of h;
         comes = subst (λ (done : List Order). come_of false orders done ≡ true)
-            (sym (ap carried_out (turned_lives_by C w is_accepted starved h.events J h.mid K t.before.journal.past refl (unaccepted_pieces h.events) of h.only t.turn.grows enters led h.notes) ∙ carried_where starved (map Launched h.events)))
-            (launch_comes s line answer h.events entered);
+            (sym (ap carried_out (asks_lives_by C w s answer J K of h) ∙ carried_where (launch_starved answer) (map Launched h.events))) (launch_comes s line answer h.events entered);
       }
 
   relaunches_steers : (s line : ℕ) (r : Relaunching) (J K : Life) → IsOf w J → Relaunches C J s r K → Steers C w (record { order = Relaunch s; became = became_of (relaunching_answer line r) } ∷ []) J K

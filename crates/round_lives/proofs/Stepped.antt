@@ -25,6 +25,7 @@ use Rattle.service_cell.specs.declared.answer.Spoken.{Spoken}
 use Rattle.site_cell.specs.Held.{by_event}
 use Rattle.cell_locks.specs.Row.{CellsSeen, seen_at}
 use Rattle.door_worker.specs.Asking.{Asked}
+use Rattle.okld_launch.specs.Deeds.{entries}
 use Rattle.okld_launch.specs.declared.answer.Launched.{Launched as Launch}
 use Rattle.site_worker.specs.Handling.{Accepts, Talks, asker_of}
 use Rattle.site_worker.specs.Launching.{Asks, OnlyLauncher, launch_starved, with_launches}
@@ -37,10 +38,12 @@ use Rattle.worker_lives.proofs.Others.{others_leave_dialogs}
 use Rattle.worker_lives.proofs.Steps.{goings_join, publications_are_pieces, rests_are_no_pieces, turns_are_pieces, wants_are_pieces}
 use Rattle.worker_lives.proofs.Talked.{dialogs_are_outcomes, visits_are_pieces}
 use Rattle.worker_lives.proofs.Told.{told_both}
-use Rattle.round_lives.specs.Living.{IsOf, LivesOn, sights_of}
+use Rattle.round_lives.specs.Living.{EndsWell, IsOf, LivesOn, sights_of}
 use Rattle.round_lives.specs.Laws.{is_accepted, is_order}
 use Rattle.round_lives.proofs.Awaited.{firsts_both, item_leads, same_leads, turn_leads_on, want_leads, with_wants}
-use Rattle.round_lives.proofs.Entered.{is_asked}
+use Rattle.round_lives.proofs.Closing.{asks_ends}
+use Rattle.round_lives.proofs.Ended.{calm_came, ends_none, ends_one, ends_seen, ends_then, turn_ends, turn_enters, turn_grows, turn_past}
+use Rattle.round_lives.proofs.Entered.{BeginsWithAsked, asked_calm, asked_entered, is_asked}
 use Rattle.round_lives.proofs.Led.{asks_led}
 
 -- ---- what lives on
@@ -52,7 +55,8 @@ lives_then C w forbidden I J K i j = record {
   same = j.same;
   told = told_both None i.pieces j.pieces i.told j.told;
   allowed = list_any-append forbidden j.pieces i.pieces ∙ ap (λ (b : Bool). b || list_any forbidden i.pieces) j.allowed ∙ i.allowed;
-  leads = λ items h. subst (λ (xs : List Own). LeadsSo w false xs K.launcher.seen) (sym (firsts_both j.pieces i.pieces items)) (j.leads (map first_item i.pieces ++ items) (i.leads items h));
+  ends = ends_then I.launcher.seen J.launcher.seen K.launcher.seen i.pieces j.pieces i.ends j.ends;
+  leads = λ items h. subst (λ (xs : List Own). LeadsSo w false xs (entries K.launcher.seen)) (sym (firsts_both j.pieces i.pieces items)) (j.leads (map first_item i.pieces ++ items) (i.leads items h));
 }
 
 pub lives_then_by : (C : Config) (w : ℕ) (forbidden : Piece → Bool) (I J K : Life) (i : LivesOn C w forbidden I J) (j : LivesOn C w forbidden J K) → (lives_then C w forbidden I J K i j).pieces ≡ j.pieces ++ i.pieces
@@ -66,6 +70,7 @@ same_lives C w forbidden J K of is = subst (LivesOn C w forbidden J) (sym is) (r
   same = of;
   told = refl;
   allowed = refl;
+  ends = ends_none J.launcher.seen;
   leads = λ items h. h;
 })
 
@@ -74,8 +79,8 @@ same_lives C w forbidden J K of is = subst (LivesOn C w forbidden J) (sym is) (r
 pub sees_sights : (J K : Life) (now : Seen) → Sees now J K → sights_of K ≡ record (sights_of J) { columns = now }
 sees_sights J K now h =
     ap (λ (S : Seen). record (sights_of K) { columns = S }) h.seen_is
-    ∙ ap (λ (a : _). record { columns = now; launcher = a.seen; cells = K.cells.cells }) h.launcher_is
-    ∙ ap (λ (c : CellsSeen). record { columns = now; launcher = J.launcher.seen; cells = c.cells }) h.cells_is
+    ∙ ap (λ (a : _). record { columns = now; launcher = entries a.seen; cells = K.cells.cells }) h.launcher_is
+    ∙ ap (λ (c : CellsSeen). record { columns = now; launcher = entries J.launcher.seen; cells = c.cells }) h.cells_is
 
 pub sees_of : (w : ℕ) (J K : Life) (now : Seen) → Sees now J K → IsOf w J → IsOf w K
 sees_of w J K now h of = record {
@@ -90,6 +95,7 @@ starves_lives C w forbidden J K wants of h = record {
   same = sees_of w J K (noted J.seen own.NoMemory) h of;
   told = refl;
   allowed = rw (wants) refl;
+  ends = ends_seen J.launcher.seen J.launcher K.launcher (Wants ∷ []) h.launcher_is (ends_one J.launcher.seen Wants refl);
   leads = want_leads w false J K h.launcher_is;
 }
 
@@ -100,6 +106,7 @@ sees_lives C w forbidden J K of h = record {
   same = sees_of w J K J.seen h of;
   told = refl;
   allowed = refl;
+  ends = ends_seen J.launcher.seen J.launcher K.launcher [] h.launcher_is (ends_none J.launcher.seen);
   leads = same_leads w J K h.launcher_is;
 }
 
@@ -112,6 +119,7 @@ publishes_lives C w forbidden J K t content before allowed of at h = record {
   same = sees_of w J K K.seen h of;
   told = refl;
   allowed = rw (allowed) refl;
+  ends = ends_seen J.launcher.seen J.launcher K.launcher (Published t content ∷ []) h.launcher_is (ends_one J.launcher.seen (Published t content) refl);
   leads = item_leads w (own.Pubd (pubd.Publish t content)) J K refl h.launcher_is;
 }
 
@@ -134,15 +142,15 @@ turned_of w events J K of only = record {
 }
 
 pub turned_goes : (C : Config) (w : ℕ) (events : List LauncherEvent) (J K : Life) (before : List (Entry LauncherEvent)) → IsOf w J → OnlyLauncher events J K
-    → GrowsBy (λ (e : Entry LauncherEvent). e.worker) J.launcher.number J.launcher.seen before → K.launcher.seen ≡ entries_by J.launcher.number events ++ before
+    → GrowsBy (λ (e : Entry LauncherEvent). e.worker) J.launcher.number (entries J.launcher.seen) before → entries K.launcher.seen ≡ entries_by J.launcher.number events ++ before
     → GoesOn C w (map Launched events) (sights_of J) (sights_of K)
 turned_goes C w events J K before of only grows enters =
-    let mine : K.launcher.seen ≡ entries_by w events ++ before = enters ∙ ap (λ (v : ℕ). entries_by v events ++ before) of.seat_is in
-    let seen : sights_of K ≡ record { columns = with_launches events J.seen; launcher = K.launcher.seen; cells = J.cells.cells } = ap sights_of only in
+    let mine : entries K.launcher.seen ≡ entries_by w events ++ before = enters ∙ ap (λ (v : ℕ). entries_by v events ++ before) of.seat_is in
+    let seen : sights_of K ≡ record { columns = with_launches events J.seen; launcher = entries K.launcher.seen; cells = J.cells.cells } = ap sights_of only in
     let then : sights_of K ≡ record { columns = with_launches events J.seen; launcher = entries_by w events ++ before; cells = J.cells.cells }
     = seen ∙ ap (λ (L : List (Entry LauncherEvent)). record { columns = with_launches events J.seen; launcher = L; cells = J.cells.cells }) mine in
     subst (GoesOn C w (map Launched events) (sights_of J)) (sym then)
-    (turns_are_pieces C w events (sights_of J) before (subst (λ (v : ℕ). GrowsBy (λ (e : Entry LauncherEvent). e.worker) v J.launcher.seen before) of.seat_is grows))
+    (turns_are_pieces C w events (sights_of J) before (subst (λ (v : ℕ). GrowsBy (λ (e : Entry LauncherEvent). e.worker) v (entries J.launcher.seen) before) of.seat_is grows))
 
 -- want of memory was noted behind these pieces, where there was any
 pub noted_goes : (C : Config) (w : ℕ) (starved : Bool) (pieces : List Piece) (J M K : Life) → StarvesWhere starved M K → GoesOn C w pieces (sights_of J) (sights_of M) → GoesOn C w (with_wants starved pieces) (sights_of J) (sights_of K)
@@ -154,6 +162,11 @@ pub noted_of : (w : ℕ) (starved : Bool) (M K : Life) → StarvesWhere starved 
 noted_of w true M K h of = sees_of w M K (noted M.seen own.NoMemory) h of
 noted_of w false M K h of = subst (IsOf w) (sym h) of
 
+-- no more was seen at the launcher
+pub noted_seat : (starved : Bool) (M K : Life) → StarvesWhere starved M K → K.launcher ≡ M.launcher
+noted_seat true M K h = h.launcher_is
+noted_seat false M K h = ap (λ (x : Life). x.launcher) h
+
 noted_told : (starved : Bool) (events : List LauncherEvent) → are_told None (with_wants starved (map Launched events)) ≡ true
 noted_told true events = turns_told (Some Wants) events
 noted_told false events = turns_told None events
@@ -163,23 +176,26 @@ noted_allowed forbidden true pieces wants allowed = rw (wants) allowed
 noted_allowed forbidden false pieces wants allowed = allowed
 
 pub turned_lives : (C : Config) (w : ℕ) (forbidden : Piece → Bool) (starved : Bool) (events : List LauncherEvent) (J M K : Life) (before : List (Entry LauncherEvent)) → forbidden Wants ≡ false → list_any forbidden (map Launched events) ≡ false → IsOf w J
-    → OnlyLauncher events J M → GrowsBy (λ (e : Entry LauncherEvent). e.worker) J.launcher.number J.launcher.seen before → M.launcher.seen ≡ entries_by J.launcher.number events ++ before
-    → turn_leads J.launcher.number (begun M.launcher.seen) (owes starved events) None events before ≡ true → StarvesWhere starved M K → LivesOn C w forbidden J K
-turned_lives C w forbidden starved events J M K before wants allowed of only grows enters led notes = record {
+    → OnlyLauncher events J M → GrowsBy (λ (e : Entry LauncherEvent). e.worker) J.launcher.number (entries J.launcher.seen) before → entries M.launcher.seen ≡ entries_by J.launcher.number events ++ before
+    → turn_leads J.launcher.number (begun (entries M.launcher.seen)) (owes starved events) None events before ≡ true → EndsWell J.launcher.seen M.launcher.seen (with_wants starved (map Launched events ++ [])) → StarvesWhere starved M K
+    → LivesOn C w forbidden J K
+turned_lives C w forbidden starved events J M K before wants allowed of only grows enters led ends notes = record {
   pieces = with_wants starved (map Launched events);
   goes = noted_goes C w starved (map Launched events) J M K notes (turned_goes C w events J M before of only grows enters);
   same = noted_of w starved M K notes (turned_of w events J M of only);
   told = noted_told starved events;
   allowed = noted_allowed forbidden starved (map Launched events) wants allowed;
-  leads = λ items h. subst (λ (ps : List Piece). LeadsSo w false (map first_item (with_wants starved ps) ++ items) K.launcher.seen) (append-nil (map Launched events)) (turn_leads_on w starved events [] J M K before of grows enters led notes items h);
+  ends = subst (λ (ps : List Piece). EndsWell J.launcher.seen K.launcher.seen (with_wants starved ps)) (append-nil (map Launched events))
+      (ends_seen J.launcher.seen M.launcher K.launcher (with_wants starved (map Launched events ++ [])) (noted_seat starved M K notes) ends);
+  leads = λ items h. subst (λ (ps : List Piece). LeadsSo w false (map first_item (with_wants starved ps) ++ items) (entries K.launcher.seen)) (append-nil (map Launched events)) (turn_leads_on w starved events [] J M K before of grows enters led notes items h);
 }
 
 pub turned_lives_by : (C : Config) (w : ℕ) (forbidden : Piece → Bool) (starved : Bool) (events : List LauncherEvent) (J M K : Life) (before : List (Entry LauncherEvent)) (wants : forbidden Wants ≡ false) (allowed : list_any forbidden (map Launched events) ≡ false) (of : IsOf w J)
-    (only : OnlyLauncher events J M) (grows : GrowsBy (λ (e : Entry LauncherEvent). e.worker) J.launcher.number J.launcher.seen before) (enters : M.launcher.seen ≡ entries_by J.launcher.number events ++ before)
-    (led : turn_leads J.launcher.number (begun M.launcher.seen) (owes starved events) None events before ≡ true) (notes : StarvesWhere starved M K)
-    → (turned_lives C w forbidden starved events J M K before wants allowed of only grows enters led notes).pieces ≡ with_wants starved (map Launched events)
+    (only : OnlyLauncher events J M) (grows : GrowsBy (λ (e : Entry LauncherEvent). e.worker) J.launcher.number (entries J.launcher.seen) before) (enters : entries M.launcher.seen ≡ entries_by J.launcher.number events ++ before)
+    (led : turn_leads J.launcher.number (begun (entries M.launcher.seen)) (owes starved events) None events before ≡ true) (ends : EndsWell J.launcher.seen M.launcher.seen (with_wants starved (map Launched events ++ []))) (notes : StarvesWhere starved M K)
+    → (turned_lives C w forbidden starved events J M K before wants allowed of only grows enters led ends notes).pieces ≡ with_wants starved (map Launched events)
 unfolding turned_lives
-turned_lives_by C w forbidden starved events J M K before wants allowed of only grows enters led notes = refl
+turned_lives_by C w forbidden starved events J M K before wants allowed of only grows enters led ends notes = refl
 
 -- none that was asked for is an order
 pub unasked_pieces : (events : List LauncherEvent) → list_any is_asked events ≡ false → list_any is_order (map Launched events) ≡ false
@@ -202,9 +218,18 @@ turn_led n owed events before past seen is led = subst (λ (K : List (Entry Laun
 pub asks_lives : (C : Config) (w s : ℕ) (answer : Launch) (J K : Life) → IsOf w J → Asks C s answer J K → LivesOn C w is_accepted J K
 asks_lives C w s answer J K of h =
     let t = h.relaunches in
-    let led = asks_led C J.launcher.number s h.events t.before.journal.past t.before.crew.family answer t.after t.turn.enters t.goes in
-    turned_lives C w is_accepted (launch_starved answer) h.events J h.mid K t.before.journal.past refl (unaccepted_pieces h.events) of h.only t.turn.grows (t.turn.seen_is ∙ t.turn.enters)
-    (turn_led J.launcher.number (owes (launch_starved answer) h.events) h.events t.before.journal.past t.after.journal.past h.mid.launcher.seen t.turn.seen_is led) h.notes
+    let n = J.launcher.number in
+    let starved = launch_starved answer in
+    let entered : BeginsWithAsked s h.events answer = asked_entered C n s t.before.journal.past t.before.crew.family h.events answer t.after t.turn.enters t.goes in
+    let led = turn_led n (owes starved h.events) h.events t.before.journal.past t.after.journal.past (entries h.mid.launcher.seen) (turn_past t.turn)
+    (asks_led C n s h.events t.before.journal.past t.before.crew.family answer t.after t.turn.enters t.goes) in
+    let ends = turn_ends t.turn starved [] J.launcher.seen (ends_none J.launcher.seen) (asks_ends C n s h.events t.before.journal.past t.before.crew.family answer t.after t.turn.enters t.goes)
+    (calm_came false [] h.events (asked_calm s h.events answer entered)) in
+    turned_lives C w is_accepted starved h.events J h.mid K t.before.journal.past refl (unaccepted_pieces h.events) of h.only (turn_grows t.turn) (turn_enters t.turn) led ends h.notes
+
+pub asks_lives_by : (C : Config) (w s : ℕ) (answer : Launch) (J K : Life) (of : IsOf w J) (h : Asks C s answer J K) → (asks_lives C w s answer J K of h).pieces ≡ with_wants (launch_starved answer) (map Launched h.events)
+unfolding asks_lives turned_lives
+asks_lives_by C w s answer J K of h = refl
 
 -- ---- a request
 
@@ -235,7 +260,7 @@ visited C n w s k asked answer J M N K of a t h seen launcher cells =
     (subst (λ (new : List CellEvent). Had C w s k asked.head asked.content M.seen (seen_at J.cells s) answer N.seen new h.outcome) (sym there)
     (subst (λ (c : CellsSeen). Had C w s k asked.head asked.content M.seen (seen_at c s) answer N.seen (seen_at N.cells s) h.outcome) a.rest.cells_is h.had))
     seen
-    (ap (λ (x : _). x.seen) launcher ∙ ap (λ (x : _). x.seen) t.launcher_is ∙ ap (λ (x : _). x.seen) a.rest.launcher_is)
+    (ap (λ (x : _). entries x.seen) launcher ∙ ap (λ (x : _). entries x.seen) t.launcher_is ∙ ap (λ (x : _). entries x.seen) a.rest.launcher_is)
     rows
   where
     there : seen_at K.cells s ≡ seen_at N.cells s

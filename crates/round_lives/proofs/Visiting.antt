@@ -1,10 +1,8 @@
 -- What a door's worker does is pieces of its list, which are the visits of the connections that had them.
-use Rattle.std.proofs.Common.{◌≡◌, inl, inr, ℕ, Bool, true, false, List, [], ◌∷◌, ◌++◌, map, refl, sym, ap, ◌∙◌, subst, Option, Some, None}
+use Rattle.std.proofs.Common.{◌≡◌, inl, inr, ℕ, Bool, true, false, List, [], ◌∷◌, ◌++◌, map, refl, sym, ap, ◌∙◌, subst, Option, Some, None, eq-eqb}
 use Rattle.std.proofs.lemmas.List.Folds.{list_any-append}
 use Rattle.std.specs.List.{list_any}
-use Rattle.std.specs.Prelude.{◌||◌}
-use Rattle.okws_base.specs.Turns.{GrowsBy}
-use Rattle.okws_base.specs.declared.journal.Entry.{Entry}
+use Rattle.std.specs.Prelude.{◌⊎◌, ◌||◌}
 use Rattle.okws_plan.specs.declared.configuration.Config.{Config}
 use Rattle.okws_plan.specs.declared.event.LauncherEvent.{LauncherEvent}
 use Rattle.okws_plan.specs.declared.event.LauncherEvent.TheVariants as event
@@ -12,6 +10,7 @@ use Rattle.okws_plan.specs.declared.event.OkdEvent.TheVariants as okd
 use Rattle.monitor_model.specs.declared.record.Dialog.{Dialog}
 use Rattle.monitor_model.specs.declared.record.Own.TheVariants as own
 use Rattle.monitor_model.specs.declared.verdict.Way.{Way}
+use Rattle.monitor_model.specs.Causes.{is_crash}
 use Rattle.monitor_model.specs.Cell.{dialogs_of}
 use Rattle.monitor_model.specs.Connections.{AreVisits, Visit}
 use Rattle.monitor_model.specs.Connections as visit
@@ -21,24 +20,28 @@ use Rattle.monitor_model.specs.Tied.{piece_visits}
 use Rattle.monitor_model.specs.Worker.{Outcome, Spoke, Piece, Accepted, Launched, Wants}
 use Rattle.cell_locks.specs.Row.{CellsSeen, seen_at}
 use Rattle.door_worker.specs.Asking.{Asked}
+use Rattle.okld_launch.specs.Deeds.{entries}
 use Rattle.okld_launch.specs.Turns.{TendsBy}
 use Rattle.okld_launch.specs.declared.answer.Crashed.{Crashed}
 use Rattle.site_worker.specs.Handling.{Accepts}
-use Rattle.site_worker.specs.Launching.{OnlyLauncher, Reports, Tends, crash_starved, tend_starved}
-use Rattle.site_worker.specs.Lives.{Life, Starves, StarvesWhere}
-use Rattle.worker_lives.specs.Going.{GoesOn, entries_by}
+use Rattle.site_worker.specs.Launching.{Reports, Tends, crash_starved, tend_starved}
+use Rattle.site_worker.specs.Lives.{Life, Starves}
+use Rattle.worker_lives.specs.Ending.{is_crash_there}
+use Rattle.worker_lives.specs.Going.{GoesOn}
 use Rattle.worker_lives.specs.Leading.{GoesBy, spoken as spoken_in}
 use Rattle.worker_lives.specs.Listing.{are_told, outcome_is_told}
 use Rattle.worker_lives.specs.Waiting.{owes, turn_leads}
 use Rattle.worker_lives.proofs.Listed.{turns_are_no_visits, visits_join}
 use Rattle.worker_lives.proofs.Steps.{accepts_are_pieces, goings_join, rests_are_no_pieces, wants_are_pieces}
-use Rattle.round_lives.specs.Living.{IsOf, LivesOn, sights_of}
+use Rattle.round_lives.specs.Living.{EndsWell, IsOf, LivesOn, sights_of}
 use Rattle.round_lives.specs.Laws.{is_order}
 use Rattle.round_lives.specs.Serving.{LivesFor}
 use Rattle.round_lives.proofs.Awaited.{item_leads, turn_leads_on, want_leads, with_wants}
-use Rattle.round_lives.proofs.Entered.{BeginsWithCrash, Entered, crash_entered, tended_unasked}
+use Rattle.round_lives.proofs.Closing.{crash_ends, tend_ends}
+use Rattle.round_lives.proofs.Ended.{Came, calm_came, ends_none, ends_one, ends_seen, spoken_came, told_came, turn_ends, turn_enters, turn_grows, turn_past}
+use Rattle.round_lives.proofs.Entered.{BeginsWithCrash, Entered, Looks, crash_entered, is_crashed, tended_looks}
 use Rattle.round_lives.proofs.Led.{crash_led, tend_led}
-use Rattle.round_lives.proofs.Stepped.{crash_tells, lives_then, lives_then_by, noted_allowed, noted_goes, noted_of, sees_of, sees_sights, told_crash, turn_behind, turn_led, turned_goes, turned_lives, turned_lives_by, turned_of, unasked_pieces, want_tells}
+use Rattle.round_lives.proofs.Stepped.{crash_tells, lives_then, lives_then_by, noted_allowed, noted_goes, noted_of, noted_seat, sees_of, sees_sights, told_crash, turn_behind, turn_led, turned_goes, turned_lives, turned_lives_by, turned_of, unasked_pieces, want_tells}
 
 -- ---- what lives on
 
@@ -51,7 +54,7 @@ visits_then C w before behind I J K i j = record {
 
 pub same_visits : (C : Config) (w : ℕ) (J K : Life) → IsOf w J → K ≡ J → LivesFor C w [] J K
 same_visits C w J K of is = subst (LivesFor C w [] J) (sym is) (record {
-  lives = record { pieces = []; goes = rests_are_no_pieces C w (sights_of J) (sights_of J) refl ([], refl, refl) (λ s. refl); same = of; told = refl; allowed = refl; leads = λ items h. h };
+  lives = record { pieces = []; goes = rests_are_no_pieces C w (sights_of J) (sights_of J) refl ([], refl, refl) (λ s. refl); same = of; told = refl; allowed = refl; ends = ends_none J.launcher.seen; leads = λ items h. h };
   had = refl;
 })
 
@@ -63,6 +66,7 @@ starves_visits C w visits J K had of h = record {
     same = sees_of w J K (noted J.seen own.NoMemory) h of;
     told = refl;
     allowed = refl;
+    ends = ends_seen J.launcher.seen J.launcher K.launcher (Wants ∷ []) h.launcher_is (ends_one J.launcher.seen Wants refl);
     leads = want_leads w false J K h.launcher_is;
   };
   had = had;
@@ -78,24 +82,37 @@ where_had : (starved : Bool) (visits : List Visit) (pieces : List Piece) → Are
 where_had true visits pieces had = inl had
 where_had false visits pieces had = had
 
+-- the crashes of a turn that looked after a service
+looked_came : (s : ℕ) (first : List Piece) (events : List LauncherEvent) → (list_any is_crashed events ≡ false) ⊎ ((k : ℕ) × Entered (event.Crashed s k) events) → Came true first events
+looked_came s first events (inl calm) = calm_came true first events calm
+looked_came s first events (inr crash) = told_came first s crash.0 events crash.1
+
 pub tends_visits : (C : Config) (w s : ℕ) (J K : Life) → IsOf w J → Tends C s J K → LivesFor C w [] J K
-tends_visits C w s J K of h = record { lives = lives; had = subst (λ (pieces : List Piece). AreVisits [] (piece_visits pieces)) (sym lives_by) (where_had (tend_starved h.answer) [] (map Launched h.events) (turned_had h.events)) }
+tends_visits C w s J K of h = record { lives = lives; had = subst (λ (pieces : List Piece). AreVisits [] (piece_visits pieces)) (sym lives_by) (where_had starved [] (map Launched h.events) (turned_had h.events)) }
   where
     t : TendsBy C s J.launcher h.answer h.events h.mid.launcher
     t = h.tends
 
-    led : turn_leads J.launcher.number (begun h.mid.launcher.seen) (owes (tend_starved h.answer) h.events) None h.events h.tends.before.journal.past ≡ true
-    led = turn_led J.launcher.number (owes (tend_starved h.answer) h.events) h.events h.tends.before.journal.past h.tends.after.journal.past h.mid.launcher.seen h.tends.turn.seen_is
-        (tend_led C J.launcher.number s h.events h.tends.before h.answer h.tends.after h.tends.turn.enters h.tends.goes)
+    n : ℕ
+    n = J.launcher.number
 
-    fine : list_any is_order (map Launched h.events) ≡ false
-    fine = unasked_pieces h.events (tended_unasked C J.launcher.number s h.tends.before h.answer h.tends.after h.events h.tends.turn.enters h.tends.goes)
+    starved : Bool
+    starved = tend_starved h.answer
+
+    looks : Looks s h.events
+    looks = tended_looks C n s t.before h.answer t.after h.events t.turn.enters t.goes
+
+    led : turn_leads n (begun (entries h.mid.launcher.seen)) (owes starved h.events) None h.events t.before.journal.past ≡ true
+    led = turn_led n (owes starved h.events) h.events t.before.journal.past t.after.journal.past (entries h.mid.launcher.seen) (turn_past t.turn) (tend_led C n s h.events t.before h.answer t.after t.turn.enters t.goes)
+
+    ends : EndsWell J.launcher.seen h.mid.launcher.seen (with_wants starved (map Launched h.events ++ []))
+    ends = turn_ends t.turn starved [] J.launcher.seen (ends_none J.launcher.seen) (tend_ends C n s h.events t.before h.answer t.after t.turn.enters t.goes) (looked_came s [] h.events looks.crashes)
 
     lives : LivesOn C w is_order J K
-    lives = turned_lives C w is_order (tend_starved h.answer) h.events J h.mid K h.tends.before.journal.past refl fine of h.only h.tends.turn.grows (h.tends.turn.seen_is ∙ h.tends.turn.enters) led h.notes
+    lives = turned_lives C w is_order starved h.events J h.mid K t.before.journal.past refl (unasked_pieces h.events looks.unasked) of h.only (turn_grows t.turn) (turn_enters t.turn) led ends h.notes
 
-    lives_by : lives.pieces ≡ with_wants (tend_starved h.answer) (map Launched h.events)
-    lives_by = turned_lives_by C w is_order (tend_starved h.answer) h.events J h.mid K h.tends.before.journal.past refl fine of h.only h.tends.turn.grows (h.tends.turn.seen_is ∙ h.tends.turn.enters) led h.notes
+    lives_by : lives.pieces ≡ with_wants starved (map Launched h.events)
+    lives_by = turned_lives_by C w is_order starved h.events J h.mid K t.before.journal.past refl (unasked_pieces h.events looks.unasked) of h.only (turn_grows t.turn) (turn_enters t.turn) led ends h.notes
 
 -- ---- a request
 
@@ -103,7 +120,15 @@ tends_visits C w s J K of h = record { lives = lives; had = subst (λ (pieces : 
 pub visits_by : (C : Config) (w : ℕ) (path head content : List ℕ) (outcome : Outcome) (J K : Life) → GoesOn C w (Accepted path head content outcome ∷ []) (sights_of J) (sights_of K) → K.launcher ≡ J.launcher → IsOf w K
     → outcome_is_told outcome None ≡ true → LivesFor C w (visit.Accepted path outcome ∷ []) J K
 visits_by C w path head content outcome J K goes is of told = record {
-  lives = record { pieces = Accepted path head content outcome ∷ []; goes = goes; same = of; told = rw (told) refl; allowed = refl; leads = item_leads w (own.Okd (okd.Accept path)) J K refl is };
+  lives = record {
+    pieces = Accepted path head content outcome ∷ [];
+    goes = goes;
+    same = of;
+    told = rw (told) refl;
+    allowed = refl;
+    ends = ends_seen J.launcher.seen J.launcher K.launcher (Accepted path head content outcome ∷ []) is (ends_one J.launcher.seen (Accepted path head content outcome) refl);
+    leads = item_leads w (own.Okd (okd.Accept path)) J K refl is;
+  };
   had = ([], refl, refl);
 }
 
@@ -116,24 +141,25 @@ passes_visits C w asked goes outcome J M K of a follows silent told is = subst (
     (accepts_are_pieces C w asked.path asked.head asked.content outcome (sights_of J) (sights_of M) a.before M.seen
     (subst (λ (v : ℕ). AtOkd v (okd.Accept asked.path) J.seen a.before M.seen) of.number_is a.enters)
     (subst (λ (v : Way). GoesBy C w v asked.head asked.content M.seen outcome M.seen) a.goes_is (follows M.seen))
-    (ap (λ (x : _). x.seen) a.rest.launcher_is)
+    (ap (λ (x : _). entries x.seen) a.rest.launcher_is)
     (λ s. ap (λ (c : CellsSeen). dialogs_of w (seen_at c s)) a.rest.cells_is ∙ ap (λ (first : List (ℕ × Dialog)). first ++ dialogs_of w (seen_at J.cells s)) (sym (silent s))))
     a.rest.launcher_is (sees_of w J M M.seen a.rest of) told
     )
 
 -- a crash, and the launcher's turn that was told of it
-pub crash_visits : (C : Config) (w s k : ℕ) (path head content : List ℕ) (outcome : Outcome) (d : Dialog) (J N K : Life) → outcome ≡ Spoke s k d → GoesOn C w (Accepted path head content outcome ∷ []) (sights_of J) (sights_of N) → N.launcher ≡ J.launcher
+pub crash_visits : (C : Config) (w s k : ℕ) (path head content : List ℕ) (outcome : Outcome) (d : Dialog) (J N K : Life) → outcome ≡ Spoke s k d → is_crash d.end ≡ true → GoesOn C w (Accepted path head content outcome ∷ []) (sights_of J) (sights_of N) → N.launcher ≡ J.launcher
     → IsOf w N → Reports C s k N K → LivesFor C w (visit.Accepted path outcome ∷ []) J K
-crash_visits C w s k path head content outcome d J N K is goes seat of h =
+crash_visits C w s k path head content outcome d J N K is crash goes seat of h =
     let t = h.reports in
     let starved = crash_starved h.answer in
     let first : List Piece = Accepted path head content outcome ∷ [] in
     let entered = crash_entered C N.launcher.number s k t.before.journal.past t.before.crew.family h.events h.answer t.after t.turn.enters t.goes in
-    let enters = t.turn.seen_is ∙ t.turn.enters in
-    let turn : GoesOn C w (map Launched h.events) (sights_of N) (sights_of h.mid) = turned_goes C w h.events N h.mid t.before.journal.past of h.only t.turn.grows enters in
+    let turn : GoesOn C w (map Launched h.events) (sights_of N) (sights_of h.mid) = turned_goes C w h.events N h.mid t.before.journal.past of h.only (turn_grows t.turn) (turn_enters t.turn) in
     let both : GoesOn C w (map Launched h.events ++ first) (sights_of J) (sights_of h.mid) = goings_join C w first (map Launched h.events) (sights_of J) (sights_of N) (sights_of h.mid) goes turn in
-    let led = turn_led N.launcher.number (owes starved h.events) h.events t.before.journal.past t.after.journal.past h.mid.launcher.seen t.turn.seen_is
+    let led = turn_led N.launcher.number (owes starved h.events) h.events t.before.journal.past t.after.journal.past (entries h.mid.launcher.seen) (turn_past t.turn)
     (crash_led C N.launcher.number s h.events k t.before.journal.past t.before.crew.family t.after t.turn.enters h.answer t.goes) in
+    let before : EndsWell J.launcher.seen N.launcher.seen first = ends_seen J.launcher.seen J.launcher N.launcher first seat (ends_one J.launcher.seen (Accepted path head content outcome) refl) in
+    let ends = turn_ends t.turn starved first J.launcher.seen before (crash_ends C N.launcher.number s h.events k t.before.journal.past t.before.crew.family h.answer t.after t.turn.enters t.goes) (came h.answer h.events entered.0) in
     record {
       lives = record {
         pieces = with_wants starved (map Launched h.events ++ first);
@@ -141,11 +167,18 @@ crash_visits C w s k path head content outcome d J N K is goes seat of h =
         same = noted_of w starved h.mid K h.notes (turned_of w h.events N h.mid of h.only);
         told = told_by h.answer h.events entered.0;
         allowed = noted_allowed is_order starved (map Launched h.events ++ first) refl (allowed h.events (unasked_pieces h.events entered.1));
-        leads = λ items l. turn_leads_on w starved h.events first N h.mid K t.before.journal.past of t.turn.grows enters led h.notes items (item_leads w (own.Okd (okd.Accept path)) J N refl seat items l);
+        ends = ends_seen J.launcher.seen h.mid.launcher K.launcher (with_wants starved (map Launched h.events ++ first)) (noted_seat starved h.mid K h.notes) ends;
+        leads = λ items l. turn_leads_on w starved h.events first N h.mid K t.before.journal.past of (turn_grows t.turn) (turn_enters t.turn) led h.notes items (item_leads w (own.Okd (okd.Accept path)) J N refl seat items l);
       };
       had = where_had starved (visit.Accepted path outcome ∷ []) (map Launched h.events ++ first) (visits_join (visit.Accepted path outcome ∷ []) [] first (map Launched h.events) ([], refl, refl) (turned_had h.events));
     }
   where
+    -- the dialog is a crash, and the crash of the turn is its own
+    came : (answer : Crashed) (events : List LauncherEvent) → BeginsWithCrash s k events answer → Came false (Accepted path head content outcome ∷ []) events
+    came answer events (inl nothing) = calm_came false (Accepted path head content outcome ∷ []) events (subst (λ (xs : List LauncherEvent). list_any is_crashed xs ≡ false) (sym nothing.1) refl)
+    came answer events (inr entered) =
+        spoken_came false (Accepted path head content outcome ∷ []) s k events entered (ap (is_crash_there s k) is ∙ rw (eq-eqb s s refl, eq-eqb k k refl) crash)
+
     allowed : (events : List LauncherEvent) → list_any is_order (map Launched events) ≡ false → list_any is_order (map Launched events ++ Accepted path head content outcome ∷ []) ≡ false
     allowed events fine = list_any-append is_order (map Launched events) (Accepted path head content outcome ∷ []) ∙ ap (λ (b : Bool). b || false) fine
 

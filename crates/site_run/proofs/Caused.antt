@@ -1,7 +1,7 @@
 -- What was begun was begun for a cause, by the record that a run leaves.
-use Rattle.std.proofs.Common.{◌≡◌, ◌≢◌, inl, inr, ⊎_elim, ℕ, zero, suc, ◌+◌, ◌-◌, ◌≤◌, ◌<◌, ◌==◌, Bool, true, false, cond, List, [], ◌∷◌, not, refl, sym, ap, ◌∙◌, subst, eq-eqb, le-leb, arith}
+use Rattle.std.proofs.Common.{◌≡◌, inl, inr, ℕ, zero, suc, ◌-◌, ◌≤◌, ◌==◌, Bool, true, false, cond, List, [], ◌∷◌, not, refl, sym, ap, ◌∙◌, eq-eqb, le-leb, arith}
 use Rattle.std.specs.List.{list_any}
-use Rattle.std.specs.Prelude.{◌⊎◌, ◌&&◌, ◌||◌, filter, map, nat_le}
+use Rattle.std.specs.Prelude.{◌||◌, filter, map, nat_le}
 use Rattle.std.proofs.lemmas.Bool.{and_from}
 use Rattle.okws_base.specs.Past.{events_of}
 use Rattle.okws_base.specs.declared.journal.Entry.{Entry}
@@ -31,7 +31,7 @@ other_first n s k w e J none = at (w == n)
     at true = rw (none) refl
     at false = refl
 
-ups_own : (n s k : ℕ) (J : List (Entry OkdEvent)) → LaunchedBy okd_grant n J → list_any (λ (e : Entry OkdEvent). is_up_of s k e.event) J ≡ list_any (is_up_of s k) (events_of n J)
+pub ups_own : (n s k : ℕ) (J : List (Entry OkdEvent)) → LaunchedBy okd_grant n J → list_any (λ (e : Entry OkdEvent). is_up_of s k e.event) J ≡ list_any (is_up_of s k) (events_of n J)
 ups_own n s k [] h = refl
 ups_own n s k (e ∷ J) h = by e.event h.0 (ups_own n s k J h.1)
   where

@@ -9,7 +9,6 @@ use Rattle.atomic_table.specs.Seated.{TableId}
 use Rattle.okws_base.specs.declared.journal.Entry.{Entry}
 use Rattle.okws_outer.specs.Streams.{Rose}
 use Rattle.okws_plan.specs.declared.configuration.Config.{Config}
-use Rattle.okws_plan.specs.declared.event.LauncherEvent.{LauncherEvent}
 use Rattle.okws_plan.specs.declared.event.LogEvent.{LogEvent}
 use Rattle.live_board.specs.Board.{drawn_by}
 use Rattle.live_board.specs.Seats.{BoardIs, AllAt, SeatsDrew}
@@ -24,6 +23,7 @@ use Rattle.cell_locks.specs.Row.{CellsSeen}
 use Rattle.site_locks.specs.Closing.{SomeIs}
 use Rattle.site_locks.specs.Sat.{Sat}
 use Rattle.turn_lock.specs.Seats.{TurnIs, SeatIs, AllRest, SomeHas}
+use Rattle.okld_launch.specs.declared.deed.Deed.{Deed}
 use Rattle.site_run.specs.Rows.{ChairsAre, AreChairs}
 use Rattle.site_run.specs.Places.{PlacesAre}
 use Rattle.site_run.specs.Closing.{WritesLog}
@@ -69,21 +69,21 @@ module _ (hand : ℕ → ℕ) (count : ℕ) where
       subst (AllDrewAt hand count) (ap reverse e ∙ reverse-reverse all) (drew_turned places (drew_each places h))
 
 -- the seats of number n behind those of the numbers below it: each number has its own at the columns
-pub all_some : (t : TurnIs) (cells n : ℕ) (ss : List Sat) (cs : List CellsSeen) (as' : List (SeatIs (Entry LauncherEvent))) (s : Sat)
+pub all_some : (t : TurnIs) (cells n : ℕ) (ss : List Sat) (cs : List CellsSeen) (as' : List (SeatIs Deed)) (s : Sat)
     → AreChairs t cells 0 ss cs as' → length ss ≡ n → s.number ≡ n → (k : ℕ) → k < n + 1 → SomeIs k (ss ++ s ∷ [])
 all_some t cells n ss cs as' s h l e k u = dite (ℕ_discrete n k)
     (λ q. some_push k ss s (inr (e ∙ q)))
     (λ ne. some_push k ss s (inl (chairs_have t cells 0 k ss cs as' (omega arith) (omega arith) h).0))
 
 -- and at the cells
-pub all_numbered : (t : TurnIs) (cells n : ℕ) (ss : List Sat) (cs : List CellsSeen) (as' : List (SeatIs (Entry LauncherEvent))) (c : CellsSeen)
+pub all_numbered : (t : TurnIs) (cells n : ℕ) (ss : List Sat) (cs : List CellsSeen) (as' : List (SeatIs Deed)) (c : CellsSeen)
     → AreChairs t cells 0 ss cs as' → length ss ≡ n → c.number ≡ n → (k : ℕ) → k < n + 1 → HasNumber k (cs ++ c ∷ [])
 all_numbered t cells n ss cs as' c h l e k u = dite (ℕ_discrete n k)
     (λ q. has_push k cs c (inr (e ∙ q)))
     (λ ne. has_push k cs c (inl (chairs_have t cells 0 k ss cs as' (omega arith) (omega arith) h).1))
 
 -- what the closing of a run's locks asks of its seats
-pub record AreSeated (n : ℕ) (t : TurnIs) (ss : List Sat) (cs : List CellsSeen) (as' : List (SeatIs (Entry LauncherEvent))) : Type 0 where
+pub record AreSeated (n : ℕ) (t : TurnIs) (ss : List Sat) (cs : List CellsSeen) (as' : List (SeatIs Deed)) : Type 0 where
   pub seats_many : length ss ≡ n
   pub cells_many : length cs ≡ n
   pub turns_many : length as' ≡ n

@@ -4,11 +4,10 @@ use Rattle.std.proofs.lemmas.List.{length-reverse, length-set, reverse-append, r
 use mathlib.Core.Logic.{dite}
 use native.Mathlib.Decide.{ℕ_discrete}
 use Rattle.atomic_table.specs.Seated.{TableId}
-use Rattle.okws_base.specs.declared.journal.Entry.{Entry}
 use Rattle.okws_base.specs.declared.limit.TheConstants.{MOST_DOORS}
+use Rattle.okws_base.specs.Turns.{of}
 use Rattle.okws_outer.specs.Doors.{Entrance}
 use Rattle.okws_plan.specs.declared.configuration.Config.{Config}
-use Rattle.okws_plan.specs.declared.event.LauncherEvent.{LauncherEvent}
 use Rattle.live_board.specs.Seats.{BoardIs, AllAt, AreRising}
 use Rattle.live_board.specs.Seats.{SeatIs as Place}
 use Rattle.cell_locks.specs.Closing.{HasNumber}
@@ -21,6 +20,8 @@ use Rattle.worker_lives.proofs.Waiting.{leads_blank}
 use Rattle.site_run.specs.Places.{AllIdle}
 use Rattle.site_run.specs.Rooms.{AreOffered}
 use Rattle.site_worker.specs.declared.worker.TheConstants.{TURN_ITEMS}
+use Rattle.okld_launch.specs.Deeds.{by_deed}
+use Rattle.okld_launch.specs.declared.deed.Deed.{Deed}
 use Rattle.site_run.specs.Rows.{AreChairs, spare_first}
 use Rattle.site_run.specs.Opening.{items_first, seen_first}
 use Rattle.site_run.specs.Tied.{AreUnused, OnlyLaunches}
@@ -50,23 +51,23 @@ seats_pop proxies k m [] s e h = (tt, h.0 ∙ ap (fresh proxies) (let q : k ≡ 
 seats_pop proxies k m (r ∷ ss) s e h = let rest = seats_pop proxies (suc k) m ss s (omega arith) h.1 in ((h.0, rest.0), rest.1)
 
 -- fresh seats at the launcher, whose numbers rise by one from k
-abbrev pub TurnsFrom : TableId → ℕ → ℕ → List (SeatIs (Entry LauncherEvent)) → Type 0
+abbrev pub TurnsFrom : TableId → ℕ → ℕ → List (SeatIs Deed) → Type 0
 TurnsFrom z label k [] = Unit {0}
 TurnsFrom z label k (a ∷ as') = IsFresh z label k a × TurnsFrom z label (suc k) as'
 
-turns_push : (z : TableId) (label k m : ℕ) (as' : List (SeatIs (Entry LauncherEvent))) (a : SeatIs (Entry LauncherEvent)) → m ≡ length as' + k → TurnsFrom z label k as' → IsFresh z label m a → TurnsFrom z label k (as' ++ a ∷ [])
+turns_push : (z : TableId) (label k m : ℕ) (as' : List (SeatIs Deed)) (a : SeatIs Deed) → m ≡ length as' + k → TurnsFrom z label k as' → IsFresh z label m a → TurnsFrom z label k (as' ++ a ∷ [])
 turns_push z label k m [] a e h i = (subst (λ x. IsFresh z label x a) (let q : m ≡ k = omega arith in q) i, tt)
 turns_push z label k m (b ∷ as') a e h i = (h.0, turns_push z label (suc k) m as' a (omega arith) h.1 i)
 
 -- those whose numbers fall, turned round
-turns_turned : (z : TableId) (label k : ℕ) (as' : List (SeatIs (Entry LauncherEvent))) → AreFresh z label k as' → TurnsFrom z label k (reverse as')
+turns_turned : (z : TableId) (label k : ℕ) (as' : List (SeatIs Deed)) → AreFresh z label k as' → TurnsFrom z label k (reverse as')
 turns_turned z label k [] h = tt
 turns_turned z label k (a ∷ as') h =
     let n = length-reverse as' in
     subst (TurnsFrom z label k) (sym (reverse-append (a ∷ []) as')) (turns_push z label k (length as' + k) (reverse as') a (omega arith) (turns_turned z label k as' h.1) h.0)
 
 -- fresh seats of numbers in a row are seats
-chairs_from : (t : TurnIs) (proxies cells k : ℕ) (ss : List Sat) (cs : List CellsSeen) (as' : List (SeatIs (Entry LauncherEvent)))
+chairs_from : (t : TurnIs) (proxies cells k : ℕ) (ss : List Sat) (cs : List CellsSeen) (as' : List (SeatIs Deed))
     → length cs ≡ length ss → length as' ≡ length ss → AreFreshFrom proxies k ss → AreNewFrom cells k cs → TurnsFrom t.id t.label k as' → AreChairs t cells k ss cs as'
 chairs_from t proxies cells k [] [] [] p q h i j = tt
 chairs_from t proxies cells k [] [] (a ∷ as') p q h i j = absurd (omega arith)
@@ -85,13 +86,13 @@ chairs_from t proxies cells k (s ∷ ss) (c ∷ cs) (a ∷ as') p q h i j =
       chairs_from t proxies cells (suc k) ss cs as' (omega arith) (omega arith) h.1 i.1 j.1,
     )
 
-pub first_chairs : (t : TurnIs) (proxies cells : ℕ) (ss : List Sat) (cs : List CellsSeen) (as' : List (SeatIs (Entry LauncherEvent)))
+pub first_chairs : (t : TurnIs) (proxies cells : ℕ) (ss : List Sat) (cs : List CellsSeen) (as' : List (SeatIs Deed))
     → length cs ≡ length ss → length as' ≡ length ss → AreFreshFrom proxies 0 ss → AreNewFrom cells 0 cs → AreFresh t.id t.label 0 (reverse as') → AreChairs t cells 0 ss cs as'
 first_chairs t proxies cells ss cs as' p q h i j =
     chairs_from t proxies cells 0 ss cs as' p q h i (subst (TurnsFrom t.id t.label 0) (reverse-reverse as') (turns_turned t.id t.label 0 (reverse as') j))
 
 -- they are unused
-unused_from : (C : Config) (z : TableId) (label k : ℕ) (ss : List Sat) (cs : List CellsSeen) (as' : List (SeatIs (Entry LauncherEvent)))
+unused_from : (C : Config) (z : TableId) (label k : ℕ) (ss : List Sat) (cs : List CellsSeen) (as' : List (SeatIs Deed))
     → length cs ≡ length ss → length as' ≡ length ss → AreFreshFrom (length C.proxies) k ss → AreNewFrom (length C.services) k cs → TurnsFrom z label k as' → AreUnused C k ss cs as'
 unused_from C z label k [] [] [] p q h i j = tt
 unused_from C z label k [] [] (a ∷ as') p q h i j = absurd (omega arith)
@@ -105,13 +106,14 @@ unused_from C z label k (s ∷ ss) (c ∷ cs) (a ∷ as') p q h i j =
         sat_is = h.0 ∙ ap (λ (x : Sat). record (fresh (length C.proxies) k) { own = x.own; spare = x.spare }) (sym h.0);
         cells = i.0;
         seat = j.0.number_is;
-        launches = subst (λ items. OnlyLaunches k items a.seen) (sym own_is) (subst (λ past. OnlyLaunches k [] past) (sym seen_is) (record { entered = refl; only = refl; lead = leads_blank k }));
+        launches = subst (λ items. OnlyLaunches k items a.seen) (sym own_is) (subst (λ past. OnlyLaunches k [] past) (sym seen_is) (record { entered = refl; only = refl; lead = leads_blank k; ends = refl }));
         none = λ l. own_is;
+        turns = λ l. ap (of by_deed k) seen_is;
       },
       unused_from C z label (suc k) ss cs as' (omega arith) (omega arith) h.1 i.1 j.1,
     )
 
-pub first_unused : (C : Config) (t : TurnIs) (ss : List Sat) (cs : List CellsSeen) (as' : List (SeatIs (Entry LauncherEvent)))
+pub first_unused : (C : Config) (t : TurnIs) (ss : List Sat) (cs : List CellsSeen) (as' : List (SeatIs Deed))
     → length cs ≡ length ss → length as' ≡ length ss → AreFreshFrom (length C.proxies) 0 ss → AreNewFrom (length C.services) 0 cs → AreFresh t.id t.label 0 (reverse as') → AreUnused C 0 ss cs as'
 first_unused C t ss cs as' p q h i j =
     unused_from C t.id t.label 0 ss cs as' p q h i (subst (TurnsFrom t.id t.label 0) (reverse-reverse as') (turns_turned t.id t.label 0 (reverse as') j))
@@ -123,7 +125,7 @@ rising_at z k (a ∷ as') h = (h.0.board, rising_at z (suc k) as' h.1)
 
 module _ (t : TurnIs) (cells : ℕ) where
   -- at the end the workers' seats at the launcher rest there
-  pub chairs_rest_all : (k : ℕ) (ss : List Sat) (cs : List CellsSeen) (as' : List (SeatIs (Entry LauncherEvent))) → AreChairs t cells k ss cs as' → AllRest t.id as'
+  pub chairs_rest_all : (k : ℕ) (ss : List Sat) (cs : List CellsSeen) (as' : List (SeatIs Deed)) → AreChairs t cells k ss cs as' → AllRest t.id as'
   chairs_rest_all k [] [] [] h = tt
   chairs_rest_all k [] [] (a ∷ as') h = absurd h
   chairs_rest_all k [] (c ∷ cs) as' h = absurd h
@@ -132,7 +134,7 @@ module _ (t : TurnIs) (cells : ℕ) where
   chairs_rest_all k (s ∷ ss) (c ∷ cs) (a ∷ as') h = (h.0.rests.lock, h.0.rests.free, chairs_rest_all (suc k) ss cs as' h.1)
 
   -- each number has its seats
-  pub chairs_have : (k j : ℕ) (ss : List Sat) (cs : List CellsSeen) (as' : List (SeatIs (Entry LauncherEvent))) → k ≤ j → j < length ss + k → AreChairs t cells k ss cs as'
+  pub chairs_have : (k j : ℕ) (ss : List Sat) (cs : List CellsSeen) (as' : List (SeatIs Deed)) → k ≤ j → j < length ss + k → AreChairs t cells k ss cs as'
       → SomeIs j ss × HasNumber j cs × SomeHas j as'
   chairs_have k j [] [] [] l u h = absurd (omega arith)
   chairs_have k j [] [] (a ∷ as') l u h = absurd h
@@ -168,12 +170,12 @@ items_none : (proxies : ℕ) (ss : List Sat) (r s : Sat) → AreFreshFrom proxie
 items_none proxies [] r s h p e = refl
 items_none proxies (x ∷ ss) r s h p e = ap (λ (z : Sat). z.own) e ∙ (ap (λ (z : Sat). z.own) p ∙ ap (λ (z : Sat). z.own) h.0)
 
-seen_none : (z : TableId) (label : ℕ) (as' : List (SeatIs (Entry LauncherEvent))) → TurnsFrom z label 0 as' → seen_first as' ≡ []
+seen_none : (z : TableId) (label : ℕ) (as' : List (SeatIs Deed)) → TurnsFrom z label 0 as' → seen_first as' ≡ []
 seen_none z label [] h = refl
 seen_none z label (a ∷ as') h = h.0.seen
 
 -- a run whose launcher was hired is ready, and number 0 has spare places
-pub ready : (C : Config) (n doors : ℕ) (t : TurnIs) (b : BoardIs) (cell_turns : List TurnIs) (all ss : List Sat) (r first : Sat) (s : Sat) (all_cs cs : List CellsSeen) (c : CellsSeen) (as' : List (SeatIs (Entry LauncherEvent)))
+pub ready : (C : Config) (n doors : ℕ) (t : TurnIs) (b : BoardIs) (cell_turns : List TurnIs) (all ss : List Sat) (r first : Sat) (s : Sat) (all_cs cs : List CellsSeen) (c : CellsSeen) (as' : List (SeatIs Deed))
     (es : List Entrance) (places : List Place) (all_room seats_room all_cells_room cells_room turns_room doors_room desks_room : ℕ)
     → r ≡ get_or ss 0 r → first ≡ record r { spare = first.spare } → length C.services * TURN_ITEMS ≤ first.spare
     → AreNamed C n cell_turns all all_cs all_room all_cells_room → all ≡ ss ++ s ∷ [] → all_cs ≡ cs ++ c ∷ [] → n ≡ doors + 1 → n + 1 ≤ seats_room → n + 1 ≤ cells_room

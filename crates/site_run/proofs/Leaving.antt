@@ -6,8 +6,9 @@ use Rattle.std.specs.List.{list_all}
 use mathlib.Core.Logic.{dite}
 use native.Mathlib.Decide.{ℕ_discrete}
 use Rattle.okws_base.specs.Past.{Grows, events_of}
-use Rattle.okws_base.specs.Turns.{of, GrowsBy, up_to_own}
+use Rattle.okws_base.specs.Turns.{of, Behind, GrowsBy, up_to_own}
 use Rattle.okws_base.specs.declared.journal.Entry.{Entry}
+use Rattle.okws_plan.specs.declared.configuration.Config.{Config}
 use Rattle.okws_plan.specs.declared.event.LauncherEvent.{LauncherEvent}
 use Rattle.okws_plan.specs.declared.event.LogEvent.{LogEvent}
 use Rattle.okws_plan.specs.declared.event.OkdEvent.{OkdEvent}
@@ -18,14 +19,15 @@ use Rattle.monitor_model.specs.declared.record.CellEvent.TheVariants as cell
 use Rattle.monitor_model.specs.declared.record.Own.{Own}
 use Rattle.monitor_model.specs.declared.record.Own.TheVariants as own
 use Rattle.monitor_model.specs.declared.record.Record.{Record}
-use Rattle.monitor_model.specs.Launcher.{begun}
+use Rattle.monitor_model.specs.Causes.{has_up}
+use Rattle.monitor_model.specs.Launcher.{LauncherLaw, begun}
 use Rattle.monitor_model.specs.Merged.{cell_items, is_launch, is_okd_launch, is_proxy_launch, is_pubd_launch, is_log_launch, launcher_item, list_of}
 use Rattle.monitor_model.specs.Seen.{Seen, proxy_past}
 use Rattle.monitor_model.specs.Tied.{EndsIn}
 use Rattle.monitor_model.proofs.Tied.{others_leave_entries}
 use Rattle.named_columns.specs.Launched.{by_entry}
 use Rattle.site_cell.specs.Held.{by_event}
-use Rattle.turn_lock.proofs.Grows.{own-on, owns-at}
+use Rattle.turn_lock.proofs.Grows.{of-grows, own-on, owns-at}
 use Rattle.turn_lock.specs.Seats.{TurnIs, SeatIs, AllClosed}
 use Rattle.cell_locks.specs.Closing.{CellsGrow, AllCellsGrow}
 use Rattle.cell_locks.specs.Row.{CellsSeen}
@@ -35,7 +37,12 @@ use Rattle.site_locks.specs.Closing.{AllGrown, AllSaw, RowGrown, RowsGrown}
 use Rattle.site_locks.specs.Sat.{Sat, seen_of}
 use Rattle.launch_crew.specs.Recorded.{AreOwn}
 use Rattle.site_worker.specs.Lives.{Life}
+use Rattle.okld_launch.specs.Deeds.{by_deed, ended_in, entries, up_in}
+use Rattle.okld_launch.specs.declared.deed.Deed.{Deed}
+use Rattle.okld_launch.proofs.Deeds.{ended_stays, entries_grow}
+use Rattle.site_run.proofs.Once.{ups_same}
 use Rattle.site_run.proofs.Seating.{push_length}
+use Rattle.site_run.proofs.Telling.{none_behind}
 use Rattle.site_run.specs.Rows.{IsChair, AreChairs}
 use Rattle.site_run.specs.Tied.{IsChairOf, AreChairsOf, LifeEnds, AllEnd, LaunchesAreOwn, ColumnsGrown, AreLists}
 
@@ -65,7 +72,7 @@ rows_pop : (ss : List Sat) (s : Sat) (Js : List (List (Entry ProxyEvent))) → R
 rows_pop [] s Js h = (tt, h.0)
 rows_pop (r ∷ ss) s Js h = let i = rows_pop ss s Js h.1 in ((h.0, i.0), i.1)
 
-cells_pop : (n : ℕ) (cs : List CellsSeen) (c : CellsSeen) (Js : List (List CellEvent)) → AllCellsGrow n (cs ++ c ∷ []) Js → AllCellsGrow n cs Js × CellsGrow n c.number c.cells Js
+pub cells_pop : (n : ℕ) (cs : List CellsSeen) (c : CellsSeen) (Js : List (List CellEvent)) → AllCellsGrow n (cs ++ c ∷ []) Js → AllCellsGrow n cs Js × CellsGrow n c.number c.cells Js
 cells_pop n [] c Js h = (tt, h.0)
 cells_pop n (d ∷ cs) c Js h = let i = cells_pop n cs c Js h.1 in ((h.0, i.0), i.1)
 
@@ -126,6 +133,20 @@ but_last (Some x) was now all left ss h l e q = record { last = x; lists_are = s
 
 -- ---- one life
 
+-- who took no turn entered nothing
+pub none_entered : (n count : ℕ) (J : List (Entry LauncherEvent)) (deeds : List Deed) → count ≡ n → J ≡ entries deeds → ((k : ℕ) → count ≤ k → of by_deed k deeds ≡ []) → (k : ℕ) → n ≤ k → of by_entry k J ≡ []
+none_entered n count J deeds is entered none k l =
+    let least : count ≤ k = omega (arith, is, l) in
+    ap (of by_entry k) entered ∙ of-grows by_entry k (entries []) (entries deeds) (entries_grow k [] deeds (deeds, none k least, sym (append-nil deeds)))
+
+-- what the turns at the launcher tell is told of the record
+pub record IsTold (C : Config) (n : ℕ) (deeds : List Deed) (R : Record) (ended : ℕ → ℕ → Bool) : Type 0 where
+  pub entries_are : R.launcher ≡ entries deeds
+  pub none : (k : ℕ) → n ≤ k → of by_deed k deeds ≡ []
+  pub law : LauncherLaw C (entries deeds)
+  pub ups : (s k : ℕ) → has_up R s k ≡ up_in deeds s k
+  pub ends : (s k : ℕ) → ended_in deeds s k ≡ true → ended s k ≡ true
+
 module _ (R : Record) (s : Sat) where
   -- what the columns' journals went on from
   columns_end : (w : ℕ) → s.number ≡ w → GrowsBy by_entry s.number s.okd R.okd → RowGrown s.number s.proxies R.proxies → GrowsBy by_entry s.number s.pubd R.pubd → GrowsBy by_entry s.number s.oklogd R.oklogd → EndsIn R w (seen_of s)
@@ -137,22 +158,30 @@ module _ (R : Record) (s : Sat) where
     oklogd = grows_foreign s.number (up_to_own by_entry s.number s.oklogd) R.oklogd (own-on by_entry s.number s.oklogd R.oklogd oklogd);
   })
 
-module _ (t : TurnIs) (cells n : ℕ) (R : Record) where
-  life_ends : (w : ℕ) (J : Life) (s : Sat) (c : CellsSeen) (a : SeatIs (Entry LauncherEvent)) → IsChair t cells w s c a → IsChairOf J s c a → EndsIn R w (seen_of s)
-      → GrowsBy by_entry s.number s.pubd R.pubd → CellsGrow n c.number c.cells R.cells → GrowsBy by_entry a.number a.seen R.launcher → list_of R w ≡ s.own → ((u : ℕ) → u < length R.cells → slice_index s.board u ≤ begun R.launcher u) → LifeEnds n w J R
-  life_ends w J s c a h o columns pubd grown launcher list board = record {
-    number_is = ap (λ (x : CellsSeen). x.number) o.cells_is ∙ h.cells_number;
-    own_is = ap (λ (S : Seen). S.own) o.seen_is ∙ sym list;
-    columns = subst (EndsIn R w) (sym o.seen_is) columns;
-    pubd = subst (λ I. Grows w I R.pubd) (sym o.pubd_is) (grows_foreign w s.pubd R.pubd (subst (λ k. GrowsBy by_entry k s.pubd R.pubd) h.sat_number pubd));
-    cells = subst (λ (x : CellsSeen). CellsGrow n w x.cells R.cells) (sym o.cells_is) (subst (λ k. CellsGrow n k c.cells R.cells) h.cells_number grown);
-    launcher = subst (λ (x : SeatIs (Entry LauncherEvent)). Grows w x.seen R.launcher) (sym o.launcher_is) (grows_foreign w a.seen R.launcher (subst (λ k. GrowsBy by_entry k a.seen R.launcher) h.seat_number launcher));
-    board = λ u l. subst (λ (b : List ℕ). slice_index b u ≤ begun R.launcher u) (sym o.board_is) (board u l);
-  }
+module _ (C : Config) (t : TurnIs) (cells n : ℕ) (R : Record) (ended : ℕ → ℕ → Bool) (deeds : List Deed) (told : IsTold C n deeds R ended) where
+  life_ends : (w : ℕ) (J : Life) (s : Sat) (c : CellsSeen) (a : SeatIs Deed) → IsChair t cells w s c a → IsChairOf J s c a → EndsIn R w (seen_of s)
+      → GrowsBy by_entry s.number s.pubd R.pubd → CellsGrow n c.number c.cells R.cells → GrowsBy by_deed a.number a.seen deeds → list_of R w ≡ s.own → ((u : ℕ) → u < length R.cells → slice_index s.board u ≤ begun R.launcher u) → LifeEnds n w J R ended
+  life_ends w J s c a h o columns pubd grown launcher list board =
+      let seen : J.launcher.seen ≡ a.seen = ap (λ (x : SeatIs Deed). x.seen) o.launcher_is in
+      let behind : Behind J.launcher.seen deeds = (launcher.0, launcher.2 ∙ ap (λ l. launcher.0 ++ l) (sym seen)) in
+      let entered : Grows w (entries a.seen) R.launcher = subst (Grows w (entries a.seen)) (sym told.entries_are)
+      (grows_foreign w (entries a.seen) (entries deeds) (entries_grow w a.seen deeds (subst (λ k. GrowsBy by_deed k a.seen deeds) h.seat_number launcher))) in
+      record {
+        number_is = ap (λ (x : CellsSeen). x.number) o.cells_is ∙ h.cells_number;
+        own_is = ap (λ (S : Seen). S.own) o.seen_is ∙ sym list;
+        columns = subst (EndsIn R w) (sym o.seen_is) columns;
+        pubd = subst (λ I. Grows w I R.pubd) (sym o.pubd_is) (grows_foreign w s.pubd R.pubd (subst (λ k. GrowsBy by_entry k s.pubd R.pubd) h.sat_number pubd));
+        cells = subst (λ (x : CellsSeen). CellsGrow n w x.cells R.cells) (sym o.cells_is) (subst (λ k. CellsGrow n k c.cells R.cells) h.cells_number grown);
+        launcher = subst (λ (l : List Deed). Grows w (entries l) R.launcher) (sym seen) entered;
+        turns = λ k l. none_behind k J.launcher.seen deeds behind (told.none k l);
+        ups = λ u k begun. told.ups u k ∙ ups_same C u k J.launcher.seen deeds told.law behind begun;
+        ends = λ u k over. told.ends u k (subst (λ (l : List Deed). ended_in l u k ≡ true) (sym behind.1) (ended_stays behind.0 J.launcher.seen u k over));
+        board = λ u l. subst (λ (b : List ℕ). slice_index b u ≤ begun R.launcher u) (sym o.board_is) (board u l);
+      }
 
   -- the lives of numbers that rise by one from w, whose lists stand in the record from there on
-  all_end : (w : ℕ) (Js : List Life) (ss : List Sat) (cs : List CellsSeen) (as' : List (SeatIs (Entry LauncherEvent))) (last : List Own) → AreChairs t cells w ss cs as' → AreChairsOf Js ss cs as' → ColumnsGrown ss R.okd R.proxies R.pubd R.oklogd
-      → AllCellsGrow n cs R.cells → AllClosed by_entry as' R.launcher → ((k m : ℕ) → m ≡ k + w → list_of R m ≡ slice_index_or (map (λ (s : Sat). s.own) ss ++ last ∷ []) k []) → Raised R ss → AllEnd n w Js R
+  all_end : (w : ℕ) (Js : List Life) (ss : List Sat) (cs : List CellsSeen) (as' : List (SeatIs Deed)) (last : List Own) → AreChairs t cells w ss cs as' → AreChairsOf Js ss cs as' → ColumnsGrown ss R.okd R.proxies R.pubd R.oklogd
+      → AllCellsGrow n cs R.cells → AllClosed by_deed as' deeds → ((k m : ℕ) → m ≡ k + w → list_of R m ≡ slice_index_or (map (λ (s : Sat). s.own) ss ++ last ∷ []) k []) → Raised R ss → AllEnd n w Js R ended
   all_end w [] ss cs as' last h o g i j list board = tt
   all_end w (J ∷ Js) [] cs as' last h o g i j list board = absurd o
   all_end w (J ∷ Js) (s ∷ ss) [] as' last h o g i j list board = absurd o
@@ -181,11 +210,11 @@ listed R ss s h k m e =
     ap (list_of R) at ∙ ap (λ l. slice_index_or (l ++ R.launches ∷ []) k []) (sym same)
 
 -- the workers' lives end in the record of the locks that were closed with all seats
-pub lives_end : (t : TurnIs) (cells n : ℕ) (R : Record) (Js : List Life) (ss all : List Sat) (s : Sat) (cs every : List CellsSeen) (c : CellsSeen) (as' : List (SeatIs (Entry LauncherEvent)))
-    → AreChairs t cells 0 ss cs as' → AreChairsOf Js ss cs as' → all ≡ ss ++ s ∷ [] → every ≡ cs ++ c ∷ []
-    → ColumnsGrown all R.okd R.proxies R.pubd R.oklogd → AllCellsGrow n every R.cells → AllClosed by_entry as' R.launcher → AreLists all R.workers → Raised R ss → AllEnd n 0 Js R
-lives_end t cells n R Js ss all s cs every c as' h o p q g i j l board =
-    all_end t cells n R 0 Js ss cs as' R.launches h o
+pub lives_end : (C : Config) (t : TurnIs) (cells n : ℕ) (R : Record) (ended : ℕ → ℕ → Bool) (deeds : List Deed) (Js : List Life) (ss all : List Sat) (s : Sat) (cs every : List CellsSeen) (c : CellsSeen) (as' : List (SeatIs Deed))
+    → IsTold C n deeds R ended → AreChairs t cells 0 ss cs as' → AreChairsOf Js ss cs as' → all ≡ ss ++ s ∷ [] → every ≡ cs ++ c ∷ []
+    → ColumnsGrown all R.okd R.proxies R.pubd R.oklogd → AllCellsGrow n every R.cells → AllClosed by_deed as' deeds → AreLists all R.workers → Raised R ss → AllEnd n 0 Js R ended
+lives_end C t cells n R ended deeds Js ss all s cs every c as' told h o p q g i j l board =
+    all_end C t cells n R ended deeds told 0 Js ss cs as' R.launches h o
     (columns_pop ss s R.okd R.proxies R.pubd R.oklogd (subst (λ xs. ColumnsGrown xs R.okd R.proxies R.pubd R.oklogd) p g))
     (cells_pop n cs c R.cells (subst (λ xs. AllCellsGrow n xs R.cells) q i)).0 j (listed R ss s (subst (λ xs. AreLists xs R.workers) p l)) board
 
@@ -225,7 +254,7 @@ pub went : {E : Type 0} (n : ℕ) (J K : List (Entry E)) → GrowsBy by_entry n 
 went n J K g = others_leave_entries n J K (grows_foreign n J K g)
 
 -- a journal in which the number has no entry
-none_of : {E : Type 0} (n : ℕ) (J : List (Entry E)) → of by_entry n J ≡ [] → events_of n J ≡ []
+pub none_of : {E : Type 0} (n : ℕ) (J : List (Entry E)) → of by_entry n J ≡ [] → events_of n J ≡ []
 none_of n J none = went n [] J (J, none, sym (append-nil J))
 
 and_first : (a b : Bool) → (a && b) ≡ true → a ≡ true

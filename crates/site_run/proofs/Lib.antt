@@ -3,8 +3,9 @@ pub mod Lists
 pub mod Making
 pub mod Holding
 pub mod Closed
-pub mod Backing
 pub mod Tying
+pub mod Telling
+pub mod Once
 pub mod Leaving
 pub mod Rounding
 pub mod Beside
@@ -17,6 +18,10 @@ pub mod Alone
 pub mod Shown
 pub mod Caused
 pub mod Opened
-pub mod Telling
 pub mod Told
 pub mod Remembered
+pub mod Came
+pub mod Pieced
+pub mod Remaining
+pub mod Taken
+pub mod Waiting

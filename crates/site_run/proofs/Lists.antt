@@ -1,5 +1,5 @@
 -- Lists that grow at their ends.
-use Rattle.std.proofs.Common.{◌≡◌, ℕ, suc, ◌+◌, ◌≤◌, Bool, true, List, [], ◌∷◌, ◌++◌, length, map, reverse, ap, ◌∙◌, subst, arith}
+use Rattle.std.proofs.Common.{◌≡◌, ℕ, suc, ◌+◌, ◌≤◌, Bool, List, [], ◌∷◌, ◌++◌, length, subst, arith}
 use Rattle.atomic_table.specs.Seated.{TableId}
 use Rattle.okws_base.specs.declared.journal.Entry.{Entry}
 use Rattle.okws_outer.specs.Streams.{counted}
@@ -15,31 +15,10 @@ use Rattle.monitor_model.specs.Standing.{proxy_grant}
 use Rattle.monitor_model.specs.declared.record.CellEvent.{CellEvent}
 use Rattle.monitor_model.specs.declared.sent.Sent.{Sent}
 use Rattle.named_columns.specs.Launched.{LaunchedBy}
-use Rattle.cell_locks.specs.Row.{Rise}
-use Rattle.site_locks.specs.Sat.{RiseFrom}
-use Rattle.turn_lock.specs.Rows.{AllNone}
-use Rattle.turn_lock.proofs.Rows.{turned_push}
 use Rattle.site_run.specs.Journals.{AllProxies, AllCells}
-use Rattle.site_run.specs.Keepers.{KeeperIs, IsKeeper, AreBacked}
+use Rattle.site_making.specs.Keepers.{KeeperIs}
 use Rattle.site_run.specs.Closing.{AllKept, KeeperEnds}
 use Rattle.site_run.proofs.Seating.{push_length}
-
-pub rise_push : (k m : ℕ) (xs : List ℕ) → m ≡ length xs + k → RiseFrom k xs → RiseFrom k (xs ++ m ∷ [])
-rise_push k m [] e h = (omega arith, tt)
-rise_push k m (x ∷ xs) e h = (h.0, rise_push (suc k) m xs (omega arith) h.1)
-
-pub services_push : (k m : ℕ) (xs : List ℕ) → m ≡ length xs + k → Rise k xs → Rise k (xs ++ m ∷ [])
-services_push k m [] e h = (omega arith, tt)
-services_push k m (x ∷ xs) e h = (h.0, services_push (suc k) m xs (omega arith) h.1)
-
-pub none_push : {E : Type 0} (Js : List (List E)) (J : List E) → J ≡ [] → AllNone Js → AllNone (Js ++ J ∷ [])
-none_push [] J e h = (e, tt)
-none_push (I ∷ Js) J e h = (h.0, none_push Js J e h.1)
-
--- of keepers that are turned round, the last one of the row is the first
-pub backed_next : {K : Type 0} (f : K → KeeperIs) (C : Config) (steady : Bool) (first : ℕ → ℕ) (p : ℕ) (more left : List K) (k : K) → more ≡ left ++ k ∷ [] → AreBacked C steady first p (reverse (map f more))
-    → IsKeeper C p (f k) × (steady ≡ true → (f k).steady ≡ true) × (first p ≤ (f k).faults) × AreBacked C steady first (suc p) (reverse (map f left))
-backed_next f C steady first p more left k e h = subst (AreBacked C steady first p) (turned_push f more left k e) h
 
 pub kept_push : (C : Config) (tells steady : Bool) (first : ℕ → ℕ) (p m : ℕ) (ls : List KeeperIs) (l : KeeperIs) (Js : List (List (Entry ProxyEvent))) (J : List (Entry ProxyEvent)) → m ≡ length Js + p → AllKept C tells steady first p ls Js
     → KeeperEnds C tells steady (first m) m l J → AllKept C tells steady first p (ls ++ l ∷ []) (Js ++ J ∷ [])

@@ -1,8 +1,8 @@
--- That the services are launched one after the other, in a turn each, where nobody else enters anything at the launcher.
-use Rattle.std.proofs.Common.{◌≡◌, ◌≢◌, ◌∙◌, inl, inr, ⊎_elim, ℕ, zero, suc, ◌+◌, ◌<◌, ◌≤◌, Bool, true, false, List, [], ◌∷◌, ◌++◌, Option, Some, None, length, map, refl, sym, ap, subst, arith, eq-eqb, ne_eqb, append_assoc}
+-- That the services are launched one after the other, in a turn each, where nobody else takes a turn at the launcher.
+use Rattle.std.proofs.Common.{◌≡◌, ◌≢◌, ◌∙◌, inl, inr, ⊎_elim, ℕ, zero, suc, ◌+◌, ◌<◌, ◌≤◌, Bool, true, false, List, [], ◌∷◌, ◌++◌, Option, Some, None, length, map, refl, sym, ap, subst, arith, eq-eqb, ne_eqb}
 use Rattle.std.proofs.lemmas.Bool.{true≢false, cases_eq}
 use Rattle.std.proofs.lemmas.List.{append_cancel_right}
-use Rattle.std.specs.Prelude.{◌==◌, max, if◌then◌else◌}
+use Rattle.std.specs.Prelude.{◌==◌, ◌&&◌, ◌||◌, max, if◌then◌else◌}
 use Rattle.okws_base.specs.Turns.{of, Behind}
 use Rattle.okws_base.specs.declared.journal.Entry.{Entry}
 use Rattle.okws_base.specs.declared.limit.TheConstants.{GREATEST_RETRY}
@@ -13,19 +13,22 @@ use Rattle.okws_outer.specs.Families.{Family}
 use Rattle.monitor_model.specs.declared.record.Own.{Own}
 use Rattle.monitor_model.specs.declared.record.Own.TheVariants as own
 use Rattle.monitor_model.specs.Launcher.{begun}
-use Rattle.named_columns.specs.Launched.{by_entry}
+use Rattle.monitor_model.specs.Launches.{is_begun_of}
 use Rattle.launch_journal.specs.Launches.{given_up}
+use Rattle.okld_launch.specs.Deeds.{by_deed, entries, is_one, launch_up, launch_up_if, newest, up_in}
+use Rattle.okld_launch.specs.declared.deed.Deed.{Deed}
 use Rattle.okld_launch.specs.Entering.{Enters, entries_of, failed_from}
 use Rattle.okld_launch.specs.Going.{Ends, Fell, Goes, with_begun, with_entry}
-use Rattle.okld_launch.specs.Launchers.{LauncherIs, TriedAreBegun, up_in}
+use Rattle.okld_launch.specs.Launchers.{LauncherIs, TriedAreBegun}
+use Rattle.okld_launch.specs.Launchers.{up_in as up_now}
 use Rattle.okld_launch.specs.Turns.{GoesIf, InTurn}
 use Rattle.okld_launch.specs.declared.answer.Launched.{Launched}
 use Rattle.okld_launch.specs.declared.answer.Launched.TheVariants as launched
 use Rattle.okld_launch.proofs.Counting.{fell_begun, fell_enters, fell_few}
-use Rattle.site_run.specs.Opening.{Outcome, CameUp, Died, Waited, BrokeOff, Opening, Opens, IsAlone, all_events, all_items, end_events, end_items, opening_events, opening_items, wants}
+use Rattle.site_run.specs.Opening.{Outcome, CameUp, Died, Waited, BrokeOff, Opening, Opens, IsAlone, all_events, end_events, is_up, opening_events, opening_items, ups_of, wants}
 use Rattle.site_run.specs.Tied.{IsNotedWhere}
 
--- ---- nobody else entered anything
+-- ---- nobody else took a turn
 
 module _ {E : Type 0} where
   -- of a list that is empty nothing was taken
@@ -33,17 +36,17 @@ module _ {E : Type 0} where
   none_first true e rest h = let never : ⊥ = cc in absurd never
   none_first false e rest h = (refl, h)
 
-pub alone_behind : (w : ℕ) (more seen : List (Entry LauncherEvent)) → IsAlone w (more ++ seen) → IsAlone w seen
+pub alone_behind : (w : ℕ) (more seen : List Deed) → IsAlone w (more ++ seen) → IsAlone w seen
 alone_behind w [] seen h = h
-alone_behind w (e ∷ more) seen h = alone_behind w more seen (λ k apart. (none_first (by_entry e == k) e (of by_entry k (more ++ seen)) (h k apart)).1)
+alone_behind w (d ∷ more) seen h = alone_behind w more seen (λ k apart. (none_first (by_deed d == k) d (of by_deed k (more ++ seen)) (h k apart)).1)
 
--- what others entered is nothing
-nothing_new : (w : ℕ) (more seen : List (Entry LauncherEvent)) → IsAlone w (more ++ seen) → of by_entry w more ≡ [] → more ≡ []
+-- what others took turns for is nothing
+nothing_new : (w : ℕ) (more seen : List Deed) → IsAlone w (more ++ seen) → of by_deed w more ≡ [] → more ≡ []
 nothing_new w [] seen h none = refl
-nothing_new w (e ∷ more) seen h none = ⊎_elim
-    (λ (same : by_entry e ≡ w). absurd (true≢false (sym (eq-eqb (by_entry e) w same) ∙ (none_first (by_entry e == w) e (of by_entry w more) none).0)))
-    (λ (apart : by_entry e ≢ w). absurd (true≢false (sym (eq-eqb (by_entry e) (by_entry e) refl) ∙ (none_first (by_entry e == by_entry e) e (of by_entry (by_entry e) (more ++ seen)) (h (by_entry e) apart)).0)))
-    (cases_eq (by_entry e) w)
+nothing_new w (d ∷ more) seen h none = ⊎_elim
+    (λ (same : by_deed d ≡ w). absurd (true≢false (sym (eq-eqb (by_deed d) w same) ∙ (none_first (by_deed d == w) d (of by_deed w more) none).0)))
+    (λ (apart : by_deed d ≢ w). absurd (true≢false (sym (eq-eqb (by_deed d) (by_deed d) refl) ∙ (none_first (by_deed d == by_deed d) d (of by_deed (by_deed d) (more ++ seen)) (h (by_deed d) apart)).0)))
+    (cases_eq (by_deed d) w)
 
 -- ---- of a service that wasn't launched yet nothing was entered
 
@@ -123,23 +126,23 @@ same_events : (w : ℕ) (events xs : List LauncherEvent) (J K : List (Entry Laun
 same_events w events xs J K p q =
     sym (unentered w events) ∙ (ap (map (λ (e : Entry LauncherEvent). e.event)) (append_cancel_right (entries_of w events) (entries_of w xs) J (sym p ∙ q)) ∙ unentered w xs)
 
--- these events are those of a first launch, with NoMemory where memory was refused
-record IsOpening (s : ℕ) (events : List LauncherEvent) (starved : Bool) : Type 0 where
+-- these events are those of a first launch, with NoMemory where memory was refused; the turn tells whether the last one is the Begun of what came up
+record IsOpening (s : ℕ) (events : List LauncherEvent) (up starved : Bool) : Type 0 where
   opening : Opening
   events_are : events ≡ opening_events s opening
   items_are : (items now : List Own) → IsNotedWhere starved (map own.Launcher events ++ items) now → now ≡ opening_items s opening ++ items
-
-map_then : (xs : List LauncherEvent) (items : List Own) (ys : List LauncherEvent) → xs ≡ ys → map own.Launcher xs ++ items ≡ map own.Launcher ys ++ items
-map_then xs items ys is = ap (λ es. map own.Launcher es ++ items) is
+  ups_are : (t j : ℕ) → (up && is_one (is_begun_of t j) (newest events)) ≡ (is_up opening.outcome && ((s == t) && (opening.failed + 1 == j)))
 
 -- by its events
-opening_is : (s n : ℕ) (outcome : Outcome) (events : List LauncherEvent) (starved : Bool) → events ≡ opening_events s (record { failed = n; outcome = outcome })
+opening_is : (s n : ℕ) (outcome : Outcome) (events : List LauncherEvent) (up starved : Bool) → events ≡ opening_events s (record { failed = n; outcome = outcome })
     → ((items now : List Own) → IsNotedWhere starved (map own.Launcher (opening_events s (record { failed = n; outcome = outcome })) ++ items) now → now ≡ opening_items s (record { failed = n; outcome = outcome }) ++ items)
-    → IsOpening s events starved
-opening_is s n outcome events starved is noted = record {
+    → ((t j : ℕ) → (up && is_one (is_begun_of t j) (newest (opening_events s (record { failed = n; outcome = outcome })))) ≡ (is_up outcome && ((s == t) && (n + 1 == j))))
+    → IsOpening s events up starved
+opening_is s n outcome events up starved is noted told = record {
   opening = record { failed = n; outcome = outcome };
   events_are = is;
   items_are = λ items now h. noted items now (subst (λ es. IsNotedWhere starved (map own.Launcher es ++ items) now) is h);
+  ups_are = λ t j. ap (λ es. up && is_one (is_begun_of t j) (newest es)) is ∙ told t j;
 }
 
 module _ (C : Config) (w s : ℕ) (events : List LauncherEvent) (before after : LauncherIs) (enters : Enters w events before.journal.past after.journal.past) (retry : C.retry ≤ GREATEST_RETRY)
@@ -162,23 +165,23 @@ module _ (C : Config) (w s : ℕ) (events : List LauncherEvent) (before after : 
   then_none : (answer : Launched) (h : Goes C w s before.journal.past before.crew.family answer after) → after.journal.past ≡ h.mid → events ≡ failed_from s 1 h.failed
   then_none answer h is = same_events w events (failed_from s 1 h.failed) before.journal.past after.journal.past enters (is ∙ fails answer h)
 
-  goes_opening : (answer : Launched) (h : Goes C w s before.journal.past before.crew.family answer after) → Ends C w s h.mid answer after → IsOpening s events (wants (Some answer))
-  goes_opening (launched.Up k) h ends = opening_is s h.failed CameUp events false (then_begun (launched.Up k) h ends.2) (λ items now noted. noted)
+  goes_opening : (answer : Launched) (h : Goes C w s before.journal.past before.crew.family answer after) → Ends C w s h.mid answer after → IsOpening s events (launch_up answer) (wants (Some answer))
+  goes_opening (launched.Up k) h ends = opening_is s h.failed CameUp events true false (then_begun (launched.Up k) h ends.2) (λ items now noted. noted) (λ t j. refl)
   goes_opening (launched.Dead n) h (inl ends) =
       let none : Some n ≡ None = sym ends.0 ∙ (fell_given C w s h.failed before.journal.past before.crew.family h.mid h.told h.fell ∙ not_dead) in
       let never : ⊥ = cc in
       absurd never
-  goes_opening (launched.Dead n) h (inr ends) = opening_is s h.failed (Died n) events false (then_one (launched.Dead n) h (event.Dead s n) ends.2) (λ items now noted. noted)
+  goes_opening (launched.Dead n) h (inr ends) = opening_is s h.failed (Died n) events false false (then_one (launched.Dead n) h (event.Dead s n) ends.2) (λ items now noted. noted) (λ t j. refl)
   goes_opening launched.Spent h ends =
       let most : begun h.mid s ≡ 1000000 = ends.0.2 in
       let least : C.retry ≤ 1000 = retry in
       let few : h.failed ≤ max C.retry 1 = fell_few C w s h.failed before.journal.past before.crew.family h.mid h.told tried h.fell in
       let next = next_is launched.Spent h in
       absurd (omega (arith, most, least, few, next))
-  goes_opening launched.NoMemory h (inl ends) = opening_is s h.failed Waited events true (then_none launched.NoMemory h ends) (λ items now noted. noted)
-  goes_opening launched.NoMemory h (inr ends) = opening_is s h.failed BrokeOff events true (then_begun launched.NoMemory h ends.1) (λ items now noted. noted)
+  goes_opening launched.NoMemory h (inl ends) = opening_is s h.failed Waited events false true (then_none launched.NoMemory h ends) (λ items now noted. noted) (λ t j. refl)
+  goes_opening launched.NoMemory h (inr ends) = opening_is s h.failed BrokeOff events false true (then_begun launched.NoMemory h ends.1) (λ items now noted. noted) (λ t j. refl)
 
-  turn_opening : (answer : Option Launched) → up_in before s ≤ begun before.journal.past s → GoesIf C w s before answer after → IsOpening s events (wants answer)
+  turn_opening : (answer : Option Launched) → up_now before s ≤ begun before.journal.past s → GoesIf C w s before answer after → IsOpening s events (launch_up_if answer) (wants answer)
   turn_opening None least h = absurd (omega (arith, begun_none, least, h.0))
   turn_opening (Some answer) least h = goes_opening answer h.1 h.1.ends
 
@@ -187,19 +190,21 @@ entries_then w [] ys = refl
 entries_then w (x ∷ xs) ys = ap (with_entry w x) (entries_then w xs ys)
 
 -- a turn of w, in which the next service is launched, and what w notes of it
-pub launch_opened : (C : Config) (w s : ℕ) (answer : Option Launched) (events : List LauncherEvent) (starved : Bool) (items mid now : List Own) (seen : List (Entry LauncherEvent)) (before after : LauncherIs) (last : List (Entry LauncherEvent)) (os : List Opening)
-    → starved ≡ wants answer → C.retry ≤ GREATEST_RETRY → InTurn C w seen before events after last → GoesIf C w s before answer after → mid ≡ map own.Launcher events ++ items → IsNotedWhere starved mid now
+pub launch_opened : (C : Config) (w s : ℕ) (answer : Option Launched) (events : List LauncherEvent) (starved : Bool) (items mid now : List Own) (seen : List Deed) (before after : LauncherIs) (last : List Deed) (os : List Opening)
+    → starved ≡ wants answer → C.retry ≤ GREATEST_RETRY → InTurn C w seen before (launch_up_if answer) false events after last → GoesIf C w s before answer after → mid ≡ map own.Launcher events ++ items → IsNotedWhere starved mid now
     → length os ≡ s → Opens w os items seen → IsAlone w last → (o : Opening) × Opens w (o ∷ os) now last
 launch_opened C w s answer events starved items mid now seen before after last os wanted retry turn goes mid_is noted many opens alone =
-    let last_is : last ≡ entries_of w events ++ before.journal.past = turn.seen_is ∙ turn.enters in
-    let there : IsAlone w before.journal.past = alone_behind w (entries_of w events) before.journal.past (subst (IsAlone w) last_is alone) in
+    let did : Deed = record { worker = w; entered = events; up = launch_up_if answer; tended = false } in
+    let there : IsAlone w turn.deeds = alone_behind w (did ∷ []) turn.deeds (subst (IsAlone w) turn.seen_is alone) in
     let grown = turn.grows in
     let none : grown.0 ≡ [] = nothing_new w grown.0 seen (subst (IsAlone w) grown.2 there) grown.1 in
-    let past_is : before.journal.past ≡ entries_of w (all_events os) = grown.2 ∙ (ap (λ more. more ++ seen) none ∙ opens.seen_is) in
+    let same_deeds : turn.deeds ≡ seen = grown.2 ∙ ap (λ more. more ++ seen) none in
+    let last_is : last ≡ did ∷ seen = turn.seen_is ∙ ap (λ deeds. did ∷ deeds) same_deeds in
+    let past_is : before.journal.past ≡ entries_of w (all_events os) = sym turn.deeds_are ∙ (ap entries same_deeds ∙ opens.seen_is) in
     let below : AllBelow s (all_events os) = subst (λ m. AllBelow m (all_events os)) many (all_below os) in
     let begun_none : begun before.journal.past s ≡ 0 = ap (λ J. begun J s) past_is ∙ unbegun w s (all_events os) below in
     let not_dead : given_up before.journal.past s ≡ None = ap (λ J. given_up J s) past_is ∙ not_given_up w s (all_events os) below in
-    let it : IsOpening s events (wants answer)
+    let it : IsOpening s events (launch_up_if answer) (wants answer)
     = turn_opening C w s events before after turn.enters retry begun_none not_dead turn.found.tried_are answer (turn.found.each s).begun_is goes in
     let here : IsNotedWhere (wants answer) (map own.Launcher events ++ items) now = subst (λ b. IsNotedWhere b (map own.Launcher events ++ items) now) wanted (subst (λ l. IsNotedWhere starved l now) mid_is noted) in
     let o = it.opening in
@@ -207,26 +212,30 @@ launch_opened C w s answer events starved items mid now seen before after last o
       o,
       record {
         items_are = it.items_are items now here ∙ λ i. same i ++ opens.items_are i;
-        seen_is = last_is
-            ∙ ((λ i. entries_of w (it.events_are i) ++ past_is i)
+        seen_is = ap entries last_is
+            ∙ ((λ i. entries_of w (it.events_are i) ++ opens.seen_is i)
             ∙ (sym (entries_then w (opening_events s o) (all_events os)) ∙ ap (λ m. entries_of w (opening_events m o ++ all_events os)) (sym many)));
+        ups_are = λ t j. ap (λ deeds. up_in deeds t j) last_is
+            ∙ ((λ i. it.ups_are t j i || opens.ups_are t j i)
+            ∙ ap (λ m. (is_up o.outcome && ((m == t) && (o.failed + 1 == j))) || ups_of os t j) (sym many));
       },
     )
 
-pub none_opened : (w : ℕ) (items : List Own) (seen : List (Entry LauncherEvent)) → items ≡ [] → seen ≡ [] → Opens w [] items seen
-none_opened w items seen p q = record { items_are = p; seen_is = q }
+pub none_opened : (w : ℕ) (items : List Own) (seen : List Deed) → items ≡ [] → seen ≡ [] → Opens w [] items seen
+none_opened w items seen p q = record { items_are = p; seen_is = ap entries q; ups_are = λ s k. ap (λ deeds. up_in deeds s k) q }
 
 -- what was seen before stays
-pub turn_behind : (C : Config) (w : ℕ) (events : List LauncherEvent) (seen : List (Entry LauncherEvent)) (before after : LauncherIs) (last : List (Entry LauncherEvent)) → InTurn C w seen before events after last → Behind seen last
-turn_behind C w events seen before after last turn =
+pub turn_behind : (C : Config) (w : ℕ) (events : List LauncherEvent) (seen : List Deed) (before after : LauncherIs) (up tended : Bool) (last : List Deed) → InTurn C w seen before up tended events after last → Behind seen last
+turn_behind C w events seen before after up tended last turn =
+    let did : Deed = record { worker = w; entered = events; up = up; tended = tended } in
     let grown = turn.grows in
-    (entries_of w events ++ grown.0, turn.seen_is ∙ (turn.enters ∙ (ap (λ l. entries_of w events ++ l) grown.2 ∙ sym (append_assoc (entries_of w events) grown.0 seen))))
+    (did ∷ grown.0, turn.seen_is ∙ ap (λ deeds. did ∷ deeds) grown.2)
 
 -- the services below s were launched
-abbrev pub OpensTo : ℕ → ℕ → List Own → List (Entry LauncherEvent) → Type 0
+abbrev pub OpensTo : ℕ → ℕ → List Own → List Deed → Type 0
 OpensTo w s items seen = IsAlone w seen → (os : List Opening) × (length os ≡ s) × Opens w os items seen
 
-pub next_opened : (w s : ℕ) (items now : List Own) (seen last : List (Entry LauncherEvent)) → Behind seen last
+pub next_opened : (w s : ℕ) (items now : List Own) (seen last : List Deed) → Behind seen last
     → ((os : List Opening) → length os ≡ s → Opens w os items seen → IsAlone w last → (o : Opening) × Opens w (o ∷ os) now last) → OpensTo w s items seen → OpensTo w (s + 1) now last
 next_opened w s items now seen last behind next before alone =
     let it = before (alone_behind w behind.0 seen (subst (IsAlone w) behind.1 alone)) in

@@ -1,5 +1,5 @@
 -- What a worker enters is what it notes: along its life the entries that name its number stay its own items.
-use Rattle.std.proofs.Common.{◌≡◌, ◌≢◌, inl, inr, ℕ, zero, suc, ◌==◌, Bool, true, false, List, [], ◌∷◌, ◌++◌, length, refl, sym, ap, ◌∙◌, subst, eq-eqb, ne_eqb, get_or}
+use Rattle.std.proofs.Common.{◌≡◌, ◌≢◌, inl, inr, ℕ, zero, suc, ◌==◌, Bool, true, false, List, [], ◌∷◌, ◌++◌, length, refl, sym, ap, ◌∙◌, subst, append-nil, eq-eqb, ne_eqb, get_or}
 use Rattle.std.proofs.lemmas.Bool.{true≢false}
 use Rattle.std.proofs.lemmas.List.{length-replicate}
 use Rattle.std.proofs.lemmas.List.Elements.{filter-append}
@@ -8,7 +8,7 @@ use Rattle.std.specs.List.{list_all}
 use mathlib.Core.Logic.{dite}
 use native.Mathlib.Decide.{ℕ_discrete}
 use Rattle.okws_base.specs.Past.{events_of}
-use Rattle.okws_base.specs.Turns.{GrowsBy}
+use Rattle.okws_base.specs.Turns.{GrowsBy, of}
 use Rattle.okws_base.specs.declared.journal.Entry.{Entry}
 use Rattle.okws_plan.specs.declared.configuration.Config.{Config}
 use Rattle.okws_plan.specs.declared.event.LauncherEvent.{LauncherEvent}
@@ -34,7 +34,7 @@ use Rattle.monitor_model.proofs.Went.{begins, dialog_went}
 use Rattle.service_cell.specs.Dialogs.{HasDialog}
 use Rattle.service_cell.specs.Standing.{Standing, speaker}
 use Rattle.site_cell.specs.Held.{by_event}
-use Rattle.cell_locks.proofs.Onlys.{new_at, only_else}
+use Rattle.cell_locks.proofs.Onlys.{only_else}
 use Rattle.cell_locks.specs.Row.{CellsSeen, OnlyAt, seen_at}
 use Rattle.service_cell.specs.declared.answer.Spoken.{Spoken}
 use Rattle.service_cell.specs.declared.answer.Spoken.TheVariants as spoken
@@ -47,6 +47,8 @@ use Rattle.site_worker.specs.Lives.{Life, Sees, Starves, number_of}
 use Rattle.site_worker.specs.Steering.{Publishes}
 use Rattle.named_columns.specs.Launched.{by_entry}
 use Rattle.turn_lock.specs.Seats.{SeatIs}
+use Rattle.okld_launch.specs.Deeds.{entries}
+use Rattle.okld_launch.specs.declared.deed.Deed.{Deed}
 use Rattle.site_run.proofs.Beside.{beside, okd_beside, pubd_beside, dialog_beside}
 use Rattle.site_run.proofs.Launched.{none_taken, none_held, rest_taken, rest_held, launches_taken, entries_own}
 use Rattle.site_run.proofs.Leaving.{cell_at, cell_went, went}
@@ -55,7 +57,7 @@ use Rattle.site_run.specs.Tied.{LifeBegins, LifeEnds, OnlyLaunches}
 
 -- what a life has seen of the columns and of the launcher's journal
 abbrev pub whole : Life → Seen
-whole J = beside J.launcher.seen J.seen
+whole J = beside (entries J.launcher.seen) J.seen
 
 -- In what a life of number w has seen, the entries that name w are its own items.
 pub record Owns (C : Config) (n w : ℕ) (J : Life) : Type 0 where
@@ -71,7 +73,7 @@ no_past zero p = refl
 no_past (suc m) zero = refl
 no_past (suc m) (suc p) = no_past m p
 
-launches_owned : (m w : ℕ) (items : List Own) (seen : List (Entry LauncherEvent)) → OnlyLaunches w items seen → OwnsEntries m w (beside seen (record (nothing_seen m) { own = items }))
+launches_owned : (m w : ℕ) (items : List Own) (seen : List Deed) → OnlyLaunches w items seen → OwnsEntries m w (beside (entries seen) (record (nothing_seen m) { own = items }))
 launches_owned m w items seen h = record {
   many = length-replicate m [];
   okd = sym (none_taken okd_item (λ e. refl) refl items h.only);
@@ -81,12 +83,16 @@ launches_owned m w items seen h = record {
   launcher = h.entered;
 }
 
-pub owns_nothing : (C : Config) (n w : ℕ) (J : Life) → LifeBegins C w J → Owns C n w J
+-- a number that has no event of a cell did nothing there
+none_done : (n w s : ℕ) (J : List CellEvent) → of (by_event n) w J ≡ [] → cell_items n w s J ≡ []
+none_done n w s J none = cell_went n w s [] J (J, none, sym (append-nil J))
+
+pub owns_nothing : (C : Config) (n w : ℕ) (J : Life) → LifeBegins C n w J → Owns C n w J
 owns_nothing C n w J h = record {
   number_is = h.cells.number_is;
   seat_is = h.seat;
-  columns = subst (λ (S : Seen). OwnsEntries (length C.proxies) w (beside J.launcher.seen S)) (sym h.seen_is) (launches_owned (length C.proxies) w J.seen.own J.launcher.seen h.launches);
-  cells = λ s. ap (cell_items n w s) (new_at (length C.services) w s J.cells h.cells) ∙ sym (none_held (is_at_cell s) (λ e. refl) refl J.seen.own h.launches.only);
+  columns = subst (λ (S : Seen). OwnsEntries (length C.proxies) w (beside (entries J.launcher.seen) S)) (sym h.seen_is) (launches_owned (length C.proxies) w J.seen.own J.launcher.seen h.launches);
+  cells = λ s. none_done n w s (seen_at J.cells s) (h.cells.none s) ∙ sym (none_held (is_at_cell s) (λ e. refl) refl J.seen.own h.launches.only);
 }
 
 -- ---- what is noted beside the columns
@@ -133,17 +139,17 @@ at_cell_of s taken items t h = filter-append (is_at_cell s) taken items ∙ ap (
 -- ---- one step of a life
 
 -- where the seat at the launcher stays as it is
-whole_then : {m w : ℕ} (J K : Life) (now : Seen) → K.launcher ≡ J.launcher → K.seen ≡ now → OwnsEntries m w (beside J.launcher.seen now) → OwnsEntries m w (whole K)
+whole_then : {m w : ℕ} (J K : Life) (now : Seen) → K.launcher ≡ J.launcher → K.seen ≡ now → OwnsEntries m w (beside (entries J.launcher.seen) now) → OwnsEntries m w (whole K)
 whole_then {m} {w} J K now seat seen h =
-    subst (λ (S : Seen). OwnsEntries m w (beside K.launcher.seen S)) (sym seen) (subst (λ (x : SeatIs (Entry LauncherEvent)). OwnsEntries m w (beside x.seen now)) (sym seat) h)
+    subst (λ (S : Seen). OwnsEntries m w (beside (entries K.launcher.seen) S)) (sym seen) (subst (λ (x : SeatIs Deed). OwnsEntries m w (beside (entries x.seen) now)) (sym seat) h)
 
 module _ (C : Config) (n w : ℕ) where
   -- where nothing was done at the cells
-  pub sees_owned : (J K : Life) (now : Seen) → Sees now J K → OwnsEntries (length C.proxies) w (beside J.launcher.seen now) → ((s : ℕ) → filter (is_at_cell s) now.own ≡ filter (is_at_cell s) J.seen.own)
+  pub sees_owned : (J K : Life) (now : Seen) → Sees now J K → OwnsEntries (length C.proxies) w (beside (entries J.launcher.seen) now) → ((s : ℕ) → filter (is_at_cell s) now.own ≡ filter (is_at_cell s) J.seen.own)
       → Owns C n w J → Owns C n w K
   sees_owned J K now h columns same o = record {
     number_is = ap (λ (x : CellsSeen). x.number) h.cells_is ∙ o.number_is;
-    seat_is = ap (λ (x : SeatIs (Entry LauncherEvent)). x.number) h.launcher_is ∙ o.seat_is;
+    seat_is = ap (λ (x : SeatIs Deed). x.number) h.launcher_is ∙ o.seat_is;
     columns = whole_then J K now h.launcher_is h.seen_is columns;
     cells = λ s. ap (λ (x : CellsSeen). cell_items n w s (seen_at x s)) h.cells_is ∙ (o.cells s ∙ (sym (same s) ∙ sym (ap (λ (S : Seen). filter (is_at_cell s) S.own) h.seen_is)));
   }
@@ -162,7 +168,7 @@ module _ (C : Config) (n w : ℕ) where
       pubd = o.columns.pubd ∙ sym (rest_taken pubd_item (λ e. refl) refl events J.seen.own);
       oklogd = o.columns.oklogd ∙ sym (rest_taken log_item (λ e. refl) refl events J.seen.own);
       launcher = ap (events_of w) h.enters ∙ (entries_own w J.launcher.number events h.before o.seat_is
-          ∙ (ap (λ (l : List LauncherEvent). events ++ l) (went w J.launcher.seen h.before (subst (λ v. GrowsBy by_entry v J.launcher.seen h.before) o.seat_is h.grows) ∙ o.columns.launcher)
+          ∙ (ap (λ (l : List LauncherEvent). events ++ l) (went w (entries J.launcher.seen) h.before (subst (λ v. GrowsBy by_entry v (entries J.launcher.seen) h.before) o.seat_is h.grows) ∙ o.columns.launcher)
           ∙ sym (launches_taken events J.seen.own)));
     };
     cells = λ s. o.cells s ∙ sym (rest_held (is_at_cell s) (λ e. refl) refl events J.seen.own);
@@ -171,7 +177,7 @@ module _ (C : Config) (n w : ℕ) where
   accepts_owned : (path : List ℕ) (goes : Way) (J K : Life) → Accepts C path goes J K → Owns C n w J → Owns C n w K
   accepts_owned path goes J K h o =
       let enters = subst (λ v. AtOkd v (okd.Accept path) J.seen h.before K.seen) o.number_is h.enters in
-      let l = J.launcher.seen in
+      let l = entries J.launcher.seen in
       sees_owned J K K.seen h.rest (okd_keeps (length C.proxies) w (okd.Accept path) (whole J) h.before (beside l K.seen) (okd_beside l w (okd.Accept path) J.seen h.before K.seen enters) o.columns)
       (λ s. ap (λ (S : Seen). filter (is_at_cell s) S.own) enters.1) o
 
@@ -210,14 +216,14 @@ module _ (C : Config) (n w : ℕ) where
     number_then = ap (λ (x : CellsSeen). x.number) only ∙ o.number_is
 
     seat_then : K.launcher.number ≡ w
-    seat_then = ap (λ (x : SeatIs (Entry LauncherEvent)). x.number) seat ∙ o.seat_is
+    seat_then = ap (λ (x : SeatIs Deed). x.number) seat ∙ o.seat_is
 
     grown : GrowsBy (by_event n) w (seen_at J.cells s) b.past
     grown = subst (λ v. GrowsBy (by_event n) v (seen_at J.cells s) b.past) o.number_is grows
 
     dialog_owned : (head content : List ℕ) (items : List Item) (how : End) → HasDialog (asker_of C J) head content b J.seen items how a K.seen → Owns C n w K
     dialog_owned head content items how h =
-        let l = J.launcher.seen in
+        let l = entries J.launcher.seen in
         let I = noted J.seen (own.Dialog b.service) in
         let who = speaker b (number_of J) in
         let start = subst (λ v. OwnsEntries (length C.proxies) v (whole J)) (sym o.number_is) o.columns in
@@ -273,7 +279,7 @@ module _ (C : Config) (n w : ℕ) where
   publishes_owned : (J : Life) (t : ℕ) (content : List ℕ) (p : Publishing) (K : Life) → Publishes J t content p K → Owns C n w J → Owns C n w K
   publishes_owned J t content (publishing.Edition m) K h o =
       let enters = subst (λ v. AtPubd v (pubd.Publish t content) J.seen h.0 K.seen) o.number_is h.2 in
-      let l = J.launcher.seen in
+      let l = entries J.launcher.seen in
       sees_owned J K K.seen h.3 (pubd_keeps (length C.proxies) w (pubd.Publish t content) (whole J) h.0 (beside l K.seen) (pubd_beside l w (pubd.Publish t content) J.seen h.0 K.seen enters) o.columns) (λ s. ap (λ (S : Seen). filter (is_at_cell s) S.own) enters.1) o
   publishes_owned J t content publishing.EditionsSpent K h o = sees_owned J K J.seen h.1 o.columns (λ s. refl) o
   publishes_owned J t content publishing.NoMemory K (inl h) o = starves_owned J K h o
@@ -286,14 +292,14 @@ module _ (C : Config) (n w : ℕ) where
 -- ---- at last
 
 -- what a life owned is what the record has of its number
-pub owned_then : (C : Config) (n w : ℕ) (J : Life) (R : Record) → Owns C n w J → LifeEnds n w J R → IsOwn R n w (list_of R w)
-owned_then C n w J R o l =
+pub owned_then : (C : Config) (n w : ℕ) (J : Life) (R : Record) (ended : ℕ → ℕ → Bool) → Owns C n w J → LifeEnds n w J R ended → IsOwn R n w (list_of R w)
+owned_then C n w J R ended o l =
     let columns = tied.ends_are_own R (length C.proxies) w (whole J) o.columns (record { okd = l.columns.okd; proxies = l.columns.proxies; pubd = l.columns.pubd; oklogd = l.columns.oklogd }) in
     subst (IsOwn R n w) l.own_is (record {
       okd = columns.okd;
       proxies = columns.proxies;
       pubd = columns.pubd;
       oklogd = columns.oklogd;
-      launchers = others_leave_entries w J.launcher.seen R.launcher l.launcher ∙ o.columns.launcher;
+      launchers = others_leave_entries w (entries J.launcher.seen) R.launcher l.launcher ∙ o.columns.launcher;
       cells = λ s. cell_went n w s (get_or J.cells.cells s []) (get_or R.cells s []) (cell_at n w J.cells.cells R.cells l.cells s) ∙ o.cells s;
     })

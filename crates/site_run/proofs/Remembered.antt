@@ -1,5 +1,5 @@
 -- What a worker noted and saw at the launcher stays at the beginning of its list, and of what it has seen there.
-use Rattle.std.proofs.Common.{◌≡◌, ◌∙◌, inl, inr, ℕ, List, [], ◌∷◌, ◌++◌, length, map, refl, sym, ap, subst, append_assoc}
+use Rattle.std.proofs.Common.{◌≡◌, ◌∙◌, inl, inr, ℕ, Bool, true, List, [], ◌∷◌, ◌++◌, length, map, refl, sym, ap, subst, append_assoc}
 use Rattle.okws_base.specs.Turns.{Behind}
 use Rattle.okws_base.specs.declared.journal.Entry.{Entry}
 use Rattle.okws_plan.specs.declared.configuration.Config.{Config}
@@ -13,6 +13,7 @@ use Rattle.monitor_model.specs.declared.record.Own.{Own}
 use Rattle.monitor_model.specs.declared.record.Own.TheVariants as own
 use Rattle.monitor_model.specs.declared.record.Record.{Record}
 use Rattle.monitor_model.specs.declared.verdict.Way.{Way}
+use Rattle.monitor_model.specs.Launcher.{LauncherLaw}
 use Rattle.monitor_model.specs.Merged.{list_of}
 use Rattle.monitor_model.specs.Seen.{Seen, noted}
 use Rattle.monitor_model.specs.Tied.{OwnsEntries}
@@ -24,19 +25,23 @@ use Rattle.service_cell.specs.declared.answer.Spoken.TheVariants as spoken
 use Rattle.door_worker.specs.Asking.{Asked}
 use Rattle.admin_console.specs.declared.controls.Publishing.{Publishing}
 use Rattle.admin_console.specs.declared.controls.Publishing.TheVariants as publishing
-use Rattle.okld_launch.specs.Entering.{entries_of}
+use Rattle.monitor_model.specs.Causes.{has_up}
+use Rattle.okld_launch.specs.Deeds.{entries, up_in}
+use Rattle.okld_launch.proofs.Deeds.{entries_behind, entries_both}
 use Rattle.site_worker.specs.Handling.{Accepts, Talks, asker_of}
 use Rattle.site_worker.specs.Launching.{TakesTurn}
-use Rattle.site_worker.specs.Lives.{Life, Sees, Starves, number_of}
+use Rattle.site_worker.specs.Lives.{Life, Starves, number_of}
 use Rattle.site_worker.specs.Steering.{Publishes}
 use Rattle.turn_lock.specs.Seats.{SeatIs}
+use Rattle.okld_launch.specs.declared.deed.Deed.{Deed}
 use Rattle.site_run.proofs.Beside.{beside, dialog_beside}
+use Rattle.site_run.proofs.Once.{begun_later, ups_same}
 use Rattle.site_run.proofs.Owning.{Owns, owns_kept, owns_nothing}
 use Rattle.site_run.proofs.Rounding.{IsKept}
-use Rattle.site_run.specs.Tied.{LifeBegins, LifeEnds}
+use Rattle.site_run.specs.Tied.{LifeBegins, LifeEnds, has_begun}
 
 -- It has noted these items, and seen this at the launcher, before all else.
-pub record Remembers (C : Config) (n w : ℕ) (items : List Own) (seen : List (Entry LauncherEvent)) (J : Life) : Type 0 where
+pub record Remembers (C : Config) (n w : ℕ) (items : List Own) (seen : List Deed) (J : Life) : Type 0 where
   pub owns : Owns C n w J
   pub items_are : Behind items J.seen.own
   pub seen_is : Behind seen J.launcher.seen
@@ -44,16 +49,16 @@ pub record Remembers (C : Config) (n w : ℕ) (items : List Own) (seen : List (E
 pub behind_more : {A : Type 0} (I J K more : List A) → Behind I J → K ≡ more ++ J → Behind I K
 behind_more I J K more h is = (more ++ h.0, is ∙ (ap (λ l. more ++ l) h.1 ∙ sym (append_assoc more h.0 I)))
 
-pub remembers_first : (C : Config) (n w : ℕ) (J : Life) → LifeBegins C w J → Remembers C n w J.seen.own J.launcher.seen J
+pub remembers_first : (C : Config) (n w : ℕ) (J : Life) → LifeBegins C n w J → Remembers C n w J.seen.own J.launcher.seen J
 remembers_first C n w J h = record { owns = owns_nothing C n w J h; items_are = ([], refl); seen_is = ([], refl) }
 
-module _ (C : Config) (n w : ℕ) (items : List Own) (seen : List (Entry LauncherEvent)) where
+module _ (C : Config) (n w : ℕ) (items : List Own) (seen : List Deed) where
   -- where its seat at the launcher stays as it is
   noted_more : (J K : Life) (more : List Own) → K.launcher ≡ J.launcher → K.seen.own ≡ more ++ J.seen.own → Owns C n w K → Remembers C n w items seen J → Remembers C n w items seen K
   noted_more J K more seat is owns r = record {
     owns = owns;
     items_are = behind_more items J.seen.own K.seen.own more r.items_are is;
-    seen_is = subst (λ (x : SeatIs (Entry LauncherEvent)). Behind seen x.seen) (sym seat) r.seen_is;
+    seen_is = subst (λ (x : SeatIs Deed). Behind seen x.seen) (sym seat) r.seen_is;
   }
 
   starves_more : (J K : Life) → Starves J K → Remembers C n w items seen J → Remembers C n w items seen K
@@ -61,10 +66,10 @@ module _ (C : Config) (n w : ℕ) (items : List Own) (seen : List (Entry Launche
 
   turns_more : (events : List LauncherEvent) (J K : Life) → TakesTurn events J K → Remembers C n w items seen J → Remembers C n w items seen K
   turns_more events J K h r =
-      let grown = h.grows in record {
+      let turn : Deed = record { worker = J.launcher.number; entered = events; up = h.up; tended = h.tended } in record {
         owns = (owns_kept C n w).turns events J K h r.owns;
         items_are = behind_more items J.seen.own K.seen.own (map own.Launcher events) r.items_are (ap (λ (L : Life). L.seen.own) h.only);
-        seen_is = behind_more seen h.before K.launcher.seen (entries_of J.launcher.number events) (behind_more seen J.launcher.seen h.before grown.0 r.seen_is grown.2) h.enters;
+        seen_is = behind_more seen h.deeds K.launcher.seen (turn ∷ []) (behind_more seen J.launcher.seen h.deeds h.others.0 r.seen_is h.others.2) h.did;
       }
 
   accepts_more : (path : List ℕ) (goes : Way) (J K : Life) → Accepts C path goes J K → Remembers C n w items seen J → Remembers C n w items seen K
@@ -83,7 +88,7 @@ module _ (C : Config) (n w : ℕ) (items : List Own) (seen : List (Entry Launche
   dialog_noted : (J : Life) (b : Standing) (head content : List ℕ) (said : List Item) (how : End) (a : Standing) (now : Seen) → HasDialog (asker_of C J) head content b J.seen said how a now → Owns C n w J
       → (taken : List Own) × (now.own ≡ taken ++ own.Dialog b.service ∷ J.seen.own)
   dialog_noted J b head content said how a now h o =
-      let l = J.launcher.seen in
+      let l = entries J.launcher.seen in
       let I = noted J.seen (own.Dialog b.service) in
       let who = speaker b (number_of J) in
       let start : OwnsEntries (length C.proxies) (number_of J) (beside l J.seen) = subst (λ v. OwnsEntries (length C.proxies) v (beside l J.seen)) (sym o.number_is) o.columns in
@@ -113,7 +118,14 @@ module _ (C : Config) (n w : ℕ) (items : List Own) (seen : List (Entry Launche
   remembers_kept = record { starves = starves_more; turns = turns_more; accepts = accepts_more; talks = talks_more; publishes = publishes_more }
 
   -- and so it stands in the record
-  pub remembered : (K : Life) (R : Record) → Remembers C n w items seen K → LifeEnds n w K R → Behind items (list_of R w) × Behind seen R.launcher
-  remembered K R r l =
+  pub remembered : (K : Life) (R : Record) (ended : ℕ → ℕ → Bool) → Remembers C n w items seen K → LifeEnds n w K R ended → Behind items (list_of R w) × Behind (entries seen) R.launcher
+  remembered K R ended r l =
       let grown = l.launcher in
-      (subst (Behind items) l.own_is r.items_are, behind_more seen K.launcher.seen R.launcher grown.0 r.seen_is grown.2)
+      (subst (Behind items) l.own_is r.items_are, behind_more (entries seen) (entries K.launcher.seen) R.launcher grown.0 (entries_behind seen K.launcher.seen r.seen_is) grown.2)
+
+  -- and what was begun in what it saw has its Up there just where it came up by that
+  pub ups_remembered : (K : Life) (R : Record) (ended : ℕ → ℕ → Bool) → LauncherLaw C (entries K.launcher.seen) → Remembers C n w items seen K → LifeEnds n w K R ended → (s k : ℕ) → has_begun (entries seen) s k ≡ true → has_up R s k ≡ up_in seen s k
+  ups_remembered K R ended law r l s k begun =
+      let there : has_begun (entries K.launcher.seen) s k ≡ true
+      = ap (λ (deeds : List Deed). has_begun (entries deeds) s k) r.seen_is.1 ∙ (ap (λ (J : List (Entry LauncherEvent)). has_begun J s k) (entries_both r.seen_is.0 seen) ∙ begun_later s k (entries r.seen_is.0) (entries seen) begun) in
+      l.ups s k there ∙ ups_same C s k seen K.launcher.seen law r.seen_is begun

@@ -1,5 +1,5 @@
 -- What holds of a worker's life at first and is kept by each thing that a worker does holds of it at last: in all rounds at its door, and in all commands at the console.
-use Rattle.std.proofs.Common.{◌≡◌, ◌∙◌, inl, inr, ℕ, ◌%◌, Bool, true, false, List, [], ◌∷◌, length, sym, subst}
+use Rattle.std.proofs.Common.{◌≡◌, ◌∙◌, ap, inl, inr, ℕ, ◌%◌, Bool, true, false, List, [], ◌∷◌, length, sym, subst}
 use Rattle.std.specs.Prelude.{Some, None}
 use Rattle.std.specs.declared.option.Option.{Option}
 use Rattle.okws_plan.specs.declared.configuration.Config.{Config}
@@ -25,9 +25,11 @@ use Rattle.admin_console.specs.declared.step.Stepped.{Stepped}
 use Rattle.admin_console.specs.declared.step.Stepped.TheVariants as stepped
 use Rattle.service_cell.specs.declared.answer.Spoken.{Spoken}
 use Rattle.service_cell.specs.declared.answer.Spoken.TheVariants as spoken
+use Rattle.okld_launch.specs.Deeds.{entries}
 use Rattle.okld_launch.specs.Launchers.{LauncherIs}
 use Rattle.okld_launch.specs.Turns.{InTurn}
 use Rattle.okld_launch.specs.declared.answer.Launched.{Launched}
+use Rattle.okld_launch.proofs.Deeds.{entries_grow}
 use Rattle.site_worker.specs.Commands.{Commands, Oversees, StepsAt}
 use Rattle.site_worker.specs.Handling.{Accepts, Follows, Goes, Handles, Talks}
 use Rattle.site_worker.specs.Launching.{Asks, OnlyLauncher, Reports, TakesTurn, Tends}
@@ -55,17 +57,27 @@ module _ (C : Config) (n : ℕ) (P : Life → Type 0) (kept : IsKept C n P) wher
 
   -- ---- the launcher's turns
 
-  turned : (events : List LauncherEvent) (J K : Life) (b a : LauncherIs) → OnlyLauncher events J K → InTurn C J.launcher.number J.launcher.seen b events a K.launcher.seen → TakesTurn events J K
-  turned events J K b a only t = record { before = b.journal.past; grows = t.grows; enters = t.seen_is ∙ t.enters; only = only }
+  turned : (up tended : Bool) (events : List LauncherEvent) (J K : Life) (b a : LauncherIs) → OnlyLauncher events J K → InTurn C J.launcher.number J.launcher.seen b up tended events a K.launcher.seen → TakesTurn events J K
+  turned up tended events J K b a only t = record {
+    before = entries t.deeds;
+    grows = entries_grow J.launcher.number J.launcher.seen t.deeds t.grows;
+    enters = ap entries t.seen_is;
+    only = only;
+    up = up;
+    tended = tended;
+    deeds = t.deeds;
+    others = t.grows;
+    did = t.seen_is;
+  }
 
   reports : (s k : ℕ) (J K : Life) → Reports C s k J K → P J → P K
-  reports s k J K h p = let t = h.reports in where_starved _ h.mid K h.notes (kept.turns h.events J h.mid (turned h.events J h.mid t.before t.after h.only t.turn) p)
+  reports s k J K h p = let t = h.reports in where_starved _ h.mid K h.notes (kept.turns h.events J h.mid (turned _ _ h.events J h.mid t.before t.after h.only t.turn) p)
 
   tends : (s : ℕ) (J K : Life) → Tends C s J K → P J → P K
-  tends s J K h p = let t = h.tends in where_starved _ h.mid K h.notes (kept.turns h.events J h.mid (turned h.events J h.mid t.before t.after h.only t.turn) p)
+  tends s J K h p = let t = h.tends in where_starved _ h.mid K h.notes (kept.turns h.events J h.mid (turned _ _ h.events J h.mid t.before t.after h.only t.turn) p)
 
   asks : (s : ℕ) (answer : Launched) (J K : Life) → Asks C s answer J K → P J → P K
-  asks s answer J K h p = let t = h.relaunches in where_starved _ h.mid K h.notes (kept.turns h.events J h.mid (turned h.events J h.mid t.before t.after h.only t.turn) p)
+  asks s answer J K h p = let t = h.relaunches in where_starved _ h.mid K h.notes (kept.turns h.events J h.mid (turned _ _ h.events J h.mid t.before t.after h.only t.turn) p)
 
   -- ---- a request
 

@@ -1,5 +1,5 @@
 -- What a worker's dialogs were shown on the board is no more than the worker has seen there; and none of its dialogs lacks its end.
-use Rattle.std.proofs.Common.{◌≡◌, inl, inr, ℕ, ◌≤◌, List, [], ◌∷◌, ◌++◌, length, sym, ap, ◌∙◌, subst, arith}
+use Rattle.std.proofs.Common.{◌≡◌, inl, inr, ℕ, ◌≤◌, List, [], ◌∷◌, ◌++◌, length, sym, ap, ◌∙◌, subst, append-nil, arith}
 use Rattle.std.specs.Prelude.{slice_index}
 use mathlib.Core.Logic.{dite}
 use native.Mathlib.Decide.{ℕ_discrete}
@@ -25,7 +25,7 @@ use Rattle.service_cell.specs.Steps.{crash_end}
 use Rattle.site_cell.specs.Held.{by_event}
 use Rattle.admin_console.specs.declared.controls.Publishing.{Publishing}
 use Rattle.admin_console.specs.declared.controls.Publishing.TheVariants as publishing
-use Rattle.cell_locks.proofs.Onlys.{new_at, only_else}
+use Rattle.cell_locks.proofs.Onlys.{only_else}
 use Rattle.cell_locks.specs.Row.{CellsSeen, OnlyAt, seen_at}
 use Rattle.service_cell.specs.declared.answer.Spoken.{Spoken}
 use Rattle.service_cell.specs.declared.answer.Spoken.TheVariants as spoken
@@ -90,10 +90,10 @@ grown_shown n w top I J g h = subst (Each (OwnShown w top)) (sym g.2) (others_sh
 
 -- ---- a life
 
-pub shows_nothing : (C : Config) (w : ℕ) (J : Life) → LifeBegins C w J → Shows w J
-shows_nothing C w J h = record {
+pub shows_nothing : (C : Config) (n w : ℕ) (J : Life) → LifeBegins C n w J → Shows w J
+shows_nothing C n w J h = record {
   number_is = h.cells.number_is;
-  shown = λ s. subst (Each (OwnShown w (slice_index J.board s))) (sym (new_at (length C.services) w s J.cells h.cells)) tt;
+  shown = λ s. grown_shown n w (slice_index J.board s) [] (seen_at J.cells s) (seen_at J.cells s, h.cells.none s, sym (append-nil (seen_at J.cells s))) tt;
 }
 
 rises_at : (old new : List ℕ) (s : ℕ) → Rises old new → slice_index old s ≤ slice_index new s

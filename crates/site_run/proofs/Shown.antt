@@ -35,8 +35,8 @@ abbrev pub ShownBy : Record → ℕ → Type 0
 ShownBy R w = (s : ℕ) → s < length R.cells → Each (OwnShown w (begun R.launcher s)) (cell_past R s)
 
 -- of a worker whose life ended in the record
-pub shown_then : (n w : ℕ) (J : Life) (R : Record) → Shows w J → LifeEnds n w J R → ShownBy R w
-shown_then n w J R o l = λ s u.
+pub shown_then : (n w : ℕ) (J : Life) (R : Record) (ended : ℕ → ℕ → Bool) → Shows w J → LifeEnds n w J R ended → ShownBy R w
+shown_then n w J R ended o l = λ s u.
     grown_shown n w (begun R.launcher s) (seen_at J.cells s) (cell_past R s) (cell_at n w J.cells.cells R.cells l.cells s)
     (each_more w (slice_index J.board s) (begun R.launcher s) (seen_at J.cells s) (l.board s u) (o.shown s))
 

@@ -11,7 +11,7 @@ use Rattle.monitor_model.specs.Columns.{faults}
 use Rattle.monitor_model.specs.Logd.{log_text}
 use Rattle.monitor_model.specs.Proxy.{rows}
 use Rattle.log_daemon.specs.Seen.{IsFront}
-use Rattle.site_run.specs.Keepers.{KeeperIs}
+use Rattle.site_making.specs.Keepers.{KeeperIs}
 
 -- The log's sink was given the text of oklogd's journal; or a front of it, where its count of faults rose.
 pub record WritesLog (C : Config) (J : List (Entry LogEvent)) (given : Option (List ℕ)) (before after : ℕ) (failed : Bool) : Type 0 where

@@ -1,5 +1,3 @@
-pub mod Keepers
-pub mod Making
 pub mod Rooms
 pub mod Rows
 pub mod Places
@@ -8,3 +6,5 @@ pub mod Closing
 pub mod Whole
 pub mod Tied
 pub mod Opening
+pub mod Meeting
+pub mod Pieced

@@ -1,24 +1,23 @@
 -- The seats of a run's workers in rows, by their numbers.
 use Rattle.std.specs.Prelude.{◌≡◌, ◌≤◌, ℕ, suc, List, [], ◌∷◌, length}
-use Rattle.okws_base.specs.declared.journal.Entry.{Entry}
-use Rattle.okws_plan.specs.declared.event.LauncherEvent.{LauncherEvent}
 use Rattle.turn_lock.specs.Rows.{RestsAt}
 use Rattle.turn_lock.specs.Seats.{TurnIs, SeatIs}
 use Rattle.cell_locks.specs.Row.{CellsSeen}
 use Rattle.site_locks.specs.Sat.{Sat}
 use Rattle.site_worker.specs.Lives.{Life, number_of}
+use Rattle.okld_launch.specs.declared.deed.Deed.{Deed}
 
 -- The seats of numbers in a row, and for how many there is room.
 pub record ChairsAre : Type 0 where
   pub seats : List Sat
   pub cells : List CellsSeen
-  pub turns : List (SeatIs (Entry LauncherEvent))
+  pub turns : List (SeatIs Deed)
   pub seats_room : ℕ
   pub cells_room : ℕ
   pub turns_room : ℕ
 
 -- The seats of number k at the columns, at so many cells and at the launcher's lock, where it rests.
-pub record IsChair (t : TurnIs) (cells k : ℕ) (s : Sat) (c : CellsSeen) (a : SeatIs (Entry LauncherEvent)) : Type 0 where
+pub record IsChair (t : TurnIs) (cells k : ℕ) (s : Sat) (c : CellsSeen) (a : SeatIs Deed) : Type 0 where
   pub sat_number : s.number ≡ k
   pub cells_number : c.number ≡ k
   pub cells_are : length c.cells ≡ cells
@@ -26,7 +25,7 @@ pub record IsChair (t : TurnIs) (cells k : ℕ) (s : Sat) (c : CellsSeen) (a : S
   pub rests : RestsAt t a
 
 -- The same of numbers that rise by one from k.
-abbrev pub AreChairs : TurnIs → ℕ → ℕ → List Sat → List CellsSeen → List (SeatIs (Entry LauncherEvent)) → Type 0
+abbrev pub AreChairs : TurnIs → ℕ → ℕ → List Sat → List CellsSeen → List (SeatIs Deed) → Type 0
 AreChairs t cells k [] [] [] = Unit {0}
 AreChairs t cells k [] [] (a ∷ as') = ⊥
 AreChairs t cells k [] (c ∷ cs) as' = ⊥

@@ -1,9 +1,11 @@
 //! Closing the locks of a run's columns, cells and launcher.
 
-ghost use Rattle.std.specs.Prelude.{◌≡◌, ◌≤◌, ◌<◌, ◌+◌, ℕ, List, [], length, map, reverse, slice_index, vec_len, vec_capacity};
-ghost use Rattle.okws_base.specs.Turns.{of};
+ghost use Rattle.std.specs.List.{list_any};
+ghost use Rattle.std.specs.Prelude.{◌≡◌, ◌≤◌, ◌<◌, ◌+◌, ℕ, IsTrue, List, [], length, map, reverse, slice_index, vec_len, vec_capacity};
+ghost use Rattle.okws_base.specs.Turns.{of, Behind};
 ghost use Rattle.cell_locks.specs.Closing.{AllCellsGrow, HasNumber};
 ghost use Rattle.launch_crew.specs.Coming.{came_up};
+ghost use Rattle.launch_crew.specs.Ended.{ended_at};
 ghost use Rattle.launch_crew.specs.Recorded.{AreOwn};
 ghost use Rattle.log_daemon.specs.Stopped.{is_stopped};
 ghost use Rattle.monitor_model.specs.Columns.{OkdLaw, PubdLaw, LogLaw};
@@ -13,19 +15,21 @@ ghost use Rattle.named_columns.specs.Counts.{capped, accepts, ups, publications,
 ghost use Rattle.named_columns.specs.Held.{HeldProxy};
 ghost use Rattle.named_columns.specs.Launched.{by_entry, LaunchedBy};
 ghost use Rattle.okld_launch.specs.Causing.{AllCaused};
+ghost use Rattle.okld_launch.specs.Deeds.{by_deed, ended_in, entries, up_in};
 ghost use Rattle.okld_launch.specs.Failures.{FailuresAreTold};
+ghost use Rattle.okld_launch.specs.Kin.{AreKin};
+ghost use Rattle.site_run.specs.Pieced.{EndsWhole};
 ghost use Rattle.site_cell.specs.Held.{by_event};
 ghost use Rattle.site_locks.specs.Closing.{AllSaw, SomeIs};
 ghost use Rattle.site_locks.specs.Sat.{RiseFrom};
 ghost use Rattle.turn_lock.specs.Rows.{AllCount, NoneFrom};
 ghost use Rattle.turn_lock.specs.Seats.{AllClosed, AllRest, SomeHas};
 ghost use Rattle.site_run.specs.Journals.{AllProxies, AllCells};
-ghost use Rattle.site_run.specs.Keepers.{keeper_of};
+ghost use Rattle.site_making.specs.Keepers.{keeper_of};
 ghost use Rattle.site_run.specs.Rooms.{HasRoom};
 ghost use Rattle.site_run.specs.Closing.{AllKept, WritesLog};
 ghost use Rattle.site_run.specs.Tied.{ColumnsGrown, AreLists};
 
-use crate::order::turned;
 use cell_locks::closing::close_cells;
 use cell_locks::locks::CellLocks;
 use cell_locks::named::CellNames;
@@ -39,9 +43,11 @@ use named_columns::named::Backed;
 use named_columns::okd::SiteOkd;
 use named_columns::proxy::SiteProxy;
 use named_columns::pubd::SitePubd;
-use okld_launch::launcher::Launcher;
+use okld_launch::deed::Deed;
 use okld_launch::named::Staffed;
+use okld_launch::resting::Resting;
 use okws_base::journal::{Entry, Past};
+use okws_base::told::Told;
 use okws_outer::children::Children;
 use okws_outer::keeper::Keeper;
 use okws_outer::stream::{Link, Sink};
@@ -50,6 +56,8 @@ use site_cell::cell::SiteCell;
 use site_locks::closing::close;
 use site_locks::locks::{Locks, Seats};
 use site_locks::named::Site;
+use site_locks::note::OkdNote;
+use site_making::order::turned;
 use std::marker::Model;
 use std::sync::Wait;
 use turn_lock::{Seat, Turn};
@@ -297,11 +305,13 @@ pub(crate) fn end_cells<N: Backed, C: CellNames, L: Link + Drop>(
 /// The launcher's journal, and what its crew left.
 pub(crate) struct LauncherEnd<N: Staffed, J: Site, C: CellNames, K: Keeper, S: Sink, F: Children> {
     pub(crate) past: Past<Entry<LauncherEvent>>,
+    pub(crate) deeds: Told<Deed>,
     pub(crate) stopped: Stopped<N, J, C, K, S, F>,
 }
 
 /// Ends the launcher's lock by the workers' seats at it, and stops and finishes all children, of which a fault
-/// was told for each Failed of the launcher's journal.
+/// was told for each Failed of the launcher's journal. The launcher's list is whole pieces, and then what
+/// retired the cells. Its seat at okd takes in this note.
 pub(crate) fn end_launcher<
     R: Wait,
     N: Staffed,
@@ -312,24 +322,37 @@ pub(crate) fn end_launcher<
     F: Children,
 >(
     rt: &R,
+    locks: &Locks<N, J, K, S>,
     cells: &CellLocks<N, C, F::Link>,
-    turn: Turn<Launcher<N, J, C, K, S, F>>,
-    turns: Vec<Seat<Launcher<N, J, C, K, S, F>>>,
+    turn: Turn<Resting<N, J, C, K, S, F>>,
+    turns: Vec<Seat<Resting<N, J, C, K, S, F>>>,
+    okd: OkdNote<N, J>,
 ) -> LauncherEnd<N, J, C, K, S, F>
     requires some { 0 < vec_len turns }
     requires rest { AllRest turn.id turns.items }
     requires all { (k : ℕ) → k < turn.count → SomeHas k turns.items }
     ensures law { LauncherLaw N.site result.past }
-    ensures none { (k : ℕ) → turn.count ≤ k → of by_entry k result.past ≡ [] }
+    ensures entries { result.past ≡ entries result.deeds.past }
+    ensures none { (k : ℕ) → turn.count ≤ k → of by_deed k result.deeds.past ≡ [] }
     ensures numbers { (result.stopped.seats.number ≡ N.launcher) × (result.stopped.cells.number ≡ N.launcher) }
-    ensures grown { AllClosed by_entry turns.items result.past }
+    ensures grown { AllClosed by_deed turns.items result.deeds.past }
+    ensures met { Behind okd result.stopped.seats.okd }
     ensures shown { (s : ℕ) → s < length N.site.services → slice_index result.stopped.seats.board s ≡ begun result.past s }
     ensures own { AreOwn N.launcher result.stopped.seats result.stopped.cells result.stopped.own }
+    ensures whole { EndsWhole N.site N.run_seed (up_in result.deeds.past) result.past result.stopped.cells.cells result.stopped.own }
+    ensures ended { (s k : ℕ) → IsTrue (ended_in result.deeds.past s k) → IsTrue (list_any (ended_at s k) (F.family result.stopped.children).finished) }
     ensures failed { FailuresAreTold N.children result.past (F.family result.stopped.children) }
+    ensures kin { AreKin N.site N.run_seed N.children result.stopped.cells [] (F.family result.stopped.children) }
     ensures caused { AllCaused (came_up result.stopped.seats) result.past result.past }
 {
     let launcher = turn.close(turns);
-    let (past, crew) = launcher.close();
-    let stopped = crew.stop_all(rt, cells);
-    LauncherEnd { past, stopped }
+    let (past, crew, deeds) = launcher.close();
+    crew.recorder.keeps();
+    let mut stopped = crew.stop_all(rt, cells);
+    stopped.seats.meet_okd(locks, okd);
+    LauncherEnd {
+        past,
+        deeds,
+        stopped,
+    }
 }

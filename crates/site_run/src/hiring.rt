@@ -8,24 +8,24 @@ ghost use Rattle.site_locks.specs.Made.{fresh};
 ghost use Rattle.turn_lock.specs.Seats.{AreFresh};
 ghost use Rattle.okld_launch.specs.Launchers.{ArePapers};
 
-use crate::order::turned;
 use cell_locks::named::CellNames;
 use cell_locks::seats::CellSeats;
-use okld_launch::launcher::Launcher;
 use okld_launch::named::Staffed;
 use okld_launch::papers::Papers;
+use okld_launch::resting::Resting;
 use okws_outer::children::Children;
 use okws_outer::keeper::Keeper;
 use okws_outer::stream::Sink;
 use site_locks::locks::Seats;
 use site_locks::named::Site;
+use site_making::order::turned;
 use std::alloc::Global;
 use turn_lock::{Seat, Turn};
 
 /// The launcher's lock, and the seats of the workers at it, those of number 0 first.
 pub(crate) struct Hired<N: Staffed, J: Site, C: CellNames, K: Keeper, S: Sink, F: Children> {
-    pub(crate) turn: Turn<Launcher<N, J, C, K, S, F>>,
-    pub(crate) turns: Vec<Seat<Launcher<N, J, C, K, S, F>>>,
+    pub(crate) turn: Turn<Resting<N, J, C, K, S, F>>,
+    pub(crate) turns: Vec<Seat<Resting<N, J, C, K, S, F>>>,
 }
 
 /// The launcher of a site, at which nothing was launched, behind a lock for so many workers. Where memory is
@@ -55,7 +55,7 @@ pub(crate) fn hire<N: Staffed, J: Site, C: CellNames, K: Keeper, S: Sink, F: Chi
             turns: turned(turns),
         }),
         Err(launcher) => {
-            let (_past, crew) = launcher.close();
+            let (_past, crew, _deeds) = launcher.close();
             Err(crew.into_children())
         }
     }

@@ -5,18 +5,16 @@ ghost use Rattle.std.specs.Arc.{arc_value};
 ghost use Rattle.okws_base.specs.declared.limit.TheConstants.{MOST_DOORS};
 ghost use Rattle.turn_lock.specs.Rows.{AllCount};
 ghost use Rattle.site_locks.specs.Sat.{ids_of};
-ghost use Rattle.site_run.specs.Keepers.{keeper_of, AreBacked};
-ghost use Rattle.site_run.specs.Making.{IsServable};
+ghost use Rattle.site_making.specs.Keepers.{keeper_of, AreBacked};
+ghost use Rattle.site_making.specs.Making.{IsServable};
 ghost use Rattle.site_run.specs.Places.{AllIdle};
 ghost use Rattle.site_run.specs.Rooms.{IsStock};
 ghost use Rattle.site_run.specs.Whole.{IsReady};
 
-use crate::cells::cells;
-use crate::columns::columns;
 use crate::room::{Office, Room};
 use crate::whole::{Run, name};
 use admin_console::reader::Reader;
-use cell_locks::making::{NewCells, make_cells};
+use cell_locks::making::NewCells;
 use cell_locks::named::CellNames;
 use named_columns::named::Backed;
 use okld_launch::named::Staffed;
@@ -29,6 +27,7 @@ use okws_plan::configuration::Config;
 use site_columns::opening::shared;
 use site_locks::making::Made;
 use site_locks::named::Site;
+use site_making::making::{make_cell_locks, make_columns};
 use std::alloc::{AllocError, Global};
 use std::marker::Model;
 use std::sync::Arc;
@@ -62,48 +61,6 @@ impl<N: Backed, K: Keeper, L: Link> Model for Stock<N, K, L> {
     ghost Value = { StockIs };
 
     ghost view = { λ x. record { shown = arc_value x.site; journal = x.papers.journal; site = arc_value x.papers.site; seed = x.papers.seed; numbers = x.office.numbers; places = map (λ (d : Desk). d.place) x.office.desks.items; lines = x.reader; room = x.room } };
-}
-
-// The locks of a run's columns for so many workers, at which nothing happened. Where memory is refused, the
-// keepers and the sink are let go.
-fn make_columns<N: Backed, K: Keeper + Drop, S: Sink + Drop>(
-    alloc: Global,
-    site: &Arc<Config, Global>,
-    seed: &Seed,
-    workers: u16,
-    keeps: bool,
-    keepers: Vec<K>,
-    sink: S,
-) -> Result<Made<N, K, S>, AllocError>
-    requires site { arc_value site.now ≡ N.site }
-    requires seed { seed.now ≡ N.run_seed }
-    requires servable { IsServable N.site }
-    requires workers { (workers ≤ MOST_DOORS + 1) × (workers ≡ N.launcher) }
-    requires declared { vec_len keepers ≡ length N.site.proxies }
-    requires keepers { AreBacked N.site N.steady N.keeper_faults 0 (map (keeper_of K.tables K.told K.faults K.steady) keepers.items) }
-    requires log { IfSome (S.given sink) (λ given. given ≡ []) }
-    requires faults { N.sink_faults ≡ S.faults sink }
-{
-    let fresh = columns(alloc, site, seed, keepers, sink, keeps)?;
-    Made::new(alloc, fresh, workers)
-}
-
-// The locks of a run's cells for so many numbers, at which nothing happened.
-fn make_cell_locks<N: Backed, L: Link + Drop>(
-    alloc: Global,
-    site: &Arc<Config, Global>,
-    seed: &Seed,
-    numbers: u16,
-    keeps: bool,
-) -> Result<NewCells<N, L>, AllocError>
-    requires site { arc_value site.now ≡ N.site }
-    requires seed { seed.now ≡ N.run_seed }
-    requires servable { IsServable N.site }
-    requires some { 0 < numbers }
-    ensures { IfOk result (λ c. (c.numbers ≡ numbers) × AllCount numbers c.turns × (length c.turns ≡ length N.site.services)) }
-{
-    let fresh = cells(alloc, site, seed, keeps)?;
-    make_cells(alloc, fresh, numbers)
 }
 
 // What a run with so many doors needs beside its locks.

@@ -4,22 +4,27 @@ ghost use Rattle.std.specs.Prelude.{◌≡◌, ◌≤◌, ◌<◌, ◌+◌, ◌*
 ghost use Rattle.okws_base.specs.declared.limit.TheConstants.{MOST_SERVICES, GREATEST_RETRY};
 ghost use Rattle.okws_base.specs.Turns.{of, Behind};
 ghost use Rattle.monitor_model.specs.declared.record.Own.TheVariants as own;
-ghost use Rattle.named_columns.specs.Launched.{by_entry};
+ghost use Rattle.okld_launch.specs.Deeds.{by_deed};
 ghost use Rattle.round_lives.specs.Living.{starved_if};
 ghost use Rattle.turn_lock.specs.Rows.{RestsAt};
 ghost use Rattle.site_worker.specs.declared.worker.TheConstants.{TURN_ITEMS};
 ghost use Rattle.site_run.specs.Opening.{Opening, Opens, IsAlone, IsUnopened, HasOpened, AllSeeMore, AreQuiet, AreTurns, seen_first, wants};
 ghost use Rattle.site_run.specs.Rows.{Seated, SameRoom, first_spare};
-ghost use Rattle.site_run.specs.Tied.{IsNotedWhere, OnlyLaunches, Unused};
+ghost use Rattle.okld_launch.specs.Standing.{UpsStand};
+ghost use Rattle.site_run.specs.Meeting.{AllBooted, AllGo, HasShown, SeesCells};
+ghost use Rattle.site_run.specs.Tied.{IsNotedWhere, OnlyLaunches, Unused, Waiting};
 
+use crate::meeting::{meet_cells, meet_okd};
 use crate::row::{Chairs, Ground};
 use cell_locks::named::CellNames;
+use cell_locks::seats::CellSeats;
 use monitor_model::record::Own;
 use named_columns::named::Backed;
 use okld_launch::answer::Launched;
 use okld_launch::entered::Entered;
-use okld_launch::launcher::Launcher;
 use okld_launch::named::Staffed;
+use okld_launch::notes::okd_by;
+use okld_launch::resting::Resting;
 use okld_launch::turns::launch_by;
 use okws_outer::children::Children;
 use okws_outer::gate::Gate;
@@ -27,6 +32,7 @@ use okws_outer::keeper::Keeper;
 use okws_outer::stream::Sink;
 use site_locks::locks::Seats;
 use site_locks::named::Site;
+use site_locks::note::OkdNote;
 use std::sync::Wait;
 use turn_lock::{Seat, Turn};
 
@@ -73,7 +79,7 @@ fn starved(launched: Option<Launched>) -> bool
 fn launch_one<R: Wait, G: Gate, N: Staffed, J: Site, C: CellNames, K: Keeper, S: Sink, F: Children>(
     ground: &Ground<'_, R, G, N, J, C, K, S, F>,
     seats: &mut Seats<N, J, K, S>,
-    seat: &mut Seat<Launcher<N, J, C, K, S, F>>,
+    seat: &mut Seat<Resting<N, J, C, K, S, F>>,
     service: u16,
 )
     requires retry { N.site.retry ≤ GREATEST_RETRY }
@@ -104,7 +110,7 @@ fn launch_one<R: Wait, G: Gate, N: Staffed, J: Site, C: CellNames, K: Keeper, S:
 fn launch_row<R: Wait, G: Gate, N: Staffed, J: Site, C: CellNames, K: Keeper, S: Sink, F: Children>(
     ground: &Ground<'_, R, G, N, J, C, K, S, F>,
     seats: &mut Seats<N, J, K, S>,
-    seat: &mut Seat<Launcher<N, J, C, K, S, F>>,
+    seat: &mut Seat<Resting<N, J, C, K, S, F>>,
 )
     requires site { ground.now.site.now ≡ N.site }
     requires few { length N.site.services ≤ MOST_SERVICES }
@@ -122,15 +128,51 @@ fn launch_row<R: Wait, G: Gate, N: Staffed, J: Site, C: CellNames, K: Keeper, S:
     }
 }
 
+// Launches each service that isn't up, in turns of this seat, and has the seats of all numbers at the cells
+// take in what the launcher has seen there. Tells what it has seen at okd then.
+fn launch_first<
+    R: Wait,
+    G: Gate,
+    N: Staffed,
+    J: Site,
+    C: CellNames,
+    K: Keeper,
+    S: Sink,
+    F: Children,
+>(
+    ground: &Ground<'_, R, G, N, J, C, K, S, F>,
+    seats: &mut Seats<N, J, K, S>,
+    cells: &mut Vec<CellSeats<N, C, F::Link>>,
+    seat: &mut Seat<Resting<N, J, C, K, S, F>>,
+) -> OkdNote<N, J>
+    requires site { ground.now.site.now ≡ N.site }
+    requires few { length N.site.services ≤ MOST_SERVICES }
+    requires retry { N.site.retry ≤ GREATEST_RETRY }
+    requires rest { RestsAt ground.now.turn.now seat.old }
+    requires spare { length N.site.services * TURN_ITEMS ≤ seats.old.spare }
+    ensures seat { seat.new ≡ record seat.old { seen = seat.new.seen } }
+    ensures seats { seats.new ≡ record seats.old { own = seats.new.own; spare = seats.new.spare } }
+    ensures launches { OnlyLaunches seat.old.number seats.old.own seat.old.seen → OnlyLaunches seat.old.number seats.new.own seat.new.seen }
+    ensures opens { Opens seat.old.number [] seats.old.own seat.old.seen → IsAlone seat.old.number seat.new.seen → (os : List Opening) × (length os ≡ length N.site.services) × Opens seat.old.number os seats.new.own seat.new.seen }
+    ensures stand { UpsStand seat.new.seen result }
+    ensures met { AllGo (SeesCells N.launcher) cells.old.items cells.new.items }
+    ensures booted { IsAlone seat.old.number seat.new.seen → (s : ℕ) → s < length N.site.services → AllBooted s seat.new.seen cells.new.items }
+    ensures room { vec_capacity cells.new ≡ vec_capacity cells.old }
+{
+    launch_row(ground, seats, seat);
+    meet_cells(ground, cells, seat);
+    okd_by(ground.rt, ground.turn, seat, ground.locks)
+}
+
 // Has the other seats take in what number 0's has seen at the launcher.
 fn tell_all<N: Staffed, J: Site, C: CellNames, K: Keeper, S: Sink, F: Children>(
-    turn: &Turn<Launcher<N, J, C, K, S, F>>,
-    turns: &mut Vec<Seat<Launcher<N, J, C, K, S, F>>>,
+    turn: &Turn<Resting<N, J, C, K, S, F>>,
+    turns: &mut Vec<Seat<Resting<N, J, C, K, S, F>>>,
 )
     requires turns { AreTurns turn.now 0 turns.old.items }
     ensures more { AllSeeMore turns.old.items turns.new.items }
     ensures first { seen_first turns.new.items ≡ seen_first turns.old.items }
-    ensures told { AreQuiet 0 turns.old.items → (k : ℕ) → 0 < k → k < vec_len turns.old → of by_entry k (seen_first turns.new.items) ≡ [] }
+    ensures told { AreQuiet 0 turns.old.items → (k : ℕ) → 0 < k → k < vec_len turns.old → of by_deed k (seen_first turns.new.items) ≡ [] }
     ensures room { vec_capacity turns.new ≡ vec_capacity turns.old }
 {
     for number in 1..turns.len() {
@@ -140,7 +182,8 @@ fn tell_all<N: Staffed, J: Site, C: CellNames, K: Keeper, S: Sink, F: Children>(
 }
 
 /// Launches each service that isn't up, in number 0's turns at the launcher; number 0 notes what it enters there.
-/// It has the places for that. The other numbers take in what it has seen there.
+/// It has the places for that. All numbers take in what the launcher has seen at the cells and at okd then, and
+/// that of okd is told: what came up stands there, and no number has entered anything.
 pub fn launch_all<
     R: Wait,
     G: Gate,
@@ -150,7 +193,10 @@ pub fn launch_all<
     K: Keeper,
     S: Sink,
     F: Children,
->(ground: &Ground<'_, R, G, N, J, C, K, S, F>, chairs: &mut Chairs<N, J, C, K, S, F>)
+>(
+    ground: &Ground<'_, R, G, N, J, C, K, S, F>,
+    chairs: &mut Chairs<N, J, C, K, S, F>,
+) -> OkdNote<N, J>
     requires site { ground.now.site.now ≡ N.site }
     requires few { length N.site.services ≤ MOST_SERVICES }
     requires retry { N.site.retry ≤ GREATEST_RETRY }
@@ -158,11 +204,19 @@ pub fn launch_all<
     requires spare { length N.site.services * TURN_ITEMS ≤ first_spare chairs.old }
     requires seated { Seated ground.now.turn.now (length N.site.services) chairs.old }
     ensures seated { Seated ground.now.turn.now (length N.site.services) chairs.new }
-    ensures unused { Unused N.site chairs.old → Unused N.site chairs.new }
+    ensures waiting { Unused N.site chairs.old → Waiting N.site N.launcher chairs.new }
     ensures opened { Unused N.site chairs.old → IsUnopened chairs.old → HasOpened N.site chairs.new }
+    ensures shown { Unused N.site chairs.old → HasShown N.site N.launcher chairs.new result }
     ensures room { SameRoom chairs.old chairs.new }
     ensures many { (length chairs.new.seats ≡ length chairs.old.seats) × (length chairs.new.turns ≡ length chairs.old.turns) }
 {
-    launch_row(ground, &mut chairs.seats[0], &mut chairs.turns[0]);
+    let mut note = launch_first(
+        ground,
+        &mut chairs.seats[0],
+        &mut chairs.cells,
+        &mut chairs.turns[0],
+    );
     tell_all(ground.turn, &mut chairs.turns);
+    meet_okd(ground.locks, &mut chairs.seats, &mut note);
+    note
 }

@@ -1,14 +1,12 @@
 //! The locks, seats, launcher and rooms of a run, from when they are made until they are closed to its record.
 #![tactic(auto)]
 
-mod cells;
 mod closing;
-mod columns;
 pub mod ended;
 mod hiring;
 pub mod kit;
 pub mod launching;
-mod order;
+mod meeting;
 pub mod places;
 pub mod room;
 pub mod row;

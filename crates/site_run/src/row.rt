@@ -10,8 +10,8 @@ use cell_locks::locks::CellLocks;
 use cell_locks::named::CellNames;
 use cell_locks::seats::CellSeats;
 use live_board::Board;
-use okld_launch::launcher::Launcher;
 use okld_launch::named::Staffed;
+use okld_launch::resting::Resting;
 use okws_outer::children::Children;
 use okws_outer::gate::Gate;
 use okws_outer::keeper::Keeper;
@@ -45,7 +45,7 @@ pub struct Ground<
     pub site: &'a Config,
     pub locks: &'a Locks<N, J, K, S>,
     pub cells: &'a CellLocks<N, C, F::Link>,
-    pub turn: &'a Turn<Launcher<N, J, C, K, S, F>>,
+    pub turn: &'a Turn<Resting<N, J, C, K, S, F>>,
     pub numbers: &'a Board,
     pub most: u32,
 }
@@ -55,7 +55,7 @@ pub struct Ground<
 pub struct Chairs<N: Staffed, J: Site, C: CellNames, K: Keeper, S: Sink, F: Children> {
     pub(crate) seats: Vec<Seats<N, J, K, S>>,
     pub(crate) cells: Vec<CellSeats<N, C, F::Link>>,
-    pub(crate) turns: Vec<Seat<Launcher<N, J, C, K, S, F>>>,
+    pub(crate) turns: Vec<Seat<Resting<N, J, C, K, S, F>>>,
 }
 
 impl<N: Staffed, J: Site, C: CellNames, K: Keeper, S: Sink, F: Children> Model
@@ -73,7 +73,7 @@ impl<N: Staffed, J: Site, C: CellNames, K: Keeper, S: Sink, F: Children> Chairs<
     pub(crate) fn of(
         seats: Vec<Seats<N, J, K, S>>,
         cells: Vec<CellSeats<N, C, F::Link>>,
-        turns: Vec<Seat<Launcher<N, J, C, K, S, F>>>,
+        turns: Vec<Seat<Resting<N, J, C, K, S, F>>>,
     ) -> Self
         ensures { result ≡ record { seats = seats.items; cells = cells.items; turns = turns.items; seats_room = vec_capacity seats; cells_room = vec_capacity cells; turns_room = vec_capacity turns } }
     {

@@ -2,16 +2,19 @@
 
 ghost use Rattle.std.specs.Prelude.{◌≡◌, ◌≤◌, ◌<◌, ◌+◌, List, length, map, IfOk, vec_len, vec_capacity, IfErr, IsTrue};
 ghost use Rattle.std.specs.Arc.{arc_value};
+ghost use Rattle.okws_base.specs.Turns.{Behind};
 ghost use Rattle.okws_base.specs.declared.limit.TheConstants.{MOST_SERVICES, MOST_PROXIES, MOST_DOORS};
 ghost use Rattle.turn_lock.specs.Rows.{AllCount};
 ghost use Rattle.live_board.specs.Seats.{AllAt};
 ghost use Rattle.site_locks.specs.Sat.{ids_of};
 ghost use Rattle.monitor_model.specs.Causes.{all_were_caused};
 ghost use Rattle.okld_launch.specs.Failures.{FailuresAreTold};
+ghost use Rattle.okld_launch.specs.Heard.{ChildrenAreTold};
+ghost use Rattle.site_run.specs.Pieced.{LaunchesAreWhole, ended_among};
 ghost use Rattle.site_worker.specs.Lives.{Life};
 ghost use Rattle.site_run.specs.Closing.{WritesLog, AllKept};
 ghost use Rattle.site_run.specs.Journals.{KeepLaws, NameNumbers, AreCounts};
-ghost use Rattle.site_run.specs.Keepers.{keeper_of};
+ghost use Rattle.site_making.specs.Keepers.{keeper_of};
 ghost use Rattle.site_run.specs.Places.{AllIdle};
 ghost use Rattle.okld_launch.specs.Launchers.{ArePapers};
 ghost use Rattle.site_run.specs.Rooms.{HasRoom, AreOffered};
@@ -21,7 +24,6 @@ ghost use Rattle.site_run.specs.Whole.{AreNamed, IsHeld, IsReady, AllDrawn};
 use crate::closing::{LauncherEnd, end_cells, end_columns, end_launcher};
 use crate::ended::{Ended, LocksEnd, counted};
 use crate::hiring::{Hired, hire};
-use crate::order::turned;
 use crate::places::Doors;
 use crate::room::{Desk, Office, Room};
 use crate::row::Chairs;
@@ -31,9 +33,9 @@ use cell_locks::named::CellNames;
 use cell_locks::seats::CellSeats;
 use live_board::{Board, Seat as Place};
 use named_columns::named::Backed;
-use okld_launch::launcher::Launcher;
 use okld_launch::named::Staffed;
 use okld_launch::papers::Papers;
+use okld_launch::resting::Resting;
 use okws_outer::children::Children;
 use okws_outer::door::Door;
 use okws_outer::keeper::Keeper;
@@ -41,6 +43,8 @@ use okws_outer::stream::{Link, Sink};
 use site_locks::locks::{Locks, Seats};
 use site_locks::making::Made;
 use site_locks::named::Site;
+use site_locks::note::OkdNote;
+use site_making::order::turned;
 use site_worker::worker::TURN_ITEMS;
 use std::alloc::{AllocError, Global};
 use std::sync::Wait;
@@ -90,7 +94,7 @@ pub(crate) fn name<
 pub struct Hall<N: Staffed, J: Site, C: CellNames, K: Keeper, S: Sink, F: Children> {
     pub locks: Locks<N, J, K, S>,
     pub cells: CellLocks<N, C, F::Link>,
-    pub turn: Turn<Launcher<N, J, C, K, S, F>>,
+    pub turn: Turn<Resting<N, J, C, K, S, F>>,
     pub numbers: Board,
 }
 
@@ -191,14 +195,16 @@ impl<N: Staffed, J: Site, C: CellNames, K: Keeper, S: Sink, F: Children, D: Door
     F,
     D,
 > {
-    /// Stops and finishes all children, and ends all locks. So many connections were served. For each Failed
-    /// of the launcher's journal a fault was told of the children, and what was begun has its cause.
+    /// Stops and finishes all children, and ends all locks. So many connections were served. The launcher's
+    /// list is whole pieces; for each Failed of its journal a fault was told of the children, and what was
+    /// begun has its cause. What a note of okd tells was entered there before all else.
     pub fn end<R: Wait>(
         self,
         rt: &R,
         alloc: Global,
         room: Room<N, K, F::Link>,
         connections: u64,
+        okd: OkdNote<N, J>,
     ) -> Ended<K, S, F, D>
         requires held { IsHeld N.site N.launcher self.hall.turn self.hall.numbers self.hall.cells self.chairs self.places }
         requires room { room + 1 ≡ N.launcher }
@@ -206,10 +212,13 @@ impl<N: Staffed, J: Site, C: CellNames, K: Keeper, S: Sink, F: Children, D: Door
         ensures drawn { AllDrawn self.hall.numbers.count self.places.places }
         ensures laws { KeepLaws N.site N.run_seed N.launcher result.record }
         ensures numbers { NameNumbers N.launcher result.record }
-        ensures lives { (lives : List Life) → SeatsOf lives self.chairs → AllEnd N.launcher 0 lives result.record }
+        ensures lives { (lives : List Life) → SeatsOf lives self.chairs → AllEnd N.launcher 0 lives result.record (ended_among (F.family result.children).finished) }
+        ensures pieces { LaunchesAreWhole N.site N.run_seed result.record }
         ensures launched { LaunchesAreOwn N.launcher result.record }
         ensures failed { FailuresAreTold N.children result.record.launcher (F.family result.children) }
+        ensures children { ChildrenAreTold N.site N.run_seed result.record N.children (F.family result.children) }
         ensures caused { IsTrue (all_were_caused result.record result.record.launcher) }
+        ensures first { Behind okd result.record.okd }
         ensures counts { AreCounts N.site result.record result.counts }
         ensures connections { result.counts.connections ≡ connections }
         ensures kept { AllKept N.site N.tells N.steady N.keeper_faults 0 (map (keeper_of K.tables K.told K.faults K.steady) result.keepers.items) result.record.proxies }
@@ -233,7 +242,11 @@ impl<N: Staffed, J: Site, C: CellNames, K: Keeper, S: Sink, F: Children, D: Door
         } = chairs;
         let Doors { doors, desks } = places;
         let count = doors.len() as u16 + 2;
-        let LauncherEnd { past, stopped } = end_launcher(rt, &cells, turn, turns);
+        let LauncherEnd {
+            past,
+            deeds: _,
+            stopped,
+        } = end_launcher(rt, &locks, &cells, turn, turns, okd);
         let Room {
             doors: _,
             columns,

@@ -3,7 +3,6 @@ use Rattle.std.proofs.Common.{◌≡◌, ℕ, ◌≤◌, List, refl, sym, subst}
 use Rattle.std.specs.Prelude.{slice_index}
 use Rattle.okws_base.specs.declared.journal.Entry.{Entry}
 use Rattle.okws_plan.specs.declared.configuration.Config.{Config}
-use Rattle.okws_plan.specs.declared.event.LauncherEvent.{LauncherEvent}
 use Rattle.okws_plan.specs.declared.event.OkdEvent.{OkdEvent}
 use Rattle.okws_plan.specs.declared.event.OkdEvent.TheVariants as okd
 use Rattle.monitor_model.specs.Okd.{accept_verdict}
@@ -13,10 +12,11 @@ use Rattle.cell_locks.specs.Row.{CellsSeen}
 use Rattle.site_locks.specs.Calls.{KeepsPasts, SameBoard}
 use Rattle.site_locks.specs.Sat.{Sat, seen_of}
 use Rattle.turn_lock.specs.Seats.{SeatIs}
+use Rattle.okld_launch.specs.declared.deed.Deed.{Deed}
 use Rattle.site_worker.specs.Lives.{life_of}
 use Rattle.site_worker.specs.Handling.{Accepts}
 
-pub accepts_of : (C : Config) (path asked : List ℕ) (goes : Way) (s now : Sat) (cells : CellsSeen) (launcher : SeatIs (Entry LauncherEvent))
+pub accepts_of : (C : Config) (path asked : List ℕ) (goes : Way) (s now : Sat) (cells : CellsSeen) (launcher : SeatIs Deed)
     → cells.number ≡ s.number → path ≡ asked → KeepsPasts s.pubd now.pubd → SameBoard s now
     → (before : List (Entry OkdEvent)) × (goes ≡ accept_verdict C before path) × AtOkd s.number (okd.Accept path) (seen_of s) before (seen_of now)
     → Accepts C asked goes (life_of s cells launcher) (life_of now cells launcher)

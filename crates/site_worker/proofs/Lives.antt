@@ -2,14 +2,13 @@
 use Rattle.std.proofs.Common.{◌≡◌, ℕ, ◌≤◌, List, refl, sym, ap, ◌∙◌, subst}
 use Rattle.std.specs.Prelude.{slice_index}
 use Rattle.okws_base.specs.Turns.{Behind}
-use Rattle.okws_base.specs.declared.journal.Entry.{Entry}
-use Rattle.okws_plan.specs.declared.event.LauncherEvent.{LauncherEvent}
 use Rattle.monitor_model.specs.Seen.{Seen, noted}
 use Rattle.monitor_model.specs.declared.record.Own.TheVariants as own
 use Rattle.cell_locks.specs.Row.{CellsSeen}
 use Rattle.site_locks.specs.Sat.{Sat, seen_of}
 use Rattle.site_locks.specs.Steps.{NotesSpare}
 use Rattle.turn_lock.specs.Seats.{SeatIs}
+use Rattle.okld_launch.specs.declared.deed.Deed.{Deed}
 use Rattle.site_worker.specs.Lives.{Life, Working, Sees, Starves, life_of}
 
 pub sees_on : (J M K : Life) (now : Seen) → Sees J.seen J M → Sees now M K → Sees now J K
@@ -26,7 +25,7 @@ pub starves_on : (J M K : Life) → Sees J.seen J M → Starves M K → Starves 
 starves_on J M K a b = sees_on J M K (noted J.seen own.NoMemory) a (subst (λ (x : Seen). Sees (noted x own.NoMemory) M K) a.seen_is b)
 
 -- a note in a spare place, by what the number has seen at the columns and at the cells
-pub noted_starves : (s now : Sat) (cells : CellsSeen) (launcher : SeatIs (Entry LauncherEvent)) → NotesSpare own.NoMemory s now
+pub noted_starves : (s now : Sat) (cells : CellsSeen) (launcher : SeatIs Deed) → NotesSpare own.NoMemory s now
     → Starves (life_of s cells launcher) (life_of now cells launcher)
 noted_starves s now cells launcher h = record {
   seen_is = ap seen_of h.0;
@@ -37,9 +36,9 @@ noted_starves s now cells launcher h = record {
 }
 
 -- the worker of these seats
-abbrev pub working_of : Sat → CellsSeen → SeatIs (Entry LauncherEvent) → Working
+abbrev pub working_of : Sat → CellsSeen → SeatIs Deed → Working
 working_of s cells launcher = record { life = life_of s cells launcher; spare = s.spare }
 
-pub spare_made : (s now : Sat) (cells : CellsSeen) (launcher : SeatIs (Entry LauncherEvent)) (places : ℕ) → now ≡ record s { spare = places }
+pub spare_made : (s now : Sat) (cells : CellsSeen) (launcher : SeatIs Deed) (places : ℕ) → now ≡ record s { spare = places }
     → working_of now cells launcher ≡ record (working_of s cells launcher) { spare = places }
 spare_made s now cells launcher places e = ap (λ (x : Sat). working_of x cells launcher) e

@@ -1,6 +1,5 @@
 -- A worker stays the same whatever it does.
 use Rattle.std.proofs.Common.{◌≡◌, inl, inr, ℕ, Bool, true, false, List, Option, Some, None, sym, ap, ◌∙◌}
-use Rattle.okws_base.specs.declared.journal.Entry.{Entry}
 use Rattle.okws_plan.specs.declared.configuration.Config.{Config}
 use Rattle.okws_plan.specs.declared.event.LauncherEvent.{LauncherEvent}
 use Rattle.okws_plan.specs.declared.event.LauncherEvent.{LauncherEvent}
@@ -29,6 +28,7 @@ use Rattle.admin_console.specs.declared.order.Order.{Order}
 use Rattle.admin_console.specs.declared.order.Order.TheVariants as order
 use Rattle.admin_console.specs.declared.step.Stepped.{Stepped}
 use Rattle.admin_console.specs.declared.step.Stepped.TheVariants as stepped
+use Rattle.okld_launch.specs.declared.deed.Deed.{Deed}
 use Rattle.site_worker.specs.Lives.{Life, number_of, Sees, Starves, StarvesWhere, SameWorker}
 use Rattle.site_worker.specs.Launching.{OnlyLauncher, Reports, Tends}
 use Rattle.site_worker.specs.Handling.{Talks, Follows, Goes, Handles}
@@ -38,7 +38,7 @@ use Rattle.site_worker.specs.Commands.{StepsAt}
 
 -- the same seat, which has seen other entries
 same_seat : (J K : Life) → K.launcher ≡ J.launcher → K.launcher ≡ record J.launcher { seen = K.launcher.seen }
-same_seat J K e = e ∙ ap (λ (l : SeatIs (Entry LauncherEvent)). record J.launcher { seen = l.seen }) (sym e)
+same_seat J K e = e ∙ ap (λ (l : SeatIs Deed). record J.launcher { seen = l.seen }) (sym e)
 
 pub same_at_once : (J K : Life) → K ≡ J → SameWorker J K
 same_at_once J K e = record { number_is = ap (λ (x : Life). number_of x) e; launcher_is = same_seat J K (ap (λ (x : Life). x.launcher) e) }
@@ -46,7 +46,7 @@ same_at_once J K e = record { number_is = ap (λ (x : Life). number_of x) e; lau
 pub same_on : (J M K : Life) → SameWorker J M → SameWorker M K → SameWorker J K
 same_on J M K a b = record {
   number_is = b.number_is ∙ a.number_is;
-  launcher_is = b.launcher_is ∙ ap (λ (l : SeatIs (Entry LauncherEvent)). record l { seen = K.launcher.seen }) a.launcher_is;
+  launcher_is = b.launcher_is ∙ ap (λ (l : SeatIs Deed). record l { seen = K.launcher.seen }) a.launcher_is;
 }
 
 same_sees : (now : Seen) (J K : Life) → Sees now J K → SameWorker J K

@@ -1,6 +1,5 @@
 -- A turn at the launcher, and what is noted after it.
 use Rattle.std.proofs.Common.{◌≡◌, ℕ, Bool, List, ap, sym, ◌∙◌, subst}
-use Rattle.okws_base.specs.declared.journal.Entry.{Entry}
 use Rattle.okws_plan.specs.declared.configuration.Config.{Config}
 use Rattle.okws_plan.specs.declared.event.LauncherEvent.{LauncherEvent}
 use Rattle.okld_launch.specs.Turns.{RelaunchesBy, ReportsBy, TendsBy}
@@ -8,6 +7,7 @@ use Rattle.okld_launch.specs.declared.answer.Launched.{Launched}
 use Rattle.okld_launch.specs.declared.answer.Crashed.{Crashed}
 use Rattle.okld_launch.specs.declared.answer.Tended.{Tended}
 use Rattle.turn_lock.specs.Seats.{SeatIs}
+use Rattle.okld_launch.specs.declared.deed.Deed.{Deed}
 use Rattle.site_worker.specs.Lives.{Life, StarvesWhere}
 use Rattle.site_worker.specs.Launching.{launch_starved, crash_starved, tend_starved, with_launches, OnlyLauncher, Reports, Tends, Asks}
 
@@ -17,7 +17,7 @@ module _ (C : Config) (s : ℕ) (events : List LauncherEvent) (J A M K : Life) (
   only_made : OnlyLauncher events J M
   only_made =
       notes ∙ (ap (λ (X : Life). record X { seen = with_launches events X.seen }) seat
-      ∙ ap (λ (l : List (Entry LauncherEvent)). record J { launcher = record J.launcher { seen = l }; seen = with_launches events J.seen }) (sym (ap (λ (X : Life). X.launcher.seen) notes)))
+      ∙ ap (λ (l : List Deed). record J { launcher = record J.launcher { seen = l }; seen = with_launches events J.seen }) (sym (ap (λ (X : Life). X.launcher.seen) notes)))
 
   same_seat : A.launcher ≡ M.launcher
   same_seat = sym (ap (λ (X : Life). X.launcher) notes)
@@ -28,7 +28,7 @@ module _ (C : Config) (s : ℕ) (events : List LauncherEvent) (J A M K : Life) (
     events = events;
     mid = M;
     only = only_made;
-    reports = subst (λ (x : SeatIs (Entry LauncherEvent)). ReportsBy C s k J.launcher answer events x) same_seat reports;
+    reports = subst (λ (x : SeatIs Deed). ReportsBy C s k J.launcher answer events x) same_seat reports;
     notes = subst (λ (x : Bool). StarvesWhere x M K) is starves;
   }
 
@@ -38,7 +38,7 @@ module _ (C : Config) (s : ℕ) (events : List LauncherEvent) (J A M K : Life) (
     events = events;
     mid = M;
     only = only_made;
-    tends = subst (λ (x : SeatIs (Entry LauncherEvent)). TendsBy C s J.launcher answer events x) same_seat tends;
+    tends = subst (λ (x : SeatIs Deed). TendsBy C s J.launcher answer events x) same_seat tends;
     notes = subst (λ (x : Bool). StarvesWhere x M K) is starves;
   }
 
@@ -47,6 +47,6 @@ module _ (C : Config) (s : ℕ) (events : List LauncherEvent) (J A M K : Life) (
     events = events;
     mid = M;
     only = only_made;
-    relaunches = subst (λ (x : SeatIs (Entry LauncherEvent)). RelaunchesBy C s J.launcher answer events x) same_seat relaunches;
+    relaunches = subst (λ (x : SeatIs Deed). RelaunchesBy C s J.launcher answer events x) same_seat relaunches;
     notes = subst (λ (x : Bool). StarvesWhere x M K) is starves;
   }

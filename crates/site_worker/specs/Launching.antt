@@ -1,5 +1,5 @@
 -- A worker's turns at the launcher.
-use Rattle.std.specs.Prelude.{◌≡◌, ℕ, Bool, true, false, List, ◌++◌, map}
+use Rattle.std.specs.Prelude.{◌≡◌, ℕ, Bool, true, false, List, ◌∷◌, ◌++◌, map}
 use Rattle.okws_base.specs.Turns.{GrowsBy}
 use Rattle.okws_base.specs.declared.journal.Entry.{Entry}
 use Rattle.okws_plan.specs.declared.configuration.Config.{Config}
@@ -8,8 +8,10 @@ use Rattle.monitor_model.specs.declared.record.Own.{Own}
 use Rattle.monitor_model.specs.declared.record.Own.TheVariants as own
 use Rattle.monitor_model.specs.Seen.{Seen}
 use Rattle.named_columns.specs.Launched.{by_entry}
+use Rattle.okld_launch.specs.Deeds.{by_deed, entries}
 use Rattle.okld_launch.specs.Entering.{Enters}
 use Rattle.okld_launch.specs.Turns.{RelaunchesBy, ReportsBy, TendsBy}
+use Rattle.okld_launch.specs.declared.deed.Deed.{Deed}
 use Rattle.okld_launch.specs.declared.answer.Launched.{Launched}
 use Rattle.okld_launch.specs.declared.answer.Launched.TheVariants as launched
 use Rattle.okld_launch.specs.declared.answer.Crashed.{Crashed}
@@ -49,12 +51,17 @@ with_launches events J = record J { own = map own.Launcher events ++ J.own }
 abbrev pub OnlyLauncher : List LauncherEvent → Life → Life → Type 0
 OnlyLauncher events J K = K ≡ record J { launcher = record J.launcher { seen = K.launcher.seen }; seen = with_launches events J.seen }
 
--- A turn at the launcher: these events were entered there, the newest first, on what others had entered since, and each was noted.
+-- A turn at the launcher: these events were entered there, the newest first, on what others had entered since, and each was noted. It is told of it whether the last of them is the Begun of an incarnation that came up, and whether a service was looked after.
 pub record TakesTurn (events : List LauncherEvent) (J K : Life) : Type 0 where
   pub before : List (Entry LauncherEvent)
-  pub grows : GrowsBy by_entry J.launcher.number J.launcher.seen before
-  pub enters : Enters J.launcher.number events before K.launcher.seen
+  pub grows : GrowsBy by_entry J.launcher.number (entries J.launcher.seen) before
+  pub enters : Enters J.launcher.number events before (entries K.launcher.seen)
   pub only : OnlyLauncher events J K
+  pub up : Bool
+  pub tended : Bool
+  pub deeds : List Deed
+  pub others : GrowsBy by_deed J.launcher.number J.launcher.seen deeds
+  pub did : K.launcher.seen ≡ record { worker = J.launcher.number; entered = events; up = up; tended = tended } ∷ deeds
 
 -- The launcher was told that incarnation k of s has crashed; what the turn entered there was noted.
 pub record Reports (C : Config) (s k : ℕ) (J K : Life) : Type 0 where

@@ -3,7 +3,6 @@ use Rattle.std.specs.Prelude.{◌≡◌, ◌≤◌, ◌+◌, ℕ, Bool, true, fa
 use Rattle.okws_base.specs.declared.journal.Entry.{Entry}
 use Rattle.okws_base.specs.declared.limit.TheConstants.{GREATEST_RETRY}
 use Rattle.okws_plan.specs.declared.configuration.Config.{Config}
-use Rattle.okws_plan.specs.declared.event.LauncherEvent.{LauncherEvent}
 use Rattle.okws_plan.specs.declared.event.PubdEvent.{PubdEvent}
 use Rattle.monitor_model.specs.declared.record.Own.TheVariants as own
 use Rattle.monitor_model.specs.Seen.{Seen, noted}
@@ -12,6 +11,7 @@ use Rattle.turn_lock.specs.Rows.{RestsAt}
 use Rattle.cell_locks.specs.Row.{CellsSeen}
 use Rattle.site_locks.specs.Calls.{KeepsPasts}
 use Rattle.site_locks.specs.Sat.{Sat, seen_of}
+use Rattle.okld_launch.specs.declared.deed.Deed.{Deed}
 
 -- What it has seen of each column at its own last entry there, with its own items; what it has seen of each cell, of each service on the board, and of pubd in all, also where it entered nothing; and its seat at the launcher's lock.
 pub record Life : Type 0 where
@@ -19,10 +19,10 @@ pub record Life : Type 0 where
   pub cells : CellsSeen
   pub board : List ℕ
   pub pubd : List (Entry PubdEvent)
-  pub launcher : SeatIs (Entry LauncherEvent)
+  pub launcher : SeatIs Deed
 
 -- The same, of its seats at the columns, at the cells and at the launcher's lock.
-abbrev pub life_of : Sat → CellsSeen → SeatIs (Entry LauncherEvent) → Life
+abbrev pub life_of : Sat → CellsSeen → SeatIs Deed → Life
 life_of s cells launcher = record { seen = seen_of s; cells = cells; board = s.board; pubd = s.pubd; launcher = launcher }
 
 -- A worker: what it has seen and done, and how many items it may note without memory.

@@ -14,8 +14,8 @@ use cell_locks::seats::CellSeats;
 use monitor_model::record::Own;
 use named_columns::named::Backed;
 use okld_launch::entered::{Entered, MOST_ENTERED};
-use okld_launch::launcher::Launcher;
 use okld_launch::named::Staffed;
+use okld_launch::resting::Resting;
 use okws_outer::children::Children;
 use okws_outer::gate::Gate;
 use okws_outer::keeper::Keeper;
@@ -66,7 +66,7 @@ pub struct Shared<
     pub gate: &'a G,
     pub locks: &'a Locks<N, J, K, S>,
     pub cells: &'a CellLocks<N, C, F::Link>,
-    pub launcher: &'a Turn<Launcher<N, J, C, K, S, F>>,
+    pub launcher: &'a Turn<Resting<N, J, C, K, S, F>>,
 }
 
 /// The seats of one number at the columns and the board, at the cells, and at the launcher's lock, with these
@@ -88,11 +88,11 @@ pub struct Worker<
     pub(crate) gate: &'a G,
     pub(crate) locks: &'a Locks<N, J, K, S>,
     pub(crate) cells: &'a CellLocks<N, C, F::Link>,
-    pub(crate) launcher: &'a Turn<Launcher<N, J, C, K, S, F>>,
+    pub(crate) launcher: &'a Turn<Resting<N, J, C, K, S, F>>,
     pub(crate) services: u16,
     pub(crate) hands: Hands<'a, R, G, N, J, K, S>,
     pub(crate) at_cells: CellSeats<N, C, F::Link>,
-    pub(crate) at_launcher: Seat<Launcher<N, J, C, K, S, F>>,
+    pub(crate) at_launcher: Seat<Resting<N, J, C, K, S, F>>,
 }
 
 impl<'a, R: Wait, G: Gate, N: Staffed, J: Site, C: CellNames, K: Keeper, S: Sink, F: Children> Model
@@ -123,7 +123,7 @@ impl<
         shared: Shared<'a, R, G, N, J, C, K, S, F>,
         seats: Seats<N, J, K, S>,
         at_cells: CellSeats<N, C, F::Link>,
-        at_launcher: Seat<Launcher<N, J, C, K, S, F>>,
+        at_launcher: Seat<Resting<N, J, C, K, S, F>>,
     ) -> Self
         requires tells { N.tells ≡ true }
         requires cells { at_cells.number ≡ seats.number }
@@ -163,7 +163,7 @@ impl<
     ) -> (
         Seats<N, J, K, S>,
         CellSeats<N, C, F::Link>,
-        Seat<Launcher<N, J, C, K, S, F>>,
+        Seat<Resting<N, J, C, K, S, F>>,
     )
         ensures columns { (seen_of result.0 ≡ self.entry.life.seen) × (result.0.board ≡ self.entry.life.board) × (result.0.pubd ≡ self.entry.life.pubd) }
         ensures cells { result.1 ≡ self.entry.life.cells }

@@ -8,3 +8,4 @@ pub mod Told
 pub mod Begun
 pub mod Waiting
 pub mod Waited
+pub mod Endings

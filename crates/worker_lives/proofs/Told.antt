@@ -26,7 +26,7 @@ use Rattle.worker_lives.proofs.Found.{both_true}
 
 -- ---- the dialogs behind a piece
 
-entry_kind : (s : ℕ) (item : Own) → is_entry_of s item ≡ true → kind_of item ≡ Enters
+pub entry_kind : (s : ℕ) (item : Own) → is_entry_of s item ≡ true → kind_of item ≡ Enters
 entry_kind s (own.Proxy p (proxy.Install t k token)) is = let bad : false ≡ true = is in let never : ⊥ = cc in absurd never
 entry_kind s (own.Proxy p (proxy.Revoke t k)) is = let bad : false ≡ true = is in let never : ⊥ = cc in absurd never
 entry_kind s (own.Proxy p (proxy.Open t k shown)) is = refl

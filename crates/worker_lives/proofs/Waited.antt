@@ -1,6 +1,5 @@
 -- Where the first items of a worker's pieces lead on, its list does.
 use Rattle.std.proofs.Common.{◌≡◌, ℕ, ◌+◌, ◌==◌, Bool, true, false, cond, List, [], ◌∷◌, ◌++◌, length, map, refl, sym, ap, ◌∙◌, subst, Option, Some, None, arith}
-use Rattle.std.specs.Prelude.{◌&&◌}
 use Rattle.okws_base.specs.Past.{Grows}
 use Rattle.okws_base.specs.declared.journal.Entry.{Entry}
 use Rattle.okws_plan.specs.declared.configuration.Config.{Config}
@@ -14,7 +13,7 @@ use Rattle.monitor_model.specs.Causes.{is_launcher_item, item_after_nth, launche
 use Rattle.monitor_model.specs.Launcher.{begun}
 use Rattle.monitor_model.specs.Launches.{is_want}
 use Rattle.monitor_model.specs.Seen.{Seen}
-use Rattle.monitor_model.specs.Worker.{Piece, Accepted, Published, Launched, Wants, IsPiece, IsWorker, Lives, nothing_seen}
+use Rattle.monitor_model.specs.Worker.{Piece, Accepted, Published, Launched, Wants, IsWorker, Lives}
 use Rattle.monitor_model.proofs.Lives.{lives_kept}
 use Rattle.worker_lives.specs.Listing.{first_item}
 use Rattle.worker_lives.specs.Waiting.{LeadsSo, leads_in, own_lead}
@@ -22,7 +21,7 @@ use Rattle.worker_lives.proofs.Listed.{Adds, AllExtra, is_extra, piece_adds}
 use Rattle.worker_lives.proofs.Waiting.{Gives, false_gives, leads_beside, own_more}
 
 -- what stands in a piece behind its first item is no event at the launcher
-extra_none : (item : Own) → is_extra item ≡ true → is_launcher_item item ≡ 0
+pub extra_none : (item : Own) → is_extra item ≡ true → is_launcher_item item ≡ 0
 extra_none (own.Proxy p e) is = refl
 extra_none (own.Pubd e) is = refl
 extra_none (own.Oklogd e) is = refl

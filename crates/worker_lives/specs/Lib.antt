@@ -5,3 +5,4 @@ pub mod Talking
 pub mod Listing
 pub mod Beginning
 pub mod Waiting
+pub mod Ending

@@ -1,10 +1,13 @@
-use Rattle.std.proofs.Common.{arith, ◌≡◌, ◌≤◌, ◌<◌, ◌+◌, ℕ, true, [], ◌∷◌, ◌++◌, map, length, refl, sym, ap, ◌∙◌, subst}
+use Rattle.std.proofs.Common.{arith, ◌≡◌, ◌≤◌, ◌<◌, ◌+◌, ℕ, Bool, true, [], ◌∷◌, ◌++◌, map, length, refl, sym, ap, ◌∙◌, subst}
 use Rattle.std.specs.Prelude.{IsSome}
 use Rattle.monitor_model.specs.Pieces.{is_accept_item, is_ordered}
+use Rattle.okws_outer.specs.Families.{Family}
 use Rattle.okld_launch.specs.Failures.{FailuresAreTold}
+use Rattle.okld_launch.specs.Heard.{ChildrenAreTold}
 use Rattle.site_run.specs.Places.{AllIdle}
-use Rattle.site_run.specs.Keepers.{keeper_of}
+use Rattle.site_making.specs.Keepers.{keeper_of}
 use Rattle.site_run.specs.Closing.{AllKept}
+use Rattle.site_run.specs.Pieced.{ended_among}
 use Rattle.site_run.specs.Whole.{AllDrawn}
 use Rattle.okws_serve.specs.Connected.{ServesConnections}
 use Rattle.okws_serve.specs.Doors.{ServesConsole, ServesDoors, is_fault}
@@ -15,6 +18,7 @@ use Rattle.site_run.proofs.Merging.{lists_make}
 use Rattle.site_run.proofs.Shown.{cells_are_true}
 use Rattle.site_run.proofs.Tying.{end_pop}
 use Rattle.okws_serve.proofs.Connected.{connects_doors}
+use Rattle.okws_serve.proofs.Launches.{go_so, have_causes, lists_end}
 use Rattle.okws_serve.proofs.Leading.{all_lead}
 use Rattle.okws_serve.proofs.Lawful.{are_lawful}
 use Rattle.okws_serve.proofs.Listing.{Told, all_told}
@@ -47,50 +51,59 @@ returns-clause-ran g c =
     let alike = doors_alike wire C n c.args.scene.hall.numbers.id most done.lives old c.args.places c.args.served.connections c.args.served.starved done.doors in
     let z = c.args.scene.hall.numbers.id in
     let R = e.record in
+    let over = ended_among (g.F.Children.family e.children).finished in
     let places = c.args.places in
     let connections = c.args.served.connections in
     let starved = c.args.served.starved in
     let size : length done.lives ≡ length old.entrances = lives_many wire C n z most done.lives old places connections starved done.doors in
-    let ends = end_pop n 0 (length old.entrances) done.lives done.last R (omega arith) (c.end-ended.ensures.lives (done.lives ++ done.last ∷ []) done.seats) in
-    let served = serves_doors wire C n z most (length places.entrances) R done.lives old places connections starved
+    let ends = end_pop n 0 (length old.entrances) done.lives done.last R over (omega arith) (c.end-ended.ensures.lives (done.lives ++ done.last ∷ []) done.seats) in
+    let served = serves_doors wire C n z most (length places.entrances) R over done.lives old places connections starved
     (omega arith) c.requires.held.some refl (subst (λ k. AllDrawn k places.places) (let k = c.requires.held.numbers_count in let q : c.args.scene.hall.numbers.count ≡ length places.entrances = omega arith in q) c.end-ended.ensures.drawn) done.doors ends.0 in
-    let steered = console_ends C n R (length old.entrances) done.last w (g.O.Conn.wire c.args.console) (is_fault c.args.overseen) done.console ends.1 in
-    let told : (k : ℕ) → k ≤ n → Told n R k = all_told wire C n most R old.entrances places.entrances served.attended w (g.O.Conn.wire c.args.console) (is_fault c.args.overseen) (omega arith) c.end-ended.ensures.numbers.workers served.attend steered c.end-ended.ensures.launched in
+    let steered = console_ends C n R over (length old.entrances) done.last w (g.O.Conn.wire c.args.console) (is_fault c.args.overseen) done.console ends.1 in
+    let told : (k : ℕ) → k ≤ n → Told n R k = all_told wire C n most R over old.entrances places.entrances served.attended w (g.O.Conn.wire c.args.console) (is_fault c.args.overseen) (omega arith) c.end-ended.ensures.numbers.workers served.attend steered c.end-ended.ensures.launched in
     let x = g.O.Conn.wire c.args.console in
     let failed = is_fault c.args.overseen in
     let proxies = c.end-ended.ensures.laws.proxies_are in
-    let door_lists : (k : ℕ) → k < length old.entrances → ListIsPieces C R is_ordered k
-    = λ k l. doors_are wire C n most R 0 k old.entrances places.entrances served.attended proxies served.attend (omega arith) (let u : k < length old.entrances + 0 = omega arith in u) in
-    let console_list : ListIsPieces C R is_accept_item (length old.entrances) = console_is C n R (length old.entrances) w x failed proxies steered in
+    let door_lists : (k : ℕ) → k < length old.entrances → ListIsPieces C R over is_ordered k
+    = λ k l. doors_are wire C n most R over 0 k old.entrances places.entrances served.attended proxies served.attend (omega arith) (let u : k < length old.entrances + 0 = omega arith in u) in
+    let console_list : ListIsPieces C R over is_accept_item (length old.entrances) = console_is C n R over (length old.entrances) w x failed proxies steered in
     let obeyed : OrdersAreObeyed C R (length old.entrances) w (g.O.Conn.wire r.console) failed
-    = subst (λ o. OrdersAreObeyed C R (length old.entrances) w (g.O.Conn.wire o) failed) (sym c.left.ensures.objects.1) (console_obeys C n R (length old.entrances) w x failed proxies steered) in
+    = subst (λ o. OrdersAreObeyed C R (length old.entrances) w (g.O.Conn.wire o) failed) (sym c.left.ensures.objects.1) (console_obeys C n R over (length old.entrances) w x failed proxies steered) in
     let cells = cells_are_true C g.N.Numbered.run_seed n R c.end-ended.ensures.laws c.end-ended.ensures.numbers (λ k l. (told k l).1) in
     let kept : AllKept C true g.N.Backed.steady g.N.Backed.keeper_faults 0 (map keeper r.keepers.items) R.proxies
     = subst (λ t. AllKept C t g.N.Backed.steady g.N.Backed.keeper_faults 0 (map keeper r.keepers.items) e.record.proxies) c.requires.tells
     (subst (λ ks. AllKept C g.N.Backed.tells g.N.Backed.steady g.N.Backed.keeper_faults 0 (map keeper ks) e.record.proxies) (sym c.left.ensures.objects.2) c.end-ended.ensures.kept) in
+    let workers = c.end-ended.ensures.numbers.workers in
+    let names = c.end-ended.ensures.numbers.launcher in
+    let lead = all_lead C R over n (length old.entrances) workers (omega arith) names door_lists console_list in
+    let same = ap (λ (f : Family). ended_among f.finished) (sym c.left.ensures.children) in
     record {
-      served = subst (λ k. ServesDoors wire C n most R old.entrances (map g.D.Door.entrance r.doors.items) k starved) (sym c.end-ended.ensures.connections)
-          (subst (λ es. ServesDoors wire C n most R old.entrances es connections starved) (sym doors) served);
-      steered = subst (λ x. ServesConsole C n R (length old.entrances) w (g.O.Conn.wire x) (is_fault c.args.overseen)) (sym c.left.ensures.objects.1) steered;
+      served = subst (λ (ended : ℕ → ℕ → Bool). ServesDoors wire C n most R ended old.entrances (map g.D.Door.entrance r.doors.items) e.counts.connections starved) same
+          (subst (λ k. ServesDoors wire C n most R over old.entrances (map g.D.Door.entrance r.doors.items) k starved) (sym c.end-ended.ensures.connections)
+          (subst (λ es. ServesDoors wire C n most R over old.entrances es connections starved) (sym doors) served));
+      steered = subst (λ (ended : ℕ → ℕ → Bool). ServesConsole C n R ended (length old.entrances) w (g.O.Conn.wire r.console) (is_fault c.args.overseen)) same
+          (subst (λ x. ServesConsole C n R over (length old.entrances) w (g.O.Conn.wire x) (is_fault c.args.overseen)) (sym c.left.ensures.objects.1) steered);
       made = lists_make n R c.end-ended.ensures.numbers (λ k l. (told k l).0)
-          (launches_alone C g.N.Numbered.run_seed n R c.end-ended.ensures.numbers.workers c.end-ended.ensures.laws c.end-ended.ensures.launched (λ k l. (told k (let u : k ≤ n = omega arith in u)).0));
-      door_lists = door_lists;
-      console_list = console_list;
+          (launches_alone C g.N.Numbered.run_seed n R workers c.end-ended.ensures.laws c.end-ended.ensures.launched (λ k l. (told k (let u : k ≤ n = omega arith in u)).0));
+      door_lists = subst (λ (ended : ℕ → ℕ → Bool). (k : ℕ) → k < length old.entrances → ListIsPieces C R ended is_ordered k) same door_lists;
+      console_list = subst (λ (ended : ℕ → ℕ → Bool). ListIsPieces C R ended is_accept_item (length old.entrances)) same console_list;
       orders = obeyed;
-      pieces = all_pieces C R (length old.entrances) failed obeyed.orders (let k = c.end-ended.ensures.numbers.workers in omega arith) door_lists console_list obeyed.comes;
+      pieces = all_pieces C R over (length old.entrances) failed obeyed.orders (omega arith) door_lists console_list obeyed.comes;
       connections = subst (ServesConnections wire C R old.entrances) (sym doors)
-          (connects_doors wire C n most R c.end-ended.ensures.laws.proxies_are old.entrances places.entrances served.attended (let k = c.end-ended.ensures.numbers.workers in let l : length old.entrances ≤ length R.workers = omega arith in l) served.attend);
-      lead = all_lead C R n (length old.entrances) c.end-ended.ensures.numbers.workers (omega arith) c.end-ended.ensures.numbers.launcher door_lists console_list;
-      caused = c.end-ended.ensures.caused;
-      first = begins_with_launches wire C n z most (length old.entrances + 1) R (λ k l. c.end-ended.ensures.numbers.launcher k (omega (arith, l, many, alike))) (let k = c.end-ended.ensures.numbers.workers in omega (arith, k, many))
-          done.lives old places connections starved done.doors (let s = c.requires.held.some in omega (arith, s, alike)) ends.0 done.opened;
-      lawful = are_lawful C g.N.Numbered.run_seed n (length old.entrances) R g.N.Backed.steady g.N.Backed.keeper_faults (map keeper r.keepers.items) (let k = c.end-ended.ensures.numbers.workers in omega arith) c.end-ended.ensures.laws cells.1 door_lists console_list kept;
+          (connects_doors wire C n most R over c.end-ended.ensures.laws.proxies_are old.entrances places.entrances served.attended (let l : length old.entrances ≤ length R.workers = omega arith in l) served.attend);
+      causes = λ T tells.
+          have_causes C R over (length old.entrances) T (λ s k h. tells s k (subst (λ (ended : ℕ → ℕ → Bool). ended s k ≡ true) same h)) (omega (arith, workers, many, alike)) door_lists console_list lead c.end-ended.ensures.caused;
+      first = begins_with_launches wire C n z most (length old.entrances + 1) R over (omega (arith, many, alike)) (omega (arith, workers, many)) c.end-ended.ensures.laws.launcher c.args.okd c.end-ended.ensures.first c.end-ended.ensures.launched c.end-ended.ensures.numbers
+          done.lives old places connections starved done.doors (let s = c.requires.held.some in omega (arith, s, alike)) ends.0 done.opened done.shown;
+      lawful = are_lawful C g.N.Numbered.run_seed n (length old.entrances) R over g.N.Backed.steady g.N.Backed.keeper_faults (map keeper r.keepers.items) (omega arith) c.end-ended.ensures.laws cells.1 door_lists console_list kept;
       missed = cells.0;
       stands = cells.1;
       laws = c.end-ended.ensures.laws;
       numbers = c.end-ended.ensures.numbers;
       counts = c.end-ended.ensures.counts;
       kept = kept;
+      launches = go_so n R workers names (λ k l. (told k (omega (arith, l))).0.launchers) (λ k l. lists_end C R over (length old.entrances) door_lists console_list k (omega (arith, l, many, alike))) C g.N.Numbered.run_seed c.end-ended.ensures.pieces;
       failed = subst (FailuresAreTold g.N.Staffed.children e.record.launcher) (sym c.left.ensures.children) c.end-ended.ensures.failed;
+      children = subst (ChildrenAreTold C g.N.Numbered.run_seed R g.N.Staffed.children) (sym c.left.ensures.children) c.end-ended.ensures.children;
       written = c.end-ended.ensures.written;
     }))

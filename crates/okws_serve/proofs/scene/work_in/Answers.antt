@@ -62,6 +62,6 @@ returns-clause-done g c =
     let r = c.run.result in
     let w = g.O.Conn.wire c.args.console.console in
     let x = g.O.Conn.wire r.0 in
-    let Done = λ (z : TableId) (m : ℕ). WorkDone g.D.Conn.Conn.wire g.N.Numbered.site g.N.Numbered.launcher z m c.run.new.chairs c.args.places.now c.run.new.places w x r.1.connections r.1.starved (is_fault r.2) in
+    let Done = λ (z : TableId) (m : ℕ). WorkDone g.D.Conn.Conn.wire g.N.Numbered.site g.N.Numbered.launcher z m c.run.new.chairs r.3 c.args.places.now c.run.new.places w x r.1.connections r.1.starved (is_fault r.2) in
     subst (λ (b : BoardIs). Done b.id c.args.most) c.ground-common.ensures.locks.1
     (subst (λ (m : ℕ). Done c.ground-common.result.numbers.now.id m) c.ground-common.ensures.setting.1 c.run.ensures.done)

@@ -1,6 +1,6 @@
 use Rattle.std.proofs.Common.{List, map, sym, ap, ◌∙◌, subst}
 use Rattle.okws_outer.specs.Doors.{Entrance}
-use Rattle.site_run.specs.Keepers.{keeper_of}
+use Rattle.site_making.specs.Keepers.{keeper_of}
 use Rattle.site_run.specs.Places.{AllIdle}
 use Rattle.okws_serve.specs.Doors.{is_fault}
 use Rattle.okws_serve.specs.Manned.{WorkDone}
@@ -61,7 +61,7 @@ returns-in-Ok-stage-clause-ran g c =
     let r = c.end_run.result in
     let w = g.O.Conn.wire c.args.outside.console in
     let l = c.in-Ok-stage.staged in
-    let done = subst (λ x. WorkDone g.D.Conn.Conn.wire g.N.Numbered.site g.N.Numbered.launcher l.scene.hall.numbers.id c.args.limits.connections c.work_in-console.new.chairs l.places c.work_in-console.new.places (g.O.Conn.wire x) (g.O.Conn.wire c.work_in-console.result.0) c.work_in-console.result.1.connections c.work_in-console.result.1.starved (is_fault c.work_in-console.result.2)) c.in-Ok-stage.ensures.beside.1 c.work_in-console.ensures.done in
+    let done = subst (λ x. WorkDone g.D.Conn.Conn.wire g.N.Numbered.site g.N.Numbered.launcher l.scene.hall.numbers.id c.args.limits.connections c.work_in-console.new.chairs c.work_in-console.result.3 l.places c.work_in-console.new.places (g.O.Conn.wire x) (g.O.Conn.wire c.work_in-console.result.0) c.work_in-console.result.1.connections c.work_in-console.result.1.starved (is_fault c.work_in-console.result.2)) c.in-Ok-stage.ensures.beside.1 c.work_in-console.ensures.done in
     let start : StartIs = record { steady = g.N.Backed.steady; keeper_faults = g.N.Backed.keeper_faults; sink_faults = g.N.Backed.sink_faults; children = g.N.Staffed.children } in
     if_both r.ran r.log _ _ (λ ran log h.
     let now : ObjectsAre = record {

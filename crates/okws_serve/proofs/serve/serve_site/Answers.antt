@@ -1,7 +1,7 @@
 use Rattle.std.proofs.Common.{map}
 use Rattle.std.specs.Arc.{arc_value}
-use Rattle.site_run.specs.Keepers.{keeper_of}
-use Rattle.site_run.proofs.Backing.{backs}
+use Rattle.site_making.specs.Keepers.{keeper_of}
+use Rattle.site_making.proofs.Backing.{backs}
 use Rattle.okws_serve.proofs.serve.serve_site.Goals as goal
 
 pub serve_numbered-requires-clause-keepers : goal.serve_numbered-requires-clause-keepers

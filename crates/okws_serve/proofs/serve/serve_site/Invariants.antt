@@ -1,7 +1,7 @@
 use Rattle.std.proofs.Common.{◌+◌, true, map}
 use Rattle.std.specs.Prelude.{vec_len}
 use Rattle.std.specs.Arc.{arc_value}
-use Rattle.site_run.specs.Keepers.{are_steady, faults_at, keeper_of}
+use Rattle.site_making.specs.Keepers.{are_steady, faults_at, keeper_of}
 use Rattle.okws_serve.proofs.serve.serve_site.Given as goal
 
 abbrev pub ghosts-serve_numbered-N-Numbered : goal.ghosts-serve_numbered-N-Numbered

@@ -8,7 +8,8 @@ use Rattle.turn_lock.proofs.Rows.{turned_push}
 use Rattle.turn_lock.proofs.Spots.{empty_of}
 use Rattle.site_run.specs.Journals.{AllCells}
 use Rattle.site_run.proofs.Lists.{cells_push}
-use Rattle.site_run.proofs.Making.{moved, turned_back}
+use Rattle.site_run.proofs.Making.{moved}
+use Rattle.site_making.proofs.Turned.{turned_back}
 use Rattle.site_run.proofs.Seating.{push_length}
 use Rattle.site_run.proofs.closing.end_cells.Goals as goal
 

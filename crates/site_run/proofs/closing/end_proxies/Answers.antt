@@ -8,7 +8,7 @@ use Rattle.site_locks.specs.Sat.{RiseFrom}
 use Rattle.turn_lock.proofs.Rows.{pushed_map, turned_push}
 use Rattle.turn_lock.proofs.Spots.{empty_of}
 use Rattle.site_run.specs.Journals.{AllProxies}
-use Rattle.site_run.specs.Keepers.{keeper_of}
+use Rattle.site_making.specs.Keepers.{keeper_of}
 use Rattle.site_run.specs.Closing.{AllKept}
 use Rattle.site_run.proofs.Lists.{kept_push, proxies_push}
 use Rattle.site_run.proofs.Making.{moved}

@@ -3,7 +3,7 @@ use Rattle.std.specs.Prelude.{vec_len, vec_capacity}
 use Rattle.named_columns.specs.Held.{HeldProxy}
 use Rattle.site_locks.specs.Sat.{RiseFrom}
 use Rattle.site_run.specs.Journals.{AllProxies}
-use Rattle.site_run.specs.Keepers.{keeper_of}
+use Rattle.site_making.specs.Keepers.{keeper_of}
 use Rattle.site_run.specs.Closing.{AllKept}
 use Rattle.site_run.proofs.closing.end_proxies.Given as goal
 

@@ -1,8 +1,7 @@
 use Rattle.std.proofs.Common.{rules, arith, ◌≡◌, ◌∙◌, ◌<◌, List, length, set, refl, sym, ap, subst}
 use Rattle.okws_base.specs.Turns.{Behind}
-use Rattle.okws_base.specs.declared.journal.Entry.{Entry}
-use Rattle.okws_plan.specs.declared.event.LauncherEvent.{LauncherEvent}
 use Rattle.turn_lock.specs.Seats.{NoteIs, SeatIs}
+use Rattle.okld_launch.specs.declared.deed.Deed.{Deed}
 use Rattle.site_run.proofs.Telling.{all_same, meets, tells, told_on}
 use Rattle.site_run.proofs.launching.tell_all.Goals as goal
 
@@ -20,7 +19,7 @@ meet-requires-clause-lock g c =
     let l : c.loop-number.number < length c.args.turns.now.items = search (rules, arith) in
     let r = meets c.args.turn.now c.args.turns.now.items c.loop-number.turns.items c.loop-number.number c.index_mut.result.now c.split-note.new.seat c.index_mut-in-loop-number.result.now c.requires.turns c.loop-number.invariant.more
     c.loop-number.invariant.from l c.index_mut.ensures.value c.split-note.ensures.seat c.index_mut-in-loop-number.ensures.value in
-    (r.1.lock, ap (λ (m : NoteIs (Entry LauncherEvent)). m.lock) c.split-note.ensures.note ∙ r.0.lock)
+    (r.1.lock, ap (λ (m : NoteIs Deed). m.lock) c.split-note.ensures.note ∙ r.0.lock)
 
 pub meet-requires-clause-free : goal.meet-requires-clause-free
 meet-requires-clause-free g c =
@@ -40,8 +39,8 @@ loop-number-preserved g c =
     let inv = c.loop-number.invariant in
     let o = inv.from in
     let l : c.loop-number.number < length c.args.turns.now.items = search (rules, arith) in
-    let seen = ap (λ (m : NoteIs (Entry LauncherEvent)). m.seen) c.split-note.ensures.note ∙ sym (ap (λ (x : SeatIs (Entry LauncherEvent)). x.seen) c.split-note.ensures.seat) in
-    let behind : Behind s.seen d.seen = subst (λ (I : List (Entry LauncherEvent)). Behind I d.seen) seen c.meet.ensures.met in
+    let seen = ap (λ (m : NoteIs Deed). m.seen) c.split-note.ensures.note ∙ sym (ap (λ (x : SeatIs Deed). x.seen) c.split-note.ensures.seat) in
+    let behind : Behind s.seen d.seen = subst (λ (I : List Deed). Behind I d.seen) seen c.meet.ensures.met in
     let it = tells c.args.turn.now olds xs (set xs 0 s) (set (set xs 0 s) i d) i a s c.index_mut-in-loop-number.result.now d c.requires.turns inv.more o l
     c.index_mut.ensures.value c.split-note.ensures.seat refl c.index_mut-in-loop-number.ensures.value c.meet.ensures.seat c.meet.ensures.grows behind refl in
     record {

@@ -2,10 +2,13 @@ use Rattle.std.proofs.Common.{◌∙◌, ap}
 use Rattle.std.specs.Prelude.{None, option_map, slice_set}
 use Rattle.launch_crew.specs.Crews.{StaffIs, running_at}
 use Rattle.launch_crew.specs.Told.{with_end_of}
+use Rattle.cell_locks.specs.Row.{link_at}
+use Rattle.launch_crew.proofs.Ended.{linked_map}
+use Rattle.launch_crew.proofs.Finishing.{ends_of_child}
 use Rattle.launch_crew.proofs.crew.Crew.empty.Goals as goal
 
-pub returns : goal.returns
-returns g c =
+pub returns-clause-empties : goal.returns-clause-empties
+returns-clause-empties g c =
     let link = option_map g.F.Link.Link.wire c.retire-link.result in
     record {
       sat_is = c.retire-link.ensures.columns;
@@ -15,5 +18,20 @@ returns g c =
       family_is = c.release.ensures.family ∙ ap (λ (t : StaffIs). with_end_of (running_at t.running c.args.service) link t.family) c.stop.ensures;
       none = c.retire-link.ensures.empty;
       last = c.retire-link.ensures.last;
+      behind = c.retire-link.ensures.behind;
+      own_is = c.retire-link.ensures.own;
       room = c.retire-link.ensures.room;
+      link_is = linked_map g.F.Link.Link.wire c.retire-link.result ∙ c.retire-link.ensures.link;
+      unlinked = c.retire-link.ensures.unlinked;
     }
+
+pub returns-clause-ended : goal.returns-clause-ended
+returns-clause-ended g c = λ attended.
+    let s = c.args.service in
+    let a = c.args.self.now.recorder in
+    let t = c.args.self.now.staff in
+    let link = option_map g.F.Link.Link.wire c.retire-link.result in
+    ends_of_child g.N.Numbered.site g.N.Numbered.run_seed s a.watch c.retire-link.new.self.watch t.family c.release.new.self.family (running_at t.running s) link (link_at a.watch s)
+    (c.release.ensures.family ∙ ap (λ (t : StaffIs). with_end_of (running_at t.running s) link t.family) c.stop.ensures)
+    (linked_map g.F.Link.Link.wire c.retire-link.result ∙ c.retire-link.ensures.link)
+    (attended s) c.retire-link.ensures.last c.retire-link.ensures.empty c.retire-link.ensures.holds c.retire-link.ensures.out

@@ -1,4 +1,3 @@
-use Rattle.std.proofs.Common.{◌≡◌}
 use Rattle.launch_crew.proofs.Recording.{unused}
 use Rattle.launch_crew.proofs.recorder.Recorder.new.Goals as goal
 

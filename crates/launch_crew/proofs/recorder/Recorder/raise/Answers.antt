@@ -1,4 +1,4 @@
-use Rattle.std.proofs.Common.{◌≡◌, ◌∙◌, ◌<◌, ap, arith, length-set}
+use Rattle.std.proofs.Common.{◌∙◌, ap, arith, length-set}
 use Rattle.std.specs.Prelude.{slice_index, slice_set}
 use Rattle.site_locks.specs.Sat.{Sat}
 use Rattle.launch_crew.proofs.Slots.{set_here}

@@ -1,4 +1,4 @@
-use Rattle.std.proofs.Common.{◌≡◌, refl, subst}
+use Rattle.std.proofs.Common.{refl, subst}
 use Rattle.okws_plan.specs.declared.event.OkdEvent.TheVariants as event
 use Rattle.launch_crew.specs.Coming.{Came, NoneCame}
 use Rattle.launch_crew.specs.Recorded.{Recorded}
@@ -9,13 +9,13 @@ use Rattle.launch_crew.proofs.recorder.Recorder.up.Goals as goal
 pub invariant_of-self : goal.invariant_of-self
 invariant_of-self g c =
     let h = c.in_err-up.ensures.err in
-    okd_seen g.N.Numbered.site g.N.Numbered.launcher c.self.inside.seats c.up.new.self c.self.inside.cells c.self.inside.own.past c.self.inside.own.room c.self.inside.own.room c.self.invariant h.0 h.2
+    okd_seen g.N.Numbered.site g.N.Numbered.launcher c.self.inside.seats c.up.new.self c.self.inside.cells c.self.inside.own.past c.self.inside.own.room c.self.inside.own.room c.self.invariant h.0 h.1 h.2
 
 pub invariant_of-self-2 : goal.invariant_of-self-2
 invariant_of-self-2 g c =
     let h = c.in_ok-up.ensures.ok in
     okd_entered g.N.Numbered.site g.N.Numbered.launcher c.self.inside.seats c.up.new.self c.self.inside.cells c.self.inside.own.past c.enter.new.self.past c.self.inside.own.room c.enter.new.self.room c.self.invariant
-    (event.Up c.args.service c.args.incarnation) h.0 refl c.enter.ensures.past h.2
+    (event.Up c.args.service c.args.incarnation) h.0 h.1 refl c.enter.ensures.past h.2
 
 pub returns-clause-came : goal.returns-clause-came
 returns-clause-came g c =

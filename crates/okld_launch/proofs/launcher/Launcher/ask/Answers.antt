@@ -1,4 +1,4 @@
-use Rattle.std.proofs.Common.{◌≡◌, refl}
+use Rattle.std.proofs.Common.{refl}
 use Rattle.okws_plan.specs.declared.event.LauncherEvent.TheVariants as event
 use Rattle.okld_launch.proofs.Begins.{launcher_of, entered_other}
 use Rattle.okld_launch.proofs.Trying.{asked_begun}
@@ -17,4 +17,6 @@ invariant_of-self g c = record {
   failed = told_entered g.N.Staffed.children c.self.inside.crew.staff.family (event.Asked c.args.service) c.self.inside.journal c.asked.new.self refl c.asked.ensures c.self.invariant.failed;
   keeps = entered_other g.N.Numbered.site (launcher_of c.self.inside.journal c.self.inside.crew.recorder c.self.inside.crew.staff c.self.inside.ups.items) c.asked.new.self (event.Asked c.args.service) (λ t. refl) (asked_begun c.self.inside.journal.past c.args.service) c.asked.ensures c.self.invariant.keeps;
   caused = entered_caused (launcher_of c.self.inside.journal c.self.inside.crew.recorder c.self.inside.crew.staff c.self.inside.ups.items) c.asked.new.self (event.Asked c.args.service) c.asked.ensures (caused_asked (came_up c.self.inside.crew.recorder.sat) (λ s. slice_index c.self.inside.ups.items s) c.self.inside.journal.past c.self.inside.journal.holder c.args.service c.self.invariant.caused);
+  attended = c.self.invariant.attended;
+  kin = c.self.invariant.kin;
 }

@@ -1,4 +1,4 @@
-use Rattle.std.proofs.Common.{◌≡◌, ◌<◌, refl, sym, ap, subst, arith}
+use Rattle.std.proofs.Common.{refl, sym, ap, subst, arith}
 use Rattle.monitor_model.specs.Launcher.{begun}
 use Rattle.launch_crew.specs.Crews.{Under, crew_of}
 use Rattle.launch_crew.specs.Recorded.{Recorded}
@@ -8,6 +8,8 @@ use Rattle.okws_plan.specs.declared.event.LauncherEvent.TheVariants as event
 use Rattle.launch_crew.specs.Coming.{came_up}
 use Rattle.okld_launch.specs.Launchers.{LauncherIs, MayLaunch}
 use Rattle.okld_launch.proofs.Caused.{begun_caused, begun_fresh}
+use Rattle.launch_crew.proofs.Ended.{attended_same}
+use Rattle.okld_launch.proofs.Kin.{kin_watch}
 use Rattle.okld_launch.proofs.launcher.Launcher.begin.Goals as goal
 
 pub invariant_of-self : goal.invariant_of-self
@@ -19,6 +21,8 @@ invariant_of-self g c = record {
   keeps = begun_kept g.N.Numbered.site c.args.service c.begin-incarnation.result (launcher_of c.self.inside.journal c.self.inside.crew.recorder c.self.inside.crew.staff c.self.inside.ups.items) (launcher_of c.begin-incarnation.new.self c.raise.new.self c.self.inside.crew.staff c.self.inside.ups.items)
       (λ i. record { journal = c.begin-incarnation.ensures.entered i; crew = crew_of (c.raise.ensures.is i) c.self.inside.crew.staff; ups = c.self.inside.ups.items }) c.begin-incarnation.ensures.next c.raise.ensures.shown c.self.invariant.keeps;
   caused = begun_caused c.args.service c.begin-incarnation.result (launcher_of c.self.inside.journal c.self.inside.crew.recorder c.self.inside.crew.staff c.self.inside.ups.items) (launcher_of c.begin-incarnation.new.self c.raise.new.self c.self.inside.crew.staff c.self.inside.ups.items) c.begin-incarnation.ensures.entered (λ s k. ap (λ (r : Recorded). came_up r.sat s k) c.raise.ensures.is) refl c.begin-incarnation.ensures.next (subst (λ (x : LauncherIs). MayLaunch c.args.service x) (sym c.self.view_is) c.requires.cause) c.self.invariant.caused;
+  attended = attended_same (crew_of c.self.inside.crew.recorder c.self.inside.crew.staff) (crew_of c.raise.new.self c.self.inside.crew.staff) (ap (λ (r : Recorded). r.watch) c.raise.ensures.is) refl c.self.invariant.attended;
+  kin = kin_watch g.N.Numbered.site g.N.Numbered.run_seed g.N.Staffed.children c.self.inside.crew.recorder.watch c.raise.new.self.watch c.self.inside.crew.staff.running c.self.inside.crew.staff.family (ap (λ (r : Recorded). r.watch) c.raise.ensures.is) c.self.invariant.kin;
 }
 
 pub raise-requires-clause-above : goal.raise-requires-clause-above

@@ -1,13 +1,21 @@
-use Rattle.std.proofs.Common.{◌≡◌, ◌<◌, ◌≤◌, length, refl, sym, ap, subst, arith}
+use Rattle.std.proofs.Common.{◌≡◌, ◌∙◌, refl, sym, ap, subst, arith}
 use Rattle.std.specs.Prelude.{slice_set}
 use Rattle.launch_crew.specs.Crews.{Under, crew_of}
 use Rattle.okld_launch.specs.Launchers.{LauncherIs, MayLaunch}
 use Rattle.okld_launch.proofs.Begins.{launcher_of}
-use Rattle.okld_launch.proofs.Placing.{Clears, cleared, quiet_clears, under_clears}
+use Rattle.okld_launch.proofs.Placing.{cleared, quiet_clears, under_clears}
 use Rattle.launch_crew.specs.Told.{TellsMore}
 use Rattle.launch_crew.proofs.Children.{more_emptied}
 use Rattle.okld_launch.proofs.Failing.{told_more}
 use Rattle.okld_launch.proofs.Caused.{cleared_caused, cleared_none}
+use Rattle.cell_locks.specs.Row.{CellsSeen}
+use Rattle.monitor_model.specs.Launches.{with_cleared, with_retired, with_revokes}
+use Rattle.launch_crew.specs.Listed.{of_cells, AreCounted, CellsGo}
+use Rattle.launch_crew.proofs.Retiring.{counted_of}
+use Rattle.okld_launch.specs.Children.{StaysAttended}
+use Rattle.okld_launch.proofs.Children.{stays_emptied, stays_on, stays_same}
+use Rattle.launch_crew.proofs.Ended.{attended_emptied, attended_same}
+use Rattle.okld_launch.proofs.Kin.{kin_emptied, kin_watch, named_at}
 use Rattle.okld_launch.proofs.launcher.Launcher.clear.Goals as goal
 
 pub invariant_of-self : goal.invariant_of-self
@@ -15,16 +23,16 @@ invariant_of-self g c = record {
   site_is = c.self.invariant.site_is;
   seed_is = c.self.invariant.seed_is;
   few = c.self.invariant.few;
-  failed = told_more g.N.Staffed.children c.self.inside.crew.staff.family c.empty.new.self.staff.family c.self.inside.journal.past (more_emptied c.args.service (crew_of c.revoke.new.self c.self.inside.crew.staff) (crew_of c.empty.new.self.recorder c.empty.new.self.staff) c.empty.ensures) c.self.invariant.failed;
+  failed = told_more g.N.Staffed.children c.self.inside.crew.staff.family c.empty.new.self.staff.family c.self.inside.journal.past (more_emptied c.args.service (crew_of c.revoke.new.self c.self.inside.crew.staff) (crew_of c.empty.new.self.recorder c.empty.new.self.staff) c.empty.ensures.empties) c.self.invariant.failed;
   keeps = cleared g.N.Numbered.site c.args.service (launcher_of c.self.inside.journal c.self.inside.crew.recorder c.self.inside.crew.staff c.self.inside.ups.items) (launcher_of c.self.inside.journal c.empty.new.self.recorder c.empty.new.self.staff (slice_set c.self.inside.ups.items c.args.service 0)) (crew_of c.down.new.self c.self.inside.crew.staff) (crew_of c.revoke.new.self c.self.inside.crew.staff) c.self.invariant.keeps refl refl
       (record {
         down_hands = record { watch_is = c.down.ensures.cells; running_is = refl; family_is = refl };
         downs = c.down.ensures.downs;
         revoke_hands = record { watch_is = c.revoke.ensures.cells; running_is = refl; family_is = refl };
         revokes = c.revoke.ensures.revokes;
-        empties = c.empty.ensures;
+        empties = c.empty.ensures.empties;
       })
-      (omega (arith, ap (λ (x : LauncherIs). x.crew.room) c.self.view_is, c.requires.room, c.down.ensures.room, c.revoke.ensures.room, c.empty.ensures.room));
+      (omega (arith, ap (λ (x : LauncherIs). x.crew.room) c.self.view_is, c.requires.room, c.down.ensures.room, c.revoke.ensures.room, c.empty.ensures.empties.room));
   caused = cleared_caused c.args.service (launcher_of c.self.inside.journal c.self.inside.crew.recorder c.self.inside.crew.staff c.self.inside.ups.items) (launcher_of c.self.inside.journal c.empty.new.self.recorder c.empty.new.self.staff (slice_set c.self.inside.ups.items c.args.service 0)) refl refl
       (cleared_none g.N.Numbered.site c.args.service (crew_of c.self.inside.crew.recorder c.self.inside.crew.staff) (crew_of c.down.new.self c.self.inside.crew.staff) (crew_of c.revoke.new.self c.self.inside.crew.staff) (crew_of c.empty.new.self.recorder c.empty.new.self.staff) c.down.ensures.came
       (record {
@@ -32,9 +40,12 @@ invariant_of-self g c = record {
         downs = c.down.ensures.downs;
         revoke_hands = record { watch_is = c.revoke.ensures.cells; running_is = refl; family_is = refl };
         revokes = c.revoke.ensures.revokes;
-        empties = c.empty.ensures;
+        empties = c.empty.ensures.empties;
       }))
       (subst (λ (x : LauncherIs). MayLaunch c.args.service x) (sym c.self.view_is) c.requires.cause) c.self.invariant.caused;
+  attended = attended_emptied c.args.service (crew_of c.revoke.new.self c.self.inside.crew.staff) (crew_of c.empty.new.self.recorder c.empty.new.self.staff) c.empty.ensures.empties (attended_same (crew_of c.self.inside.crew.recorder c.self.inside.crew.staff) (crew_of c.revoke.new.self c.self.inside.crew.staff) (c.revoke.ensures.cells ∙ c.down.ensures.cells) refl c.self.invariant.attended);
+  kin = kin_emptied g.N.Numbered.site g.N.Numbered.run_seed g.N.Staffed.children c.args.service (crew_of c.revoke.new.self c.self.inside.crew.staff) (crew_of c.empty.new.self.recorder c.empty.new.self.staff) (named_at (crew_of c.revoke.new.self c.self.inside.crew.staff) c.args.service (attended_same (crew_of c.self.inside.crew.recorder c.self.inside.crew.staff) (crew_of c.revoke.new.self c.self.inside.crew.staff) (c.revoke.ensures.cells ∙ c.down.ensures.cells) refl c.self.invariant.attended)) c.empty.ensures.empties (c.empty.ensures.ended (attended_same (crew_of c.self.inside.crew.recorder c.self.inside.crew.staff) (crew_of c.revoke.new.self c.self.inside.crew.staff) (c.revoke.ensures.cells ∙ c.down.ensures.cells) refl c.self.invariant.attended))
+      (kin_watch g.N.Numbered.site g.N.Numbered.run_seed g.N.Staffed.children c.self.inside.crew.recorder.watch c.revoke.new.self.watch c.self.inside.crew.staff.running c.self.inside.crew.staff.family (c.revoke.ensures.cells ∙ c.down.ensures.cells) c.self.invariant.kin);
 }
 
 pub returns-clause-quiet : goal.returns-clause-quiet
@@ -44,7 +55,7 @@ returns-clause-quiet g c = quiet_clears g.N.Numbered.site c.args.service (crew_o
       downs = c.down.ensures.downs;
       revoke_hands = record { watch_is = c.revoke.ensures.cells; running_is = refl; family_is = refl };
       revokes = c.revoke.ensures.revokes;
-      empties = c.empty.ensures;
+      empties = c.empty.ensures.empties;
     })
 
 pub returns-clause-under : goal.returns-clause-under
@@ -54,10 +65,31 @@ returns-clause-under g c = λ k h. under_clears g.N.Numbered.site c.args.service
       downs = c.down.ensures.downs;
       revoke_hands = record { watch_is = c.revoke.ensures.cells; running_is = refl; family_is = refl };
       revokes = c.revoke.ensures.revokes;
-      empties = c.empty.ensures;
+      empties = c.empty.ensures.empties;
     })
     (subst (λ (x : LauncherIs). Under c.args.service k x.crew) (sym c.self.view_is) h)
 
 pub returns-clause-told : goal.returns-clause-told
 returns-clause-told g c = subst (λ (x : LauncherIs). TellsMore x.crew.family c.empty.new.self.staff.family) c.self.view_is
-    (more_emptied c.args.service (crew_of c.revoke.new.self c.self.inside.crew.staff) (crew_of c.empty.new.self.recorder c.empty.new.self.staff) c.empty.ensures)
+    (more_emptied c.args.service (crew_of c.revoke.new.self c.self.inside.crew.staff) (crew_of c.empty.new.self.recorder c.empty.new.self.staff) c.empty.ensures.empties)
+
+pub returns-clause-own : goal.returns-clause-own
+returns-clause-own g c =
+    let w = c.empty.new.self.recorder.watch in
+    subst (λ (x : LauncherIs). c.empty.new.self.recorder.own ≡ with_cleared g.N.Numbered.site (of_cells w.cells) c.args.service x.crew.own) c.self.view_is
+    (c.empty.ensures.empties.own_is ∙ ap (with_retired (of_cells w.cells) c.args.service) (c.revoke.ensures.own ∙ ap (with_revokes g.N.Numbered.site c.args.service) c.down.ensures.own))
+
+pub returns-clause-behind : goal.returns-clause-behind
+returns-clause-behind g c = subst (λ (x : LauncherIs). CellsGo x.crew.watch c.empty.new.self.recorder.watch) c.self.view_is
+    (subst (λ (v : CellsSeen). CellsGo v c.empty.new.self.recorder.watch) (c.revoke.ensures.cells ∙ c.down.ensures.cells) c.empty.ensures.empties.behind)
+
+pub returns-clause-counted : goal.returns-clause-counted
+returns-clause-counted g c = subst (λ (x : LauncherIs). AreCounted x.crew.watch x.crew.own) c.self.view_is (counted_of g.N.Numbered.site g.N.Numbered.launcher c.self.inside.crew.recorder c.keeps.ensures)
+
+pub returns-clause-stays : goal.returns-clause-stays
+returns-clause-stays g c =
+    let before = crew_of c.self.inside.crew.recorder c.self.inside.crew.staff in
+    let mid = crew_of c.revoke.new.self c.self.inside.crew.staff in
+    let after = crew_of c.empty.new.self.recorder c.empty.new.self.staff in
+    subst (λ (x : LauncherIs). StaysAttended x.crew after) c.self.view_is
+    (stays_on before mid after (stays_same before mid refl (c.revoke.ensures.cells ∙ c.down.ensures.cells) refl) (stays_emptied c.args.service mid after c.empty.ensures.empties))

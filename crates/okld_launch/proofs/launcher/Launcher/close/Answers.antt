@@ -1,4 +1,4 @@
-use Rattle.std.proofs.Common.{◌≡◌, ℕ, List, sym, subst}
+use Rattle.std.proofs.Common.{◌≡◌, List, sym, subst}
 use Rattle.std.specs.Prelude.{slice_index}
 use Rattle.okws_base.specs.declared.journal.Entry.{Entry}
 use Rattle.okws_plan.specs.declared.event.LauncherEvent.{LauncherEvent}
@@ -7,6 +7,8 @@ use Rattle.launch_crew.specs.Crews.{Below}
 use Rattle.launch_crew.specs.Coming.{came_up}
 use Rattle.okld_launch.specs.Causing.{AllCaused}
 use Rattle.okld_launch.specs.Failures.{FailuresAreTold}
+use Rattle.okld_launch.specs.Launchers.{LauncherIs}
+use Rattle.okld_launch.specs.Pieces.{IsWhole}
 use Rattle.okld_launch.proofs.launcher.Launcher.close.Goals as goal
 
 pub returns-clause-below : goal.returns-clause-below
@@ -20,3 +22,7 @@ returns-clause-failed g c = subst (λ (J : List (Entry LauncherEvent)). Failures
 
 pub returns-clause-caused : goal.returns-clause-caused
 returns-clause-caused g c = subst (λ (J : List (Entry LauncherEvent)). AllCaused (came_up c.self.inside.crew.recorder.sat) J J) (sym c.close.ensures.past) c.self.invariant.caused.all
+
+pub returns-clause-whole : goal.returns-clause-whole
+returns-clause-whole g c = λ up ended whole. subst (λ (J : List (Entry LauncherEvent)). IsWhole g.N.Numbered.site g.N.Numbered.run_seed up J c.self.inside.crew.recorder.watch.cells c.self.inside.crew.recorder.own) (sym c.close.ensures.past)
+    (subst (λ (x : LauncherIs). IsWhole g.N.Numbered.site g.N.Numbered.run_seed up x.journal.past x.crew.watch.cells x.crew.own) (sym c.self.view_is) whole.whole)

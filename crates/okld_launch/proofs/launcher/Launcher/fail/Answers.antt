@@ -20,4 +20,6 @@ invariant_of-self g c = record {
   failed = subst (λ (j : Launches). FailuresAreTold g.N.Staffed.children j.past c.self.inside.crew.staff.family) (sym c.failed.ensures) (subst (MayFail g.N.Staffed.children c.args.service c.args.incarnation) (sym c.self.view_is) c.requires.fault);
   keeps = entered_other g.N.Numbered.site (launcher_of c.self.inside.journal c.self.inside.crew.recorder c.self.inside.crew.staff c.self.inside.ups.items) c.failed.new.self (event.Failed c.args.service c.args.incarnation) (λ t. refl) (failed_begun c.self.inside.journal.past c.args.service c.args.incarnation (subst (λ (x : LauncherIs). c.args.incarnation ≡ begun x.journal.past c.args.service) (sym c.self.view_is) c.requires.begun)) c.failed.ensures c.self.invariant.keeps;
   caused = entered_caused (launcher_of c.self.inside.journal c.self.inside.crew.recorder c.self.inside.crew.staff c.self.inside.ups.items) c.failed.new.self (event.Failed c.args.service c.args.incarnation) c.failed.ensures (caused_failed (came_up c.self.inside.crew.recorder.sat) (λ s. slice_index c.self.inside.ups.items s) c.self.inside.journal.past c.self.inside.journal.holder c.args.service c.self.invariant.caused c.args.incarnation (subst (λ (x : LauncherIs). c.args.incarnation ≡ begun x.journal.past c.args.service) (sym c.self.view_is) c.requires.begun));
+  attended = c.self.invariant.attended;
+  kin = c.self.invariant.kin;
 }

@@ -1,4 +1,4 @@
-use Rattle.std.proofs.Common.{◌≡◌, refl}
+use Rattle.std.proofs.Common.{refl}
 use Rattle.okws_plan.specs.declared.event.LauncherEvent.TheVariants as event
 use Rattle.okld_launch.proofs.Begins.{launcher_of, entered_other}
 use Rattle.okld_launch.proofs.Trying.{dead_begun}
@@ -17,4 +17,6 @@ invariant_of-self g c = record {
   failed = told_entered g.N.Staffed.children c.self.inside.crew.staff.family (event.Dead c.args.service c.give_up.result) c.self.inside.journal c.give_up.new.self refl c.give_up.ensures.entered c.self.invariant.failed;
   keeps = entered_other g.N.Numbered.site (launcher_of c.self.inside.journal c.self.inside.crew.recorder c.self.inside.crew.staff c.self.inside.ups.items) c.give_up.new.self (event.Dead c.args.service c.give_up.result) (λ t. refl) (dead_begun c.self.inside.journal.past c.args.service c.give_up.result) c.give_up.ensures.entered c.self.invariant.keeps;
   caused = entered_caused (launcher_of c.self.inside.journal c.self.inside.crew.recorder c.self.inside.crew.staff c.self.inside.ups.items) c.give_up.new.self (event.Dead c.args.service c.give_up.result) c.give_up.ensures.entered (caused_dead (came_up c.self.inside.crew.recorder.sat) (λ s. slice_index c.self.inside.ups.items s) c.self.inside.journal.past c.self.inside.journal.holder c.args.service c.self.invariant.caused c.give_up.result);
+  attended = c.self.invariant.attended;
+  kin = c.self.invariant.kin;
 }

@@ -1,5 +1,5 @@
-use Rattle.std.proofs.Common.{rules, ◌≡◌, ◌∙◌, ℕ, ◌+◌, ◌<◌, List, Option, Some, refl, sym, subst, arith}
-use Rattle.std.specs.Prelude.{option_to_list}
+use Rattle.std.proofs.Common.{◌≡◌, ◌∙◌, ℕ, ◌+◌, ◌<◌, List, Option, Some, refl, sym, subst, arith, true, Bool, false}
+use Rattle.std.specs.Prelude.{option_to_list, ◌==◌}
 use Rattle.okws_base.specs.declared.limit.TheConstants.{MOST_INCARNATIONS}
 use Rattle.okws_plan.specs.declared.event.LauncherEvent.{LauncherEvent}
 use Rattle.okws_plan.specs.declared.event.LauncherEvent.TheVariants as event
@@ -13,10 +13,14 @@ use Rattle.okld_launch.specs.declared.answer.Attempt.{Attempt}
 use Rattle.okld_launch.proofs.Caused.{failed_may}
 use Rattle.okld_launch.proofs.Told.{fell_next, goes_refused, goes_up, nearer}
 use Rattle.okld_launch.proofs.Counting.{fell_begun, up_told, refused_told, told_as, few_as}
+use Rattle.monitor_model.specs.Causes.{is_crashed_of}
+use Rattle.okld_launch.specs.Deeds.{is_one, oldest, ups_after}
+use Rattle.okld_launch.specs.Pieces.{IsClosed, attempt_ups}
+use Rattle.okld_launch.proofs.Turning.{begun_no_crash, oldest_of}
 use Rattle.okld_launch.proofs.launcher.Launcher.go_on.Goals as goal
 
 pub loop-what-init : goal.loop-what-init
-loop-what-init g c = ((refl, refl), refl, c.next-what.ensures, omega (arith, c.greatest-first.ensures.is, c.greatest-first.ensures.most), c.requires.cause)
+loop-what-init g c = ((refl, refl), refl, c.next-what.ensures, omega (arith, c.greatest-first.ensures.is, c.greatest-first.ensures.most), c.requires.cause, λ up ended whole. whole)
 
 pub loop-what-preserved : goal.loop-what-preserved
 loop-what-preserved g c =
@@ -38,6 +42,7 @@ loop-what-preserved g c =
       c.next-what-in-loop-what.ensures,
       omega (arith, below, fell_begun C w s c.loop-what.failed J f m.journal.past m.crew.family inv.0),
       failed_may w s m.journal.past after failed.0,
+      λ up ended whole. subst (λ (x : Attempt). IsClosed C g.N.Numbered.run_seed (attempt_ups s x up) ended after) c.in-Failed.is (c.attempt-after.ensures.whole up ended (inv.5 up ended whole)),
     )
 
 pub loop-what-smaller : goal.loop-what-smaller
@@ -135,3 +140,35 @@ returns-clause-few g c =
     let m = c.loop-what.launcher in
     few_as g.N.Numbered.site c.args.self.journal.holder c.args.service c.loop-what.failed c.greatest-first.result c.args.self.journal.past c.args.self.crew.family m.journal.past m.crew.family c.args.opening c.end-launcher.result.2 c.new-entered-2.result
     c.new-entered-2.ensures c.greatest-first.ensures.is c.keeps.ensures.is.tried_are c.loop-what.invariant.0
+
+pub returns-in-Up-clause-whole : goal.returns-in-Up-clause-whole
+returns-in-Up-clause-whole g c = λ up ended whole.
+    let C = g.N.Numbered.site in
+    let after = c.attempt-after.result.0 in
+    let h = subst (λ (x : Attempt). IsClosed C g.N.Numbered.run_seed (attempt_ups c.args.service x up) ended after) c.in-Up.is (c.attempt-after.ensures.whole up ended (c.loop-what.invariant.5 up ended whole)) in
+    subst (λ (events : List LauncherEvent). IsClosed C g.N.Numbered.run_seed (ups_after true events up) ended after) (sym c.new-entered.ensures) h
+
+pub returns-in-NoMemory-clause-whole : goal.returns-in-NoMemory-clause-whole
+returns-in-NoMemory-clause-whole g c = λ up ended whole.
+    subst (λ (x : Attempt). IsClosed g.N.Numbered.site g.N.Numbered.run_seed (attempt_ups c.args.service x up) ended c.attempt-after.result.0) c.in-NoMemory.is (c.attempt-after.ensures.whole up ended (c.loop-what.invariant.5 up ended whole))
+
+pub returns-clause-whole : goal.returns-clause-whole
+returns-clause-whole g c = λ up ended whole.
+    subst (λ (b : Bool). IsClosed g.N.Numbered.site g.N.Numbered.run_seed (ups_after b c.new-entered-2.result up) ended c.end-launcher.result.0) (sym c.end-launcher.ensures.down) (c.end-launcher.ensures.whole up ended (c.loop-what.invariant.5 up ended whole))
+
+pub returns-in-Up-clause-oldest : goal.returns-in-Up-clause-oldest
+returns-in-Up-clause-oldest g c = λ t j.
+    subst (λ (events : List LauncherEvent). is_one (is_crashed_of t j) (oldest events) ≡ is_one (is_crashed_of t j) c.args.opening) (sym c.new-entered.ensures)
+    (oldest_of t j c.args.opening c.args.service (c.greatest-first.result + 1) c.loop-what.failed (Some (event.Begun c.args.service c.in-Up.incarnation)) refl)
+
+pub returns-in-NoMemory-clause-oldest : goal.returns-in-NoMemory-clause-oldest
+returns-in-NoMemory-clause-oldest g c = λ t j.
+    let s = c.args.service in
+    let k = c.greatest-first.result + 1 + c.loop-what.failed in
+    subst (λ (events : List LauncherEvent). is_one (is_crashed_of t j) (oldest events) ≡ is_one (is_crashed_of t j) c.args.opening) (sym c.new-entered-in-NoMemory.ensures)
+    (oldest_of t j c.args.opening c.args.service (c.greatest-first.result + 1) c.loop-what.failed c.last_begun-begun.result (subst (λ (e : Option LauncherEvent). is_one (is_crashed_of t j) e ≡ false) (sym c.last_begun-begun.ensures) (begun_no_crash t j s k (begun c.attempt-after.result.0.journal.past s == k))))
+
+pub returns-clause-oldest : goal.returns-clause-oldest
+returns-clause-oldest g c = λ t j.
+    subst (λ (events : List LauncherEvent). is_one (is_crashed_of t j) (oldest events) ≡ is_one (is_crashed_of t j) c.args.opening) (sym c.new-entered-2.ensures)
+    (oldest_of t j c.args.opening c.args.service (c.greatest-first.result + 1) c.loop-what.failed c.end-launcher.result.2 (c.end-launcher.ensures.closing t j))

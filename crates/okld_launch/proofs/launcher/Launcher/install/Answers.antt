@@ -1,12 +1,17 @@
-use Rattle.std.proofs.Common.{◌≡◌, ◌∙◌, ◌≤◌, refl, sym, ap, subst, arith}
-use Rattle.std.specs.Prelude.{slice_set}
+use Rattle.std.proofs.Common.{◌∙◌, ◌≤◌, List, refl, sym, ap, subst, arith}
 use Rattle.monitor_model.specs.Launcher.{begun}
-use Rattle.launch_crew.specs.Crews.{StandsAt, RunsAs, child_of, crew_of}
 use Rattle.okld_launch.specs.Launchers.{LauncherIs, up_in}
 use Rattle.okld_launch.proofs.Begins.{launcher_of}
 use Rattle.okld_launch.proofs.Placing.{installed_kept}
 use Rattle.okld_launch.proofs.Caused.{kept_caused}
 use Rattle.launch_crew.proofs.Coming.{none_columns}
+use Rattle.std.specs.Prelude.{OnErr}
+use Rattle.okws_plan.specs.Configuration.{cols}
+use Rattle.okws_plan.specs.declared.script.Place.{Place}
+use Rattle.launch_crew.specs.Listed.{InstallsFirst}
+use Rattle.launch_crew.proofs.Ended.{attended_same}
+use Rattle.okld_launch.proofs.Kin.{kin_watch}
+use Rattle.launch_crew.specs.Crews.{crew_of}
 use Rattle.okld_launch.proofs.launcher.Launcher.install.Goals as goal
 
 pub invariant_of-self : goal.invariant_of-self
@@ -19,4 +24,9 @@ invariant_of-self g c = record {
       (record { watch_is = c.install.ensures.cells; running_is = refl; family_is = refl }) c.install.ensures.installs (subst (λ (x : LauncherIs). c.args.incarnation ≤ begun x.journal.past c.args.service) (sym c.self.view_is) c.requires.begun) (ap (λ (x : LauncherIs). up_in x c.args.service) c.self.view_is ∙ c.requires.down)
       (omega (arith, ap (λ (x : LauncherIs). x.crew.room) c.self.view_is, c.requires.room, c.install.ensures.room));
   caused = kept_caused (launcher_of c.self.inside.journal c.self.inside.crew.recorder c.self.inside.crew.staff c.self.inside.ups.items) (launcher_of c.self.inside.journal c.install.new.self c.self.inside.crew.staff c.self.inside.ups.items) refl (none_columns c.self.inside.crew.recorder.sat c.install.new.self.sat c.install.ensures.installs.only) refl c.self.invariant.caused;
+  attended = attended_same (crew_of c.self.inside.crew.recorder c.self.inside.crew.staff) (crew_of c.install.new.self c.self.inside.crew.staff) (c.install.ensures.cells) refl c.self.invariant.attended;
+  kin = kin_watch g.N.Numbered.site g.N.Numbered.run_seed g.N.Staffed.children c.self.inside.crew.recorder.watch c.install.new.self.watch c.self.inside.crew.staff.running c.self.inside.crew.staff.family (c.install.ensures.cells) c.self.invariant.kin;
 }
+
+pub returns-clause-front : goal.returns-clause-front
+returns-clause-front g c = subst (λ (x : LauncherIs). OnErr c.install.result ((rest : List Place) × InstallsFirst g.N.Numbered.run_seed c.args.service c.args.incarnation (cols g.N.Numbered.site c.args.service) rest x.crew.own c.install.new.self.own)) c.self.view_is c.install.ensures.front

@@ -1,4 +1,4 @@
-use Rattle.std.proofs.Common.{◌≡◌, refl, sym, ap, subst}
+use Rattle.std.proofs.Common.{refl, sym, ap, subst}
 use Rattle.launch_journal.specs.Launches.{Launches}
 use Rattle.okld_launch.proofs.Begins.{launcher_of, same_entries}
 use Rattle.okld_launch.specs.Failures.{FailuresAreTold}
@@ -13,4 +13,6 @@ invariant_of-self g c = record {
   failed = subst (λ (j : Launches). FailuresAreTold g.N.Staffed.children j.past c.self.inside.crew.staff.family) (sym c.make_room.ensures.same) c.self.invariant.failed;
   keeps = same_entries g.N.Numbered.site (launcher_of c.self.inside.journal c.self.inside.crew.recorder c.self.inside.crew.staff c.self.inside.ups.items) c.make_room.new.self (ap (λ (x : Launches). x.config) c.make_room.ensures.same) (ap (λ (x : Launches). x.past) c.make_room.ensures.same) c.self.invariant.keeps;
   caused = kept_caused (launcher_of c.self.inside.journal c.self.inside.crew.recorder c.self.inside.crew.staff c.self.inside.ups.items) (launcher_of c.make_room.new.self c.self.inside.crew.recorder c.self.inside.crew.staff c.self.inside.ups.items) (ap (λ (x : Launches). x.past) c.make_room.ensures.same) (λ s k. refl) refl c.self.invariant.caused;
+  attended = c.self.invariant.attended;
+  kin = c.self.invariant.kin;
 }

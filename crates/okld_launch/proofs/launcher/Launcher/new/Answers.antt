@@ -1,8 +1,12 @@
-use Rattle.std.proofs.Common.{◌≡◌, ◌∙◌, refl, ap}
+use Rattle.std.proofs.Common.{◌∙◌, refl, ap, false}
 use Rattle.std.specs.Prelude.{replicate}
 use Rattle.okld_launch.proofs.Begins.{launcher_of, unused_kept}
 use Rattle.okld_launch.proofs.Failing.{none_failed}
+use Rattle.okld_launch.proofs.Kin.{idle_of, kin_none}
 use Rattle.okld_launch.proofs.Caused.{unused_caused}
+use Rattle.okld_launch.proofs.Pieces.{whole_none}
+use Rattle.std.proofs.lemmas.Bool.{false≢true}
+use Rattle.launch_crew.specs.Crews.{crew_of}
 use Rattle.okld_launch.proofs.launcher.Launcher.new.Goals as goal
 
 pub invariant_of-result : goal.invariant_of-result
@@ -14,4 +18,13 @@ invariant_of-result g c = record {
   keeps = unused_kept g.N.Numbered.site g.N.Numbered.launcher (launcher_of c.args.journal c.args.crew.recorder c.args.crew.staff c.in-Ok.ups.items) c.args.crew.recorder c.args.crew.staff
       c.requires.config c.requires.none refl c.requires.unused c.requires.spare (c.in-Ok.ensures.items_if_clones_equal (λ y h. h) ∙ ap (λ n. replicate n 0) c.services-services.ensures.is);
   caused = unused_caused g.N.Numbered.site g.N.Numbered.launcher (launcher_of c.args.journal c.args.crew.recorder c.args.crew.staff c.in-Ok.ups.items) c.args.crew.recorder c.requires.none refl c.requires.unused (c.in-Ok.ensures.items_if_clones_equal (λ y h. h) ∙ ap (λ n. replicate n 0) c.services-services.ensures.is);
+  attended = c.requires.attended;
+  kin = kin_none g.N.Numbered.site g.N.Numbered.run_seed g.N.Staffed.children c.args.crew.staff.family c.args.crew.recorder.watch c.args.crew.staff.running c.requires.children (idle_of (crew_of c.args.crew.recorder c.args.crew.staff) c.requires.unused.watch_is.unlinked c.requires.attended);
+}
+
+pub returns-clause-closed : goal.returns-clause-closed
+returns-clause-closed g c = record {
+  whole = whole_none g.N.Numbered.site g.N.Numbered.run_seed (λ s k. false) c.args.journal.past c.args.crew.recorder.watch.cells c.args.crew.recorder.own c.requires.none c.requires.unused.none (λ s k. refl);
+  attended = c.requires.attended;
+  told = λ s k h. absurd (false≢true h);
 }

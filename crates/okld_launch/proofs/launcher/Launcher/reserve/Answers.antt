@@ -1,4 +1,4 @@
-use Rattle.std.proofs.Common.{◌≡◌, refl, sym, ap, subst}
+use Rattle.std.proofs.Common.{refl, sym, ap, subst}
 use Rattle.launch_journal.specs.Launches.{Launches}
 use Rattle.launch_crew.specs.Crews.{crew_of}
 use Rattle.launch_crew.specs.Recorded.{Recorded}
@@ -6,6 +6,8 @@ use Rattle.okld_launch.proofs.Begins.{launcher_of, same_entries, same_crew, room
 use Rattle.okld_launch.specs.Failures.{FailuresAreTold}
 use Rattle.okld_launch.proofs.Caused.{kept_caused}
 use Rattle.launch_crew.proofs.Coming.{none_same}
+use Rattle.launch_crew.proofs.Ended.{attended_same}
+use Rattle.okld_launch.proofs.Kin.{kin_watch}
 use Rattle.okld_launch.proofs.launcher.Launcher.reserve.Goals as goal
 
 pub invariant_of-self : goal.invariant_of-self
@@ -16,6 +18,8 @@ invariant_of-self g c = record {
   failed = subst (λ (j : Launches). FailuresAreTold g.N.Staffed.children j.past c.self.inside.crew.staff.family) (sym c.make_room.ensures.same) c.self.invariant.failed;
   keeps = same_entries g.N.Numbered.site (launcher_of c.self.inside.journal c.self.inside.crew.recorder c.self.inside.crew.staff c.self.inside.ups.items) c.make_room.new.self (ap (λ (x : Launches). x.config) c.make_room.ensures.same) (ap (λ (x : Launches). x.past) c.make_room.ensures.same) c.self.invariant.keeps;
   caused = kept_caused (launcher_of c.self.inside.journal c.self.inside.crew.recorder c.self.inside.crew.staff c.self.inside.ups.items) (launcher_of c.make_room.new.self c.self.inside.crew.recorder c.self.inside.crew.staff c.self.inside.ups.items) (ap (λ (x : Launches). x.past) c.make_room.ensures.same) (λ s k. refl) refl c.self.invariant.caused;
+  attended = c.self.invariant.attended;
+  kin = c.self.invariant.kin;
 }
 
 pub invariant_of-self-2 : goal.invariant_of-self-2
@@ -28,4 +32,6 @@ invariant_of-self-2 g c = record {
       (roomier (crew_of c.self.inside.crew.recorder c.self.inside.crew.staff) (crew_of c.make_room-2.new.self c.self.inside.crew.staff) c.make_room-2.new.self.room (ap (λ (r : Recorded). crew_of r c.self.inside.crew.staff) c.make_room-2.ensures.same) c.make_room-2.ensures.room)
       (same_entries g.N.Numbered.site (launcher_of c.self.inside.journal c.self.inside.crew.recorder c.self.inside.crew.staff c.self.inside.ups.items) c.make_room.new.self (ap (λ (x : Launches). x.config) c.make_room.ensures.same) (ap (λ (x : Launches). x.past) c.make_room.ensures.same) c.self.invariant.keeps);
   caused = kept_caused (launcher_of c.self.inside.journal c.self.inside.crew.recorder c.self.inside.crew.staff c.self.inside.ups.items) (launcher_of c.make_room.new.self c.make_room-2.new.self c.self.inside.crew.staff c.self.inside.ups.items) (ap (λ (x : Launches). x.past) c.make_room.ensures.same) (none_same c.self.inside.crew.recorder.sat c.make_room-2.new.self.sat (ap (λ (r : Recorded). r.sat) c.make_room-2.ensures.same)) refl c.self.invariant.caused;
+  attended = attended_same (crew_of c.self.inside.crew.recorder c.self.inside.crew.staff) (crew_of c.make_room-2.new.self c.self.inside.crew.staff) (ap (λ (r : Recorded). r.watch) c.make_room-2.ensures.same) refl c.self.invariant.attended;
+  kin = kin_watch g.N.Numbered.site g.N.Numbered.run_seed g.N.Staffed.children c.self.inside.crew.recorder.watch c.make_room-2.new.self.watch c.self.inside.crew.staff.running c.self.inside.crew.staff.family (ap (λ (r : Recorded). r.watch) c.make_room-2.ensures.same) c.self.invariant.kin;
 }

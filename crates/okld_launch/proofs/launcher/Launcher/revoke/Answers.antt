@@ -1,12 +1,12 @@
-use Rattle.std.proofs.Common.{◌≡◌, ◌∙◌, ◌≤◌, refl, sym, ap, subst, arith}
-use Rattle.std.specs.Prelude.{slice_set}
-use Rattle.monitor_model.specs.Launcher.{begun}
-use Rattle.launch_crew.specs.Crews.{StandsAt, RunsAs, child_of, crew_of}
+use Rattle.std.proofs.Common.{◌∙◌, refl, ap, arith}
 use Rattle.okld_launch.specs.Launchers.{LauncherIs, up_in}
 use Rattle.okld_launch.proofs.Begins.{launcher_of}
 use Rattle.okld_launch.proofs.Placing.{revoked_kept}
 use Rattle.okld_launch.proofs.Caused.{kept_caused}
 use Rattle.launch_crew.proofs.Coming.{none_columns}
+use Rattle.launch_crew.proofs.Ended.{attended_same}
+use Rattle.okld_launch.proofs.Kin.{kin_watch}
+use Rattle.launch_crew.specs.Crews.{crew_of}
 use Rattle.okld_launch.proofs.launcher.Launcher.revoke.Goals as goal
 
 pub invariant_of-self : goal.invariant_of-self
@@ -19,4 +19,6 @@ invariant_of-self g c = record {
       (record { watch_is = c.revoke.ensures.cells; running_is = refl; family_is = refl }) c.revoke.ensures.revokes (ap (λ (x : LauncherIs). up_in x c.args.service) c.self.view_is ∙ c.requires.down)
       (omega (arith, ap (λ (x : LauncherIs). x.crew.room) c.self.view_is, c.requires.room, c.revoke.ensures.room));
   caused = kept_caused (launcher_of c.self.inside.journal c.self.inside.crew.recorder c.self.inside.crew.staff c.self.inside.ups.items) (launcher_of c.self.inside.journal c.revoke.new.self c.self.inside.crew.staff c.self.inside.ups.items) refl (none_columns c.self.inside.crew.recorder.sat c.revoke.new.self.sat c.revoke.ensures.revokes.thins.only) refl c.self.invariant.caused;
+  attended = attended_same (crew_of c.self.inside.crew.recorder c.self.inside.crew.staff) (crew_of c.revoke.new.self c.self.inside.crew.staff) (c.revoke.ensures.cells) refl c.self.invariant.attended;
+  kin = kin_watch g.N.Numbered.site g.N.Numbered.run_seed g.N.Staffed.children c.self.inside.crew.recorder.watch c.revoke.new.self.watch c.self.inside.crew.staff.running c.self.inside.crew.staff.family (c.revoke.ensures.cells) c.self.invariant.kin;
 }

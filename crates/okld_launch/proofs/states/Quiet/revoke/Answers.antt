@@ -1,8 +1,10 @@
-use Rattle.std.proofs.Common.{◌≡◌, ◌+◌, ◌≤◌, subst, arith}
+use Rattle.std.proofs.Common.{◌+◌, subst, arith, sym}
 use Rattle.okws_base.specs.declared.limit.TheConstants.{MOST_PROXIES}
 use Rattle.okld_launch.proofs.Caused.{broke_may}
 use Rattle.okld_launch.proofs.Stating.{begins_on, launch_of, goes_on}
 use Rattle.okld_launch.specs.States.{LaunchIs, GoesOn}
+use Rattle.okld_launch.proofs.OnWay.{way_clears}
+use Rattle.okld_launch.specs.Pieces.{HasBegun}
 use Rattle.okld_launch.proofs.states.Quiet.revoke.Goals as goal
 
 pub invariant_of-result : goal.invariant_of-result
@@ -14,9 +16,12 @@ invariant_of-result g c = record {
   down = c.clear.ensures.down;
 }
 
-pub returns : goal.returns
-returns g c = subst (λ (x : LaunchIs). GoesOn x (launch_of c.clear.new.self c.self.inside.service c.self.inside.incarnation)) c.self.view_is
+pub returns-clause-on : goal.returns-clause-on
+returns-clause-on g c = subst (λ (x : LaunchIs). GoesOn x (launch_of c.clear.new.self c.self.inside.service c.self.inside.incarnation)) c.self.view_is
     (goes_on c.self.inside.launcher c.clear.new.self c.self.inside.service c.self.inside.incarnation c.clear.ensures.journal c.clear.ensures.told)
 
 pub clear-requires-clause-cause : goal.clear-requires-clause-cause
 clear-requires-clause-cause g c = broke_may c.self.inside.service c.self.inside.incarnation c.self.inside.launcher c.self.invariant.begins.begun_is c.self.invariant.fresh
+
+pub returns-clause-way : goal.returns-clause-way
+returns-clause-way g c = λ up ended way. way_clears g.N.Numbered.site g.N.Numbered.run_seed up ended c.self.inside.launcher c.clear.new.self c.self.inside.service c.self.inside.incarnation c.clear.ensures.journal c.clear.ensures.stays c.clear.ensures.own c.clear.ensures.behind c.clear.ensures.counted (subst (HasBegun g.N.Numbered.site g.N.Numbered.run_seed up ended) (sym c.self.view_is) way)

@@ -1,26 +1,36 @@
-use Rattle.std.proofs.Common.{rules, arith, ◌≡◌, ◌≤◌, ◌<◌, ◌+◌, true, [], length, map, sym, ap, ◌∙◌, subst}
+use Rattle.std.proofs.Common.{rules, arith, ◌≡◌, ◌≤◌, ◌<◌, ◌+◌, ℕ, true, List, [], length, map, sym, ap, ◌∙◌, subst}
 use Rattle.std.proofs.lemmas.List.{length-map}
+use Rattle.okws_base.specs.Turns.{Behind}
+use Rattle.okws_base.specs.declared.journal.Entry.{Entry}
+use Rattle.okws_plan.specs.declared.event.LauncherEvent.{LauncherEvent}
 use Rattle.turn_lock.specs.Rows.{AllCount, NoneFrom}
 use Rattle.okws_outer.specs.Families.{Family}
 use Rattle.monitor_model.specs.declared.record.Record.{Record}
 use Rattle.site_cell.specs.Held.{by_event}
 use Rattle.cell_locks.specs.Closing.{HasNumber}
 use Rattle.named_columns.specs.Launched.{by_entry}
+use Rattle.okld_launch.specs.Deeds.{up_in}
 use Rattle.okld_launch.specs.Failures.{FailuresAreTold}
+use Rattle.okld_launch.specs.Heard.{ChildrenAreTold}
 use Rattle.site_locks.specs.Closing.{SomeIs}
 use Rattle.site_run.specs.Closing.{AllKept, WritesLog}
 use Rattle.site_run.specs.Journals.{KeepLaws, NameNumbers, AreCounts}
-use Rattle.site_run.specs.Keepers.{keeper_of}
+use Rattle.site_making.specs.Keepers.{keeper_of}
 use Rattle.site_run.specs.Places.{PlacesAre}
 use Rattle.site_run.specs.Rows.{ChairsAre, Seated}
 use Rattle.site_run.specs.Tied.{AllEnd, LaunchesAreOwn, SeatsOf}
 use Rattle.site_run.specs.Whole.{IsHeld}
 use Rattle.site_run.specs.declared.ended.Counts.{Counts}
-use Rattle.monitor_model.specs.Causes.{all_were_caused}
+use Rattle.monitor_model.specs.Causes.{all_were_caused, has_up}
+use Rattle.monitor_model.specs.Launcher.{LauncherLaw}
 use Rattle.launch_crew.specs.Coming.{came_up}
 use Rattle.site_run.proofs.Caused.{record_ups, were_caused}
 use Rattle.site_run.proofs.Closed.{are_seated}
-use Rattle.site_run.proofs.Leaving.{launches_own, lives_end, raised_all}
+use Rattle.site_run.proofs.Leaving.{IsTold, launches_own, lives_end, none_entered, raised_all}
+use Rattle.site_run.specs.Pieced.{LaunchesAreWhole, ended_among}
+use Rattle.site_run.proofs.Came.{came_as_told}
+use Rattle.site_run.proofs.Taken.{last_behind}
+use Rattle.site_run.proofs.Pieced.{children_heard, launches_whole}
 use Rattle.site_run.proofs.whole.Run.end.Goals as goal
 
 pub end_launcher-past-requires-clause-some : goal.end_launcher-past-requires-clause-some
@@ -104,6 +114,7 @@ returns-clause-numbers g c =
     let doors = subst (λ (x : PlacesAre). length x.entrances + 1 ≡ n) (sym c.places.view_is) c.requires.held.doors_many in
     let m = length-map c.places.inside.doors.items g.D.Door.entrance in
     let total : c.len.result + 2 ≡ n + 1 = search rules in
+    let past = c.end_launcher-past in
     let columns = c.end_columns-columns in
     let cells = c.end_cells-cells in
     let workers : length columns.result.workers.items ≡ n = (let q = columns.ensures.workers in search rules) in
@@ -114,7 +125,7 @@ returns-clause-numbers g c =
       pubd = λ k l. columns.ensures.pubd.2 k (subst (λ i. i ≤ k) (sym total) l);
       oklogd = λ k l. columns.ensures.oklogd.2 k (subst (λ i. i ≤ k) (sym total) l);
       cells = subst (λ i. NoneFrom (by_event n) i cells.result.events.items) total cells.ensures.none;
-      launcher = λ k l. c.end_launcher-past.ensures.none k (subst (λ i. i ≤ k) (sym c.requires.held.turn_count) l);
+      launcher = none_entered n c.args.self.hall.turn.count past.result.past past.result.deeds.past c.requires.held.turn_count past.ensures.entries past.ensures.none;
       workers = workers;
     })
 
@@ -159,13 +170,15 @@ returns-clause-written g c =
 pub returns-clause-lives : goal.returns-clause-lives
 returns-clause-lives g c = λ lives of.
     let C = g.N.Numbered.site in
+    let seed = g.N.Numbered.run_seed in
     let n = g.N.Numbered.launcher in
-    let t = c.args.self.hall.turn in
-    let chairs = c.chairs.inside in
     let past = c.end_launcher-past in
-    let stopped = past.result.stopped in
     let columns = c.end_columns-columns in
     let cells = c.end_cells-cells in
+    let t = c.args.self.hall.turn in
+    let chairs = c.chairs.inside in
+    let stopped = past.result.stopped in
+    let deeds = past.result.deeds.past in
     let count = c.len.result + 2 in
     let doors = subst (λ (x : PlacesAre). length x.entrances + 1 ≡ n) (sym c.places.view_is) c.requires.held.doors_many in
     let m = length-map c.places.inside.doors.items g.D.Door.entrance in
@@ -181,14 +194,27 @@ returns-clause-lives g c = λ lives of.
       sents = cells.result.sents.items;
       doors = [];
       workers = columns.result.workers.items;
-      launches = stopped.own;
+      launches = past.result.stopped.own;
     } in
+    let none = none_entered n c.args.self.hall.turn.count past.result.past past.result.deeds.past c.requires.held.turn_count past.ensures.entries past.ensures.none n (omega arith) in
+    let launched : LaunchesAreOwn n R = launches_own n R c.chairs.inside.seats.items c.push_reserved.new.self.items past.result.stopped.seats c.chairs.inside.cells.items c.push_reserved-2.new.self.items past.result.stopped.cells
+    c.push_reserved.ensures.items c.push_reserved-2.ensures.items past.ensures.numbers.0 past.ensures.numbers.1 columns.ensures.grown cells.ensures.grown none past.ensures.own in
+    let came : (s k : ℕ) → has_up R s k ≡ up_in past.result.deeds.past s k = came_as_told C seed n R past.result.deeds.past past.result.stopped.cells.cells past.ensures.entries past.ensures.whole launched.own.okd columns.ensures.okd.1 in
     let raised = raised_all R n count columns.ensures.saw.0 chairs.seats.items c.push_reserved.new.self.items stopped.seats c.push_reserved.ensures.items columns.ensures.saw.1 total past.ensures.numbers.0
     (λ u l. past.ensures.shown u (subst (λ k. u < k) services l)) in
-    subst (λ (S : Record). AllEnd n 0 lives S) (sym c.told.ensures.journals)
-    (lives_end t (length C.services) n R lives chairs.seats.items c.push_reserved.new.self.items stopped.seats chairs.cells.items c.push_reserved-2.new.self.items stopped.cells chairs.turns.items
+    let ended = ended_among (g.F.Children.family stopped.children).finished in
+    let told : IsTold C n deeds R ended = record {
+      entries_are = past.ensures.entries;
+      none = λ k l. past.ensures.none k (subst (λ i. i ≤ k) (sym c.requires.held.turn_count) l);
+      law = subst (λ (J : List (Entry LauncherEvent)). LauncherLaw C J) past.ensures.entries past.ensures.law;
+      ups = came;
+      ends = past.ensures.ended;
+    } in
+    subst (λ (S : Record). AllEnd n 0 lives S (ended_among (g.F.Children.family c.told.result.children).finished)) (sym c.told.ensures.journals)
+    (subst (λ (f : Family). AllEnd n 0 lives R (ended_among f.finished)) (sym c.told.ensures.children)
+    (lives_end C t (length C.services) n R ended deeds lives chairs.seats.items c.push_reserved.new.self.items stopped.seats chairs.cells.items c.push_reserved-2.new.self.items stopped.cells chairs.turns.items told
     (subst (λ (x : ChairsAre). Seated t (length C.services) x) (sym c.chairs.view_is) c.requires.held.seated) (subst (λ (x : ChairsAre). SeatsOf lives x) (sym c.chairs.view_is) of)
-    c.push_reserved.ensures.items c.push_reserved-2.ensures.items columns.ensures.grown cells.ensures.grown past.ensures.grown columns.ensures.lists raised)
+    c.push_reserved.ensures.items c.push_reserved-2.ensures.items columns.ensures.grown cells.ensures.grown past.ensures.grown columns.ensures.lists raised))
 
 pub returns-clause-launched : goal.returns-clause-launched
 returns-clause-launched g c =
@@ -196,7 +222,6 @@ returns-clause-launched g c =
     let past = c.end_launcher-past in
     let columns = c.end_columns-columns in
     let cells = c.end_cells-cells in
-    let count = c.requires.held.turn_count in
     let R : Record = record {
       okd = columns.result.okd.past;
       proxies = columns.result.proxies.pasts.items;
@@ -209,10 +234,10 @@ returns-clause-launched g c =
       workers = columns.result.workers.items;
       launches = past.result.stopped.own;
     } in
-    subst (λ (S : Record). LaunchesAreOwn n S) (sym c.told.ensures.journals)
-    (launches_own n R c.chairs.inside.seats.items c.push_reserved.new.self.items past.result.stopped.seats c.chairs.inside.cells.items c.push_reserved-2.new.self.items past.result.stopped.cells
-    c.push_reserved.ensures.items c.push_reserved-2.ensures.items past.ensures.numbers.0 past.ensures.numbers.1 columns.ensures.grown cells.ensures.grown
-    (past.ensures.none n (omega arith)) past.ensures.own)
+    let none = none_entered n c.args.self.hall.turn.count past.result.past past.result.deeds.past c.requires.held.turn_count past.ensures.entries past.ensures.none n (omega arith) in
+    let launched : LaunchesAreOwn n R = launches_own n R c.chairs.inside.seats.items c.push_reserved.new.self.items past.result.stopped.seats c.chairs.inside.cells.items c.push_reserved-2.new.self.items past.result.stopped.cells
+    c.push_reserved.ensures.items c.push_reserved-2.ensures.items past.ensures.numbers.0 past.ensures.numbers.1 columns.ensures.grown cells.ensures.grown none past.ensures.own in
+    subst (λ (S : Record). LaunchesAreOwn n S) (sym c.told.ensures.journals) launched
 
 pub returns-clause-failed : goal.returns-clause-failed
 returns-clause-failed g c =
@@ -237,8 +262,65 @@ returns-clause-caused g c =
       workers = columns.result.workers.items;
       launches = past.result.stopped.own;
     } in
+    let none = none_entered n c.args.self.hall.turn.count past.result.past past.result.deeds.past c.requires.held.turn_count past.ensures.entries past.ensures.none n (omega arith) in
     let launched : LaunchesAreOwn n R = launches_own n R c.chairs.inside.seats.items c.push_reserved.new.self.items past.result.stopped.seats c.chairs.inside.cells.items c.push_reserved-2.new.self.items past.result.stopped.cells
-    c.push_reserved.ensures.items c.push_reserved-2.ensures.items past.ensures.numbers.0 past.ensures.numbers.1 columns.ensures.grown cells.ensures.grown
-    (past.ensures.none n (let count = c.requires.held.turn_count in omega arith)) past.ensures.own in
+    c.push_reserved.ensures.items c.push_reserved-2.ensures.items past.ensures.numbers.0 past.ensures.numbers.1 columns.ensures.grown cells.ensures.grown none past.ensures.own in
     subst (λ (S : Record). all_were_caused S S.launcher ≡ true) (sym c.told.ensures.journals)
     (were_caused R (came_up past.result.stopped.seats) (record_ups n R past.result.stopped.seats past.ensures.numbers.0 (launched.own.okd ∙ sym past.ensures.own.okd) columns.ensures.okd.1) R.launcher past.ensures.caused)
+
+pub returns-clause-pieces : goal.returns-clause-pieces
+returns-clause-pieces g c =
+    let C = g.N.Numbered.site in
+    let seed = g.N.Numbered.run_seed in
+    let n = g.N.Numbered.launcher in
+    let past = c.end_launcher-past in
+    let columns = c.end_columns-columns in
+    let cells = c.end_cells-cells in
+    let R : Record = record {
+      okd = columns.result.okd.past;
+      proxies = columns.result.proxies.pasts.items;
+      pubd = columns.result.pubd.past;
+      oklogd = columns.result.oklogd.past;
+      launcher = past.result.past;
+      cells = cells.result.events.items;
+      sents = cells.result.sents.items;
+      doors = [];
+      workers = columns.result.workers.items;
+      launches = past.result.stopped.own;
+    } in
+    let none = none_entered n c.args.self.hall.turn.count past.result.past past.result.deeds.past c.requires.held.turn_count past.ensures.entries past.ensures.none n (omega arith) in
+    let launched : LaunchesAreOwn n R = launches_own n R c.chairs.inside.seats.items c.push_reserved.new.self.items past.result.stopped.seats c.chairs.inside.cells.items c.push_reserved-2.new.self.items past.result.stopped.cells
+    c.push_reserved.ensures.items c.push_reserved-2.ensures.items past.ensures.numbers.0 past.ensures.numbers.1 columns.ensures.grown cells.ensures.grown none past.ensures.own in
+    let came : (s k : ℕ) → has_up R s k ≡ up_in past.result.deeds.past s k = came_as_told C seed n R past.result.deeds.past past.result.stopped.cells.cells past.ensures.entries past.ensures.whole launched.own.okd columns.ensures.okd.1 in
+    subst (LaunchesAreWhole C seed) (sym c.told.ensures.journals)
+    (launches_whole C seed n R (up_in past.result.deeds.past) past.result.stopped.seats c.chairs.inside.cells.items c.push_reserved-2.new.self.items past.result.stopped.cells came c.push_reserved-2.ensures.items past.ensures.numbers.1 cells.ensures.grown past.ensures.own past.ensures.whole)
+
+pub returns-clause-first : goal.returns-clause-first
+returns-clause-first g c =
+    let past = c.end_launcher-past in
+    let columns = c.end_columns-columns in
+    subst (λ (R : Record). Behind c.args.okd R.okd) (sym c.told.ensures.journals)
+    (last_behind c.args.okd c.chairs.inside.seats.items c.push_reserved.new.self.items past.result.stopped.seats columns.result.okd.past c.push_reserved.ensures.items columns.ensures.grown.okd_grown past.ensures.met)
+
+pub returns-clause-children : goal.returns-clause-children
+returns-clause-children g c =
+    let n = g.N.Numbered.launcher in
+    let past = c.end_launcher-past in
+    let columns = c.end_columns-columns in
+    let cells = c.end_cells-cells in
+    let R : Record = record {
+      okd = columns.result.okd.past;
+      proxies = columns.result.proxies.pasts.items;
+      pubd = columns.result.pubd.past;
+      oklogd = columns.result.oklogd.past;
+      launcher = past.result.past;
+      cells = cells.result.events.items;
+      sents = cells.result.sents.items;
+      doors = [];
+      workers = columns.result.workers.items;
+      launches = past.result.stopped.own;
+    } in
+    subst (λ (S : Record). ChildrenAreTold g.N.Numbered.site g.N.Numbered.run_seed S g.N.Staffed.children (g.F.Children.family c.told.result.children)) (sym c.told.ensures.journals)
+    (subst (λ (f : Family). ChildrenAreTold g.N.Numbered.site g.N.Numbered.run_seed R g.N.Staffed.children f) (sym c.told.ensures.children)
+    (children_heard g.N.Numbered.site g.N.Numbered.run_seed g.N.Staffed.children (g.F.Children.family past.result.stopped.children) n R c.chairs.inside.cells.items c.push_reserved-2.new.self.items past.result.stopped.cells
+    c.push_reserved-2.ensures.items past.ensures.numbers.1 cells.ensures.grown cells.ensures.cells past.ensures.kin))

@@ -1,0 +1,36 @@
+//! What the launcher has seen, for other numbers to take in.
+
+ghost use Rattle.std.specs.Prelude.{◌≡◌, ◌<◌, length};
+ghost use Rattle.cell_locks.specs.Row.{seen_at};
+
+use crate::recorder::Recorder;
+use cell_locks::locks::CellLocks;
+use cell_locks::named::CellNames;
+use cell_locks::note::CellNote;
+use named_columns::named::Backed;
+use okws_outer::keeper::Keeper;
+use okws_outer::stream::{Link, Sink};
+use site_locks::locks::Locks;
+use site_locks::named::Site;
+use site_locks::note::OkdNote;
+
+impl<N: Backed, J: Site, C: CellNames, K: Keeper, S: Sink, L: Link> Recorder<N, J, C, K, S, L> {
+    /// A note of what was seen at okd. It takes no turn and no memory.
+    pub fn note_okd(&mut self, locks: &Locks<N, J, K, S>) -> OkdNote<N, J>
+        ensures note { result ≡ self.old.sat.okd }
+        ensures same { self.new ≡ self.old }
+    {
+        let _own = &self.own;
+        self.seats.note_okd(locks)
+    }
+
+    /// A note of what was seen at the cell of a service. It takes no turn and no memory.
+    pub fn note_cell(&mut self, cells: &CellLocks<N, C, L>, service: u16) -> CellNote<N, C, L>
+        requires { service < length N.site.services }
+        ensures note { result ≡ record { service = service; seen = seen_at self.old.watch service } }
+        ensures same { self.new ≡ self.old }
+    {
+        let _own = &self.own;
+        self.cells.split(cells, service)
+    }
+}

@@ -1,0 +1,18 @@
+use Rattle.std.proofs.Common.{refl, sym, ap, subst}
+use Rattle.launch_journal.specs.Launches.{Launches}
+use Rattle.okld_launch.proofs.Begins.{launcher_of, same_entries}
+use Rattle.okld_launch.proofs.Caused.{kept_caused}
+use Rattle.okld_launch.specs.Failures.{FailuresAreTold}
+use Rattle.okld_launch.proofs.launcher.Launcher.hold.Goals as goal
+
+pub invariant_of-self : goal.invariant_of-self
+invariant_of-self g c = record {
+  site_is = c.self.invariant.site_is;
+  seed_is = c.self.invariant.seed_is;
+  few = c.self.invariant.few;
+  failed = subst (λ (j : Launches). FailuresAreTold g.N.Staffed.children j.past c.self.inside.crew.staff.family) (sym c.hold.ensures.all) c.self.invariant.failed;
+  keeps = same_entries g.N.Numbered.site (launcher_of c.self.inside.journal c.self.inside.crew.recorder c.self.inside.crew.staff c.self.inside.ups.items) c.hold.new.self (ap (λ (x : Launches). x.config) c.hold.ensures.all) (ap (λ (x : Launches). x.past) c.hold.ensures.all) c.self.invariant.keeps;
+  caused = kept_caused (launcher_of c.self.inside.journal c.self.inside.crew.recorder c.self.inside.crew.staff c.self.inside.ups.items) (launcher_of c.hold.new.self c.self.inside.crew.recorder c.self.inside.crew.staff c.self.inside.ups.items) (ap (λ (x : Launches). x.past) c.hold.ensures.all) (λ s k. refl) refl c.self.invariant.caused;
+  attended = c.self.invariant.attended;
+  kin = c.self.invariant.kin;
+}

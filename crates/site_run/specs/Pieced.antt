@@ -1,0 +1,33 @@
+-- That the launcher's list of a run is made of whole pieces.
+use Rattle.std.specs.Prelude.{◌≡◌, ℕ, Bool, List, ◌++◌}
+use Rattle.std.specs.List.{list_any}
+use Rattle.okws_base.specs.declared.journal.Entry.{Entry}
+use Rattle.okws_plan.specs.declared.configuration.Config.{Config}
+use Rattle.okws_plan.specs.declared.event.LauncherEvent.{LauncherEvent}
+use Rattle.monitor_model.specs.declared.record.CellEvent.{CellEvent}
+use Rattle.monitor_model.specs.declared.record.Own.{Own}
+use Rattle.monitor_model.specs.declared.record.Record.{Record}
+use Rattle.monitor_model.specs.Causes.{has_up}
+use Rattle.monitor_model.specs.Launches.{Fate, IsEnding, all_pieces, attempts}
+use Rattle.okws_outer.specs.declared.children.ChildEnd.{ChildEnd}
+use Rattle.launch_crew.specs.Ended.{ended_at}
+use Rattle.launch_crew.specs.Listed.{EndsPieces}
+use Rattle.okld_launch.specs.Pieces.{AreTold, IsWhole}
+
+-- A launcher, of whose journal these are the entries, and whose number has seen this of the cells, made whole pieces, and then one Retired for each cell that had an incarnation.
+pub record EndsWhole (C : Config) (seed : List ℕ) (up : ℕ → ℕ → Bool) (J : List (Entry LauncherEvent)) (cells : List (List CellEvent)) (items : List Own) : Type 0 where
+  pub before : List Own
+  pub whole : IsWhole C seed up J cells before
+  pub ends : EndsPieces cells before items
+
+-- The launcher's list of a record has one piece for each Begun of its journal, in order, and ends with one Retired for each cell that has an incarnation. Each piece is that of an attempt that failed where its Failed stands, that of one that came up where its Up stands in okd's journal, and else that of one that broke off.
+pub record LaunchesAreWhole (C : Config) (seed : List ℕ) (R : Record) : Type 0 where
+  pub fates : List Fate
+  pub ending : List Own
+  pub told : AreTold (has_up R) R.launcher (attempts R.launcher) fates
+  pub list_is : R.launches ≡ ending ++ all_pieces C seed R (attempts R.launcher) fates
+  pub ends : IsEnding R (all_pieces C seed R (attempts R.launcher) fates) ending
+
+-- Of these children, that of incarnation k of s was finished, of which Yes was among the answers whether it has ended.
+abbrev pub ended_among : List ChildEnd → ℕ → ℕ → Bool
+ended_among finished s k = list_any (ended_at s k) finished

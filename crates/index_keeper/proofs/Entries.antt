@@ -24,8 +24,8 @@ use Rattle.okws_base.specs.declared.value.Value.TheVariants.{Int, Text, Bytes}
 use Rattle.placed_rows.specs.Places.{merged, row_at}
 use Rattle.placed_rows.proofs.Stood.{row_first, row_later}
 use Rattle.index_keeper.specs.Places.{places_where, rows_of}
-use Rattle.index_keeper.specs.Changes.{after_change, changed, changes_to}
-use Rattle.index_keeper.specs.declared.changing.Change.{Change}
+use Rattle.row_slots.specs.Changes.{changed, changes_to}
+use Rattle.row_slots.specs.declared.changing.Change.{Change}
 use Rattle.index_keeper.proofs.Found.{sorted_filtered, rows_where}
 
 pub filter_map_some : {X Y : Type 0} (h : X → Option Y) (xs : List X) (i : ℕ) (d : X) (y : Y) → i < length xs → h (get_or xs i d) ≡ Some y → filter_map h (take (i + 1) xs) ≡ filter_map h (take i xs) ++ y ∷ []
@@ -222,15 +222,6 @@ updated_rows make test es now up rise left =
     ∙ updated_here make test (row_at es p)
     ∙ sym (replaced_at g es p)) in
     ap rows_of same ∙ replaced_rows g es
-
--- Where no row stands none comes by changes.
-pub changed_none : (L : List Change) (p : ℕ) → changed L None p ≡ None
-changed_none [] p = refl
-changed_none (ch ∷ L) p = by (ch.place == p) refl (changed_none L p)
-  where
-    by : (b : Bool) → (ch.place == p) ≡ b → changed L None p ≡ None → changed L (after_change p None ch) p ≡ None
-    by true is rest = ap (λ (b : Bool). changed L (if b then None else None) p) is ∙ rest
-    by false is rest = ap (λ (b : Bool). changed L (if b then None else None) p) is ∙ rest
 
 some_there : (n : ℕ) → (suc n == 0) ≡ false
 some_there n = by (suc n == 0) refl

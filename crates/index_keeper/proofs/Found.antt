@@ -27,10 +27,11 @@ use Rattle.okws_plan.specs.declared.statement.Comparison.TheVariants as comparis
 use Rattle.okws_base.specs.Value.{value_cmp}
 use Rattle.placed_rows.specs.Places.{row_at}
 use Rattle.placed_rows.proofs.Stood.{each_here}
-use Rattle.index_keeper.specs.Slots.{slot_cmp, is_of, places_in}
-use Rattle.index_keeper.specs.Places.{places_where, rows_of, is_indexed, cell, is_value, passes_at, is_equality, leading, tests, tests_by, IsIndex}
-use Rattle.index_keeper.specs.declared.slot.Slot.{Slot}
-use Rattle.index_keeper.proofs.Runs.{group_cmp, groups_total}
+use Rattle.row_slots.specs.Slots.{slot_cmp, is_of, places_in}
+use Rattle.row_slots.specs.Index.{is_indexed, cell, is_value, IsIndex}
+use Rattle.index_keeper.specs.Places.{places_where, rows_of, passes_at, is_equality, leading, tests, tests_by}
+use Rattle.row_slots.specs.declared.slot.Slot.{Slot}
+use Rattle.row_slots.proofs.Runs.{group_cmp, groups_total}
 
 pub filter_hit : {X : Type 0} (p : X → Bool) (xs : List X) (i : ℕ) (d : X) → i < length xs → p (get_or xs i d) ≡ true → filter p (take (i + 1) xs) ≡ filter p (take i xs) ++ get_or xs i d ∷ []
 filter_hit p xs i d h hit = filter_more p xs i d h ∙ ap (λ (b : Bool). filter p (take i xs) ++ cond b (get_or xs i d ∷ []) []) hit

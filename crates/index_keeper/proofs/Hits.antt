@@ -13,13 +13,14 @@ use Rattle.okws_plan.specs.Meaning.{at_column, operand, meets, meets_all}
 use Rattle.okws_plan.specs.declared.statement.Condition.{Condition}
 use Rattle.placed_rows.specs.Places.{row_at}
 use Rattle.placed_rows.proofs.Stood.{each_here}
-use Rattle.index_keeper.specs.Slots.{slot_cmp, places_in}
-use Rattle.index_keeper.specs.Places.{places_where, rows_of, is_value, leading, left_of, IsIndex}
-use Rattle.index_keeper.specs.Changes.{changes_to}
+use Rattle.row_slots.specs.Slots.{slot_cmp, places_in}
+use Rattle.row_slots.specs.Index.{is_value, IsIndex}
+use Rattle.index_keeper.specs.Places.{places_where, rows_of, leading, left_of}
+use Rattle.row_slots.specs.Changes.{changes_to}
 use Rattle.index_keeper.specs.Hits.{lent, entries_of, entries_at}
-use Rattle.index_keeper.specs.declared.changing.Change.{Change}
+use Rattle.row_slots.specs.declared.changing.Change.{Change}
 use Rattle.index_keeper.specs.declared.finding.Hit.{Hit}
-use Rattle.index_keeper.specs.declared.slot.Slot.{Slot}
+use Rattle.row_slots.specs.declared.slot.Slot.{Slot}
 use Rattle.index_keeper.proofs.Found.{candidates_are, leading_holds, met_leading, sole_leading}
 
 -- Of the places that pass one test those whose rows pass the rest of a narrower one, with their rows, are the entries that pass this.

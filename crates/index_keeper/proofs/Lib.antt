@@ -1,7 +1,4 @@
-pub mod Bools
-pub mod Runs
 pub mod Found
-pub mod Moved
 pub mod Entries
 pub mod Counted
 pub mod Ran

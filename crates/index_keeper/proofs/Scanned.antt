@@ -10,8 +10,9 @@ use Rattle.okws_base.specs.declared.value.Value.{Value}
 use Rattle.placed_rows.specs.Stands.{entry_of, standing, Placed}
 use Rattle.placed_rows.specs.declared.placed.Stand.{Stand}
 use Rattle.placed_rows.proofs.Stands.{stands_first, empty_first}
-use Rattle.index_keeper.specs.Places.{rows_of, passes_at, is_indexed, IsSound}
-use Rattle.index_keeper.specs.declared.slot.Slot.{Slot}
+use Rattle.row_slots.specs.Index.{is_indexed}
+use Rattle.index_keeper.specs.Places.{rows_of, passes_at, IsSound}
+use Rattle.row_slots.specs.declared.slot.Slot.{Slot}
 use Rattle.index_keeper.proofs.Entries.{filter_map_some, filter_map_none}
 
 -- One stand more, with a row and without.

@@ -1,5 +1,5 @@
 -- What is found is one row at most.
-use Rattle.std.proofs.Common.{◌≡◌, ◌∙◌, refl, sym, ap, subst, ◌≢◌, ℕ, zero, suc, Bool, true, false, List, [], ◌∷◌, Some, None, length}
+use Rattle.std.proofs.Common.{◌≡◌, ◌∙◌, refl, sym, ap, subst, ◌≢◌, ℕ, Bool, true, false, List, [], ◌∷◌, Some, None, length}
 use Rattle.std.specs.Prelude.{map, filter, slice_set, option_map, ◌&&◌, ◌==◌, if◌then◌else◌}
 use Rattle.std.specs.declared.option.Option.{Option}
 use Rattle.std.specs.List.Sorted.{IsStrictlySortedBy}
@@ -8,19 +8,20 @@ use Rattle.std.specs.Map.{keys_of}
 use Rattle.std.proofs.lemmas.List.{take-map, get_or-set_other}
 use Rattle.okws_base.specs.Runs.{Each}
 use Rattle.okws_base.specs.declared.value.Value.{Value}
-use Rattle.okws_plan.specs.Meaning.{ordered, limited, cut, cut_all, at_column, nothing, operand, assigned}
+use Rattle.okws_plan.specs.Meaning.{ordered, limited, cut, cut_all, nothing, operand, assigned}
 use Rattle.okws_plan.specs.declared.statement.Assignment.{Assignment}
 use Rattle.placed_rows.specs.Places.{row_at, merged}
 use Rattle.placed_rows.proofs.Stood.{each_here}
-use Rattle.index_keeper.specs.Few.{if_any}
+use Rattle.row_slots.specs.Few.{if_any}
 use Rattle.index_keeper.specs.Hits.{lent, entries_of}
-use Rattle.index_keeper.specs.Places.{is_indexed, is_value, rows_of}
-use Rattle.index_keeper.specs.Changes.{changed, changes_to}
+use Rattle.row_slots.specs.Index.{is_indexed, is_value}
+use Rattle.index_keeper.specs.Places.{rows_of}
+use Rattle.row_slots.specs.Changes.{changed, changes_to}
 use Rattle.index_keeper.specs.declared.finding.Hit.{Hit}
-use Rattle.index_keeper.specs.declared.slot.Slot.{Slot}
+use Rattle.row_slots.specs.declared.slot.Slot.{Slot}
 use Rattle.index_keeper.proofs.Entries.{updated_rows}
 use Rattle.index_keeper.proofs.Found.{rows_where}
-use Rattle.index_keeper.proofs.Moved.{due, nat_same}
+use Rattle.row_slots.proofs.Moved.{due, nat_same}
 
 -- One row is in order.
 pub sole_ordered : (order : Option ℕ) (hit : Option Hit) → ordered order (lent (if_any hit)) ≡ lent (if_any hit)
@@ -32,12 +33,6 @@ sole_ordered (Some c) (Some hit) = refl
 pub cut_limited : (columns : List ℕ) (limit : Option ℕ) (rows : List (List Value)) → limited limit (cut_all columns rows) ≡ cut_all columns (limited limit rows)
 cut_limited columns None rows = refl
 cut_limited columns (Some n) rows = take-map (λ (row : List Value). cut columns row) _ _
-
--- A value that is moved out and back leaves the row as it was.
-pub undisturbed : (values : List Value) (i : ℕ) → slice_set (slice_set values i nothing) i (at_column values i) ≡ values
-undisturbed [] i = refl
-undisturbed (v ∷ vs) zero = refl
-undisturbed (v ∷ vs) (suc i) = ap (λ (more : List Value). v ∷ more) (undisturbed vs i)
 
 -- ---- a value of a column without an index
 

@@ -1,19 +1,17 @@
--- Rows at their places of insertion, and what an index of them is. The rows of a table are pairs of a place and a row, by ascending places.
-use Rattle.std.specs.Prelude.{◌≡◌, ℕ, ◌≤◌, Bool, true, false, ◌&&◌, ◌==◌, List, [], ◌∷◌, length, map, filter, find, Option, Some, None}
-use Rattle.std.specs.List.{list_any}
-use Rattle.std.specs.Ordering.{nat_cmp, is_eq}
+-- Rows at their places of insertion. The rows of a table are pairs of a place and a row, by ascending places.
+use Rattle.std.specs.Prelude.{◌≡◌, ℕ, ◌≤◌, Bool, true, false, ◌&&◌, List, [], ◌∷◌, length, map, filter, find, Option, Some, None}
+use Rattle.std.specs.Ordering.{nat_cmp}
 use Rattle.std.specs.Map.{keys_of}
 use Rattle.std.specs.List.Sorted.{IsStrictlySortedBy}
-use Rattle.std.specs.BTreeSet.{BTreeSet, contains}
-use Rattle.okws_base.specs.Value.{value_cmp}
+use Rattle.std.specs.BTreeSet.{BTreeSet}
 use Rattle.okws_base.specs.declared.value.Value.{Value}
-use Rattle.okws_plan.specs.Meaning.{at_column, hits}
+use Rattle.okws_plan.specs.Meaning.{hits}
 use Rattle.okws_plan.specs.declared.statement.Condition.{Condition}
 use Rattle.okws_plan.specs.declared.statement.Comparison.{Comparison}
 use Rattle.okws_plan.specs.declared.statement.Comparison.TheVariants as comparison
 use Rattle.placed_rows.specs.Places.{row_at}
-use Rattle.index_keeper.specs.Slots.{slot_cmp}
-use Rattle.index_keeper.specs.declared.slot.Slot.{Slot}
+use Rattle.row_slots.specs.Index.{is_indexed, IsIndex}
+use Rattle.row_slots.specs.declared.slot.Slot.{Slot}
 
 -- The rows of a table as contracts see them: the columns that have an index, and each row with its place.
 pub record Indexed : Type 0 where
@@ -27,24 +25,6 @@ rows_of entries = map (λ (e : ℕ × List Value). e.1) entries
 -- The places of the rows that pass a test, ascending.
 abbrev pub places_where : (List Value → Bool) → List (ℕ × List Value) → List ℕ
 places_where test entries = map (λ (e : ℕ × List Value). e.0) (filter (λ (e : ℕ × List Value). test e.1) entries)
-
--- A column has an index.
-abbrev pub is_indexed : List ℕ → ℕ → Bool
-is_indexed columns c = list_any (λ (d : ℕ). d == c) columns
-
--- The value of a column in a row that may not be there.
-abbrev pub cell : ℕ → Option (List Value) → Option Value
-cell c None = None
-cell c (Some row) = Some (at_column row c)
-
--- A value is there, and is this one.
-abbrev pub is_value : Value → Option Value → Bool
-is_value v None = false
-is_value v (Some x) = is_eq (value_cmp x v)
-
--- The slots are an index of the rows by these columns: there is a slot for a column, a value and a place exactly where the column has an index and the row of that place has the value there.
-pub record IsIndex (columns : List ℕ) (rows : List (ℕ × List Value)) (slots : BTreeSet Slot) : Type 0 where
-  pub exact : (q : Slot) → contains slot_cmp slots q ≡ (is_indexed columns q.column && is_value q.value (cell q.column (row_at rows q.place)))
 
 -- What always holds of a table's rows: their places rise, the slots are an index of them, and no row has the next place or a later one.
 pub record IsSound (columns : List ℕ) (rows : List (ℕ × List Value)) (next : ℕ) (slots : BTreeSet Slot) : Type 0 where

@@ -2,18 +2,17 @@
 
 ghost use Rattle.std.specs.Prelude.{◌≡◌, ◌∷◌, [], false, IfOk, IfSome, map, Some, None};
 ghost use Rattle.okws_plan.specs.Meaning.{assigned, operand, row_of};
-ghost use Rattle.index_keeper.specs.Places.{is_indexed};
-ghost use Rattle.index_keeper.specs.Changes.{changes_to};
-ghost use Rattle.index_keeper.specs.Few.{listed};
+ghost use Rattle.row_slots.specs.Index.{is_indexed};
+ghost use Rattle.row_slots.specs.Changes.{changes_to};
+ghost use Rattle.row_slots.specs.Few.{listed};
 ghost use Rattle.index_keeper.specs.Hits.{entries_of};
 
-use crate::changing::Change;
-use crate::few::Few;
-use crate::finding::{Hit, value_of};
+use crate::finding::{Hit, is_own, value_of};
 use okws_base::items::{Exact, Items};
 use okws_base::value::{Row, Value};
 use okws_plan::meaning::assigned_row;
 use okws_plan::statement::{Assignment, Operand};
+use row_slots::{Change, Few};
 use std::alloc::{AllocError, Global};
 
 /// No row at each of the places.
@@ -140,13 +139,6 @@ fn sole_assignment<'a>(columns: &[u8], assignments: &'a [Assignment]) -> Option<
         return None;
     }
     Some(assignment)
-}
-
-#[inline(always)]
-fn is_own(columns: &[u8], column: u8) -> bool
-    ensures { result ≡ is_indexed columns.now column }
-{
-    columns.contains(&column)
 }
 
 /// A copy of what an operand stands for.

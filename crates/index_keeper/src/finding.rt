@@ -1,24 +1,23 @@
 //! Which rows meet conditions, with a count of the rows that are tested.
 
-ghost use Rattle.std.specs.Prelude.{◌≡◌, ◌+◌, ◌≤◌, ℕ, IfOk, OnOk, length, filter, ◌&&◌, slice_index_or};
+ghost use Rattle.std.specs.Prelude.{◌≡◌, ◌+◌, ◌≤◌, ℕ, IfOk, OnOk, length, filter, ◌&&◌};
 ghost use Rattle.std.specs.Option.{option_copied};
 ghost use Rattle.std.specs.BTreeSet.{IsOrdered};
 ghost use Rattle.okws_plan.specs.Meaning.{meets_all, operand, nothing};
 ghost use Rattle.placed_rows.specs.Places.{row_at};
 ghost use Rattle.placed_rows.specs.Stands.{standing};
-ghost use Rattle.index_keeper.specs.Slots.{slot_cmp, places_in};
-ghost use Rattle.index_keeper.specs.Places.{leading, left_of, passes_at, is_indexed, is_equality};
-ghost use Rattle.index_keeper.specs.Few.{if_any, listed};
+ghost use Rattle.row_slots.specs.Slots.{slot_cmp, places_in};
+ghost use Rattle.row_slots.specs.Index.{is_indexed};
+ghost use Rattle.index_keeper.specs.Places.{leading, left_of, passes_at, is_equality};
+ghost use Rattle.row_slots.specs.Few.{if_any, listed};
 ghost use Rattle.index_keeper.specs.Hits.{entries_of, entry_at, entries_at, passing};
 
-use crate::few::Few;
-use crate::slot::Slot;
-use crate::slots::places_at;
 use crate::steps::Steps;
 use okws_base::value::{Row, Value};
 use okws_plan::meaning::meets_every;
 use okws_plan::statement::{Comparison, Condition, Operand};
 use placed_rows::{PlacedRows, Stand};
+use row_slots::{Few, Slot, at, places_at};
 use std::alloc::{AllocError, Global};
 use std::collections::BTreeSet;
 use std::sync::ledger::Ledger;
@@ -30,11 +29,19 @@ pub struct Hit<'a> {
     pub row: &'a Row,
 }
 
+/// Whether a column is one of those that have an index.
+#[inline(always)]
+pub fn is_own(columns: &[u8], column: u8) -> bool
+    ensures { result ≡ is_indexed columns.now column }
+{
+    columns.iter().any(|own| *own == column)
+}
+
 #[inline(always)]
 fn leads(columns: &[u8], condition: &Condition) -> bool
     ensures { result ≡ (is_equality condition.now.comparison && is_indexed columns.now condition.now.column) }
 {
-    condition.comparison == Comparison::Equal && columns.contains(&condition.column)
+    condition.comparison == Comparison::Equal && is_own(columns, condition.column)
 }
 
 /// The condition by which rows are looked up, if there is one.
@@ -67,18 +74,6 @@ pub fn value_of<'a>(args: &'a [Value], given: &'a Operand, other: &'a Value) -> 
     match given {
         Operand::Parameter(n) => at(args, n.saturating_sub(1) as usize, other),
         Operand::Literal(value) => value,
-    }
-}
-
-/// The value at a place, or `other` where there is none.
-#[inline(always)]
-pub fn at<'a>(values: &'a [Value], place: usize, other: &'a Value) -> &'a Value
-    ensures { result.now ≡ slice_index_or values.now place other.now }
-{
-    if place < values.len() {
-        &values[place]
-    } else {
-        other
     }
 }
 

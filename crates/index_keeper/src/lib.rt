@@ -4,22 +4,16 @@
 #![tactic(auto)]
 
 mod answering;
-mod cells;
-mod changing;
 mod declared;
 mod editing;
-mod few;
 mod finding;
 mod keeper;
 mod pinning;
 mod rows;
 mod scanning;
 mod shared;
-mod slot;
-mod slots;
 mod steps;
 
 pub use keeper::IndexKeeper;
 pub use pinning::IndexPin;
-pub use slot::Slot;
 pub use steps::Steps;

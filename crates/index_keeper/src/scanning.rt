@@ -8,9 +8,9 @@ ghost use Rattle.okws_plan.specs.Meaning.{nothing, at_column};
 ghost use Rattle.placed_rows.specs.Stands.{standing};
 ghost use Rattle.index_keeper.specs.Places.{passes_at, rows_of};
 
-use crate::finding::at;
 use okws_base::value::Value;
 use placed_rows::Stand;
+use row_slots::at;
 use std::alloc::{AllocError, Global};
 
 /// The places of all rows that stand, ascending.

@@ -89,6 +89,22 @@ impl SharedRows {
         if let Some(rows) = Arc::get_mut(&mut self.rows) {
             return rows.run(alloc, columns, action, args, steps);
         }
+        self.write_copy(alloc, columns, action, args, steps)
+    }
+
+    // Makes a new version.
+    #[inline(never)]
+    fn write_copy<L: Ledger>(
+        &mut self,
+        alloc: Global,
+        columns: &[Column],
+        action: &Action,
+        args: &[Value],
+        steps: &mut Steps<L>,
+    ) -> Result<Answer, AllocError>
+        ensures ok { IfOk result (λ answer. (answer, rows_of self.new.entries) ≡ mean_on columns.now action.now args.now (rows_of self.old.entries)) }
+        ensures err { OnErr result (self.new ≡ self.old) }
+    {
         let mut rows = self.rows.copy(alloc)?;
         let answer = rows.run(alloc, columns, action, args, steps)?;
         self.rows = Arc::new(alloc, rows)?;

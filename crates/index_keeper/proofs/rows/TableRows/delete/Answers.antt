@@ -6,8 +6,8 @@ use Rattle.okws_base.specs.declared.value.Value.{Value}
 use Rattle.okws_plan.specs.Meaning.{meets_all}
 use Rattle.okws_plan.specs.declared.statement.Answer.TheVariants.{Changed}
 use Rattle.placed_rows.specs.Places.{row_at}
-use Rattle.index_keeper.specs.Changes.{changed}
-use Rattle.index_keeper.specs.declared.changing.Change.{Change}
+use Rattle.row_slots.specs.Changes.{changed}
+use Rattle.row_slots.specs.declared.changing.Change.{Change}
 use Rattle.index_keeper.proofs.Entries.{count_listed, listed_rise, removed_rows}
 use Rattle.index_keeper.proofs.rows.TableRows.delete.Goals as goal
 

@@ -5,7 +5,7 @@ use Rattle.okws_plan.specs.Meaning.{meets_all}
 use Rattle.okws_plan.specs.declared.statement.Condition.{Condition}
 use Rattle.placed_rows.specs.Places.{row_at}
 use Rattle.index_keeper.specs.Places.{leading, left_of, tests, rows_of}
-use Rattle.index_keeper.specs.Few.{listed}
+use Rattle.row_slots.specs.Few.{listed}
 use Rattle.index_keeper.specs.Hits.{entries_of, entries_at}
 use Rattle.index_keeper.proofs.Found.{counted_by}
 use Rattle.index_keeper.proofs.Hits.{found_entries}

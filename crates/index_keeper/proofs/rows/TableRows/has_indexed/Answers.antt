@@ -3,7 +3,8 @@ use Rattle.std.specs.Prelude.{not, ◌==◌}
 use Rattle.okws_base.specs.Value.{value_eq}
 use Rattle.okws_base.specs.declared.value.Value.{Value}
 use Rattle.okws_plan.specs.Meaning.{at_column}
-use Rattle.index_keeper.specs.Places.{Indexed, is_indexed, is_value, rows_of}
+use Rattle.row_slots.specs.Index.{is_indexed, is_value}
+use Rattle.index_keeper.specs.Places.{Indexed, rows_of}
 use Rattle.index_keeper.proofs.Found.{listed, any_alike}
 use Rattle.index_keeper.proofs.Entries.{any_rows, value_eq_is}
 use Rattle.index_keeper.proofs.rows.TableRows.has_indexed.Goals as goal

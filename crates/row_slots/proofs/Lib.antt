@@ -1,0 +1,4 @@
+pub mod Bools
+pub mod Runs
+pub mod Moved
+pub mod Taken

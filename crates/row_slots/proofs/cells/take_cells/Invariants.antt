@@ -1,0 +1,13 @@
+use Rattle.std.proofs.Common.{◌≡◌, take, Some, None}
+use Rattle.std.specs.Prelude.{◌&&◌, not}
+use Rattle.std.specs.BTreeSet.{contains}
+use Rattle.row_slots.specs.Slots.{slot_cmp}
+use Rattle.row_slots.specs.Changes.{comes}
+use Rattle.row_slots.specs.declared.slot.Slot.{Slot}
+use Rattle.row_slots.proofs.cells.take_cells.Given as goal
+
+abbrev pub invariant-loop-column : goal.invariant-loop-column
+invariant-loop-column l = record {
+  values : l.values ≡ l.initial.values;
+  slots : (q : Slot) → contains slot_cmp l.set q ≡ (not (comes (take l.column-index l.columns) l.place None (Some l.initial.values) q) && contains slot_cmp l.initial.set q);
+}

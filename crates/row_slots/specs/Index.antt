@@ -1,0 +1,29 @@
+-- What an index of rows is.
+use Rattle.std.specs.Prelude.{◌≡◌, ℕ, Bool, false, ◌&&◌, ◌==◌, List, Option, Some, None}
+use Rattle.std.specs.List.{list_any}
+use Rattle.std.specs.Ordering.{is_eq}
+use Rattle.std.specs.BTreeSet.{BTreeSet, contains}
+use Rattle.okws_base.specs.Value.{value_cmp}
+use Rattle.okws_base.specs.declared.value.Value.{Value}
+use Rattle.okws_plan.specs.Meaning.{at_column}
+use Rattle.placed_rows.specs.Places.{row_at}
+use Rattle.row_slots.specs.Slots.{slot_cmp}
+use Rattle.row_slots.specs.declared.slot.Slot.{Slot}
+
+-- A column has an index.
+abbrev pub is_indexed : List ℕ → ℕ → Bool
+is_indexed columns c = list_any (λ (d : ℕ). d == c) columns
+
+-- The value of a column in a row that may not be there.
+abbrev pub cell : ℕ → Option (List Value) → Option Value
+cell c None = None
+cell c (Some row) = Some (at_column row c)
+
+-- A value is there, and is this one.
+abbrev pub is_value : Value → Option Value → Bool
+is_value v None = false
+is_value v (Some x) = is_eq (value_cmp x v)
+
+-- The slots are an index of the rows by these columns: there is a slot for a column, a value and a place exactly where the column has an index and the row of that place has the value there.
+pub record IsIndex (columns : List ℕ) (rows : List (ℕ × List Value)) (slots : BTreeSet Slot) : Type 0 where
+  pub exact : (q : Slot) → contains slot_cmp slots q ≡ (is_indexed columns q.column && is_value q.value (cell q.column (row_at rows q.place)))

@@ -1,0 +1,5 @@
+pub mod Slots
+pub mod Few
+pub mod Order
+pub mod Index
+pub mod Changes

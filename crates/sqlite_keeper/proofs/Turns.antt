@@ -22,32 +22,35 @@ done = Ok tt
 -- The deeds so far led from the start to where the database is now; whatever is left of them from there makes up the whole.
 pub record Goes {S : Type 0} (g : Ghosts S) (start now : Held S) (Rest Whole : Held S → Made → Type 0) : Type 0 where
   pub clean : doubt (state g start).is_clean ≤ doubt (state g now).is_clean
+  pub limit : now.step_limit ≡ start.step_limit
   pub inside : HasCleanDisk (state g now) → now.in_transaction ≡ true
   pub kept : HasCleanDisk (state g now) → KeepsCommit (state g start) (state g now)
   pub leads : HasCleanDisk (state g now) → (last : Held S) (made : Made) → Rest last made → Whole last made
 
 module _ {S : Type 0} (g : Ghosts S) where
   pub still : {T : Type 0} (old : Held S) (made : Result T MakeError) (Did : Type 0) → (HasCleanDisk (state g old) → Did) → (HasCleanDisk (state g old) → OnOk made (old.in_transaction ≡ true)) → Steps g old old made Did
-  still old made Did did inside = record { clean = omega arith; did = did; inside = inside; kept = λ clean. kept_still (state g old) }
+  still old made Did did inside = record { clean = omega arith; limit = refl; did = did; inside = inside; kept = λ clean. kept_still (state g old) }
 
   pub follows : {T U : Type 0} (old mid new : Held S) (first : Result T MakeError) (made : Result U MakeError) (A B C : Type 0) → Steps g old mid first A → Steps g mid new made B → (A → B → C) → Steps g old new made C
   follows old mid new first made A B C a b both = record {
     clean = omega (arith, a.clean, b.clean);
+    limit = b.limit ∙ a.limit;
     did = λ clean. both (a.did (omega (arith, b.clean))) (b.did clean);
     inside = b.inside;
     kept = λ clean. kept_then (state g old) (state g mid) (state g new) (a.kept (omega (arith, b.clean))) (b.kept clean);
   }
 
   pub fails : {T U : Type 0} (old new : Held S) (made : Result T MakeError) (why : MakeError) (A B : Type 0) → Steps g old new made A → (A → B) → Steps g {T = U} old new (Err why) B
-  fails old new made why A B a turn = record { clean = a.clean; did = λ clean. turn (a.did clean); inside = λ clean. tt; kept = a.kept }
+  fails old new made why A B a turn = record { clean = a.clean; limit = a.limit; did = λ clean. turn (a.did clean); inside = λ clean. tt; kept = a.kept }
 
   pub begun : (now : Held S) (Rest : Held S → Made → Type 0) → (HasCleanDisk (state g now) → now.in_transaction ≡ true) → Goes g now now Rest Rest
-  begun now Rest inside = record { clean = omega arith; inside = inside; kept = λ clean. kept_still (state g now); leads = λ clean last made rest. rest }
+  begun now Rest inside = record { clean = omega arith; limit = refl; inside = inside; kept = λ clean. kept_still (state g now); leads = λ clean last made rest. rest }
 
   pub goes_on : (start now mid : Held S) (Rest Next Whole : Held S → Made → Type 0) (Did : Type 0) → Goes g start now Rest Whole → Steps g {T = Unit {0}} now mid done Did
       → (Did → (last : Held S) (made : Made) → Next last made → Rest last made) → Goes g start mid Next Whole
   goes_on start now mid Rest Next Whole Did so step on = record {
     clean = omega (arith, so.clean, step.clean);
+    limit = step.limit ∙ so.limit;
     inside = step.inside;
     kept = λ clean. kept_then (state g start) (state g now) (state g mid) (so.kept (omega (arith, step.clean))) (step.kept clean);
     leads = λ clean last made next. so.leads (omega (arith, step.clean)) last made (on (step.did clean) last made next);
@@ -56,6 +59,7 @@ module _ {S : Type 0} (g : Ghosts S) where
   pub ends : (start now last : Held S) (made : Made) (Rest Whole : Held S → Made → Type 0) (Did : Type 0) → Goes g start now Rest Whole → Steps g now last made Did → (Did → Rest last made) → Steps g start last made (Whole last made)
   ends start now last made Rest Whole Did so step end = record {
     clean = omega (arith, so.clean, step.clean);
+    limit = step.limit ∙ so.limit;
     did = λ clean. so.leads (omega (arith, step.clean)) last made (end (step.did clean));
     inside = step.inside;
     kept = λ clean. kept_then (state g start) (state g now) (state g last) (so.kept (omega (arith, step.clean))) (step.kept clean);

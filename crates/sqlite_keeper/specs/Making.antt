@@ -96,9 +96,10 @@ module _ {S : Type 0} (g : Ghosts S) where
       ((old.in_transaction ≡ true) × (why ≡ Failed))
       ⊎ ((last : Held S) × (PreparesAll tables old last (Err why) ⊎ (PreparesAll tables old last (Ok tt) × (e : Error) × FailsToCommit (state g last) (state g new) e × (why ≡ make_reason e))))
 
-  -- A step inside a transaction: no fault is forgotten, nothing is committed, and it stays inside where it succeeds.
+  -- A step inside a transaction: no fault is forgotten, no limit is set, nothing is committed, and it stays inside where it succeeds.
   pub record Steps {T : Type 0} (old new : Held S) (made : Result T MakeError) (Did : Type 0) : Type 0 where
     pub clean : doubt (state g old).is_clean ≤ doubt (state g new).is_clean
+    pub limit : new.step_limit ≡ old.step_limit
     pub did : HasCleanDisk (state g new) → Did
     pub inside : HasCleanDisk (state g new) → OnOk made (new.in_transaction ≡ true)
     pub kept : HasCleanDisk (state g new) → KeepsCommit (state g old) (state g new)

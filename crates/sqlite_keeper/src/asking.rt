@@ -38,6 +38,7 @@ fn list<S: Alter>(
     ensures ok { HasCleanDisk (state S.Store conn.new) → IfOk result (Lists S.Store sql.now (bound values.now) conn.old conn.new) }
     ensures wide { IfOk result (λ rows. All (λ row. length row ≡ length kinds.now) rows) }
     ensures err { HasCleanDisk (state S.Store conn.new) → IfErr result (IsUnlisted S.Store sql.now (bound values.now) kinds.now conn.old conn.new) }
+    ensures limit { conn.new.step_limit ≡ conn.old.step_limit }
 {
     match conn.query_all(sql, values) {
         Ok(shown) => read_rows(alloc, kinds, shown.as_slice()),
@@ -58,6 +59,7 @@ fn write<S: Alter>(
     requires writes { is_select action.now ≡ false }
     ensures told { HasCleanDisk (state S.Store conn.new) → WritesAs S.Store sql.now (bound values.now) columns.now action.now conn.old conn.new result }
     ensures may { IfOk result (MayAnswer columns.now action.now) }
+    ensures limit { conn.new.step_limit ≡ conn.old.step_limit }
 {
     let told = conn.execute(sql, values);
     answer_to(columns, action, told)
@@ -78,6 +80,7 @@ pub(crate) fn listed<S: Alter>(
     ensures ok { HasCleanDisk (state S.Store conn.new) → IfOk result (Lists S.Store (sql_of table action.now) (values_of args.now action.now) conn.old conn.new) }
     ensures wide { IfOk result (λ rows. All (λ row. length row ≡ length listed.now) rows) }
     ensures err { HasCleanDisk (state S.Store conn.new) → IfErr result (λ why. IsUnasked S.Store conn.old conn.new why ⊎ IsUnlisted S.Store (sql_of table action.now) (values_of args.now action.now) (kinds_of columns.now listed.now) conn.old conn.new why) }
+    ensures limit { conn.new.step_limit ≡ conn.old.step_limit }
 {
     let sql = sql_of(alloc, table, action)?;
     let values = values_of(alloc, args, action)?;
@@ -99,6 +102,7 @@ fn written<S: Alter>(
     requires writes { is_select action.now ≡ false }
     ensures told { HasCleanDisk (state S.Store conn.new) → WritesAs S.Store (sql_of table action.now) (values_of args.now action.now) columns.now action.now conn.old conn.new result }
     ensures may { IfOk result (MayAnswer columns.now action.now) }
+    ensures limit { conn.new.step_limit ≡ conn.old.step_limit }
 {
     let sql = sql_of(alloc, table, action)?;
     let values = values_of(alloc, args, action)?;
@@ -118,6 +122,7 @@ fn acted<S: Alter>(
     ensures acts { HasCleanDisk (state S.Store conn.new) → ActsAs S.Store columns.now table action.now args.now conn.old conn.new result }
     ensures may { IfOk result (MayAnswer columns.now action.now) }
     ensures wide { IfOk result IsWide }
+    ensures limit { conn.new.step_limit ≡ conn.old.step_limit }
 {
     match action {
         Action::Select(selection) => {
@@ -151,6 +156,7 @@ pub(crate) fn act<S: Alter>(
     ensures acts { HasCleanDisk (state S.Store conn.new) → ActsAs S.Store columns.now table action.now args.now conn.old conn.new result }
     ensures may { IfOk result (MayAnswer columns.now action.now) }
     ensures wide { IfOk result IsWide }
+    ensures limit { conn.new.step_limit ≡ conn.old.step_limit }
 {
     if !conn.is_autocommit() {
         return Err(RunError::Failed);
@@ -171,6 +177,7 @@ pub(crate) fn pinned<S: Alter>(
     ensures pinned { HasCleanDisk (state S.Store conn.new) → IfOk result (λ p. ActsAs S.Store columns.now table action.now args.now conn.old conn.new (Ok (pinned_answer p))) }
     ensures unpinned { HasCleanDisk (state S.Store conn.new) → IfErr result (λ why. ActsAs S.Store columns.now table action.now args.now conn.old conn.new (Err why)) }
     ensures may { IfOk result (λ p. MayAnswer columns.now action.now (pinned_answer p)) }
+    ensures limit { conn.new.step_limit ≡ conn.old.step_limit }
 {
     match act(alloc, conn, columns, table, action, args) {
         Ok(Answer::Rows { columns, rows }) => Ok(Listed::new(columns, rows)),

@@ -42,6 +42,7 @@ impl<S: Alter + Drop> SqliteKeeper<S> {
     ) -> Result<SqliteKeeper<S>, (MakeError, Connection<S>)>
         ensures tables { IfOk result (λ k. k.tables.items ≡ tables.now) }
         ensures faults { IfOk result (λ k. k.faults ≡ 0) }
+        ensures limit { IfOk result (λ k. k.conn.step_limit ≡ conn.step_limit) }
         ensures made { IfOk result (λ k. HasCleanDisk (state S.Store k.conn) → IsMade S.Store tables.now conn k.conn) }
         ensures unmade { IfErr result (λ e. HasCleanDisk (state S.Store e.1) → ((e.0 ≡ MakeError.NoMemory) × (e.1 ≡ conn)) ⊎ IsUnmade S.Store tables.now conn e.1 e.0) }
         ensures kept { IfErr result (λ e. HasCleanDisk (state S.Store e.1) → KeepsRows (state S.Store conn) (state S.Store e.1)) }
@@ -113,6 +114,7 @@ impl<S: Alter> Keeper for SqliteKeeper<S> {
         ensures steady { false ≡ false }
         ensures still { IfOk result (λ _. self.new.faults ≡ self.old.faults) }
         ensures handed { HasCleanDisk (state S.Store self.new.conn) → RunsAs S.Store self.old.tables.items statement.now args.now self.old.conn self.new.conn result }
+        ensures limit { self.new.conn.step_limit ≡ self.old.conn.step_limit }
     {
         let columns = columns_at(&self.tables, statement.table as usize);
         let answer = act(
@@ -144,6 +146,7 @@ impl<S: Alter> Keeper for SqliteKeeper<S> {
         ensures still { IfOk result (λ _. self.new.faults ≡ self.old.faults) }
         ensures pinned { HasCleanDisk (state S.Store self.new.conn) → IfOk result (λ p. RunsAs S.Store self.old.tables.items statement.now args.now self.old.conn self.new.conn (Ok (pinned_answer p))) }
         ensures unpinned { HasCleanDisk (state S.Store self.new.conn) → IfErr result (λ why. RunsAs S.Store self.old.tables.items statement.now args.now self.old.conn self.new.conn (Err why)) }
+        ensures limit { self.new.conn.step_limit ≡ self.old.conn.step_limit }
     {
         let columns = columns_at(&self.tables, statement.table as usize);
         let found = pinned(

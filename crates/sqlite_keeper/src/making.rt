@@ -187,6 +187,7 @@ pub(crate) fn prepare<S: Alter>(
 ) -> Result<(), MakeError>
     ensures made { HasCleanDisk (state S.Store conn.new) → OnOk result (IsMade S.Store tables.now conn.old conn.new) }
     ensures unmade { HasCleanDisk (state S.Store conn.new) → IfErr result (IsUnmade S.Store tables.now conn.old conn.new) }
+    ensures limit { conn.new.step_limit ≡ conn.old.step_limit }
     ensures kept { HasCleanDisk (state S.Store conn.new) → OnErr result (KeepsRows (state S.Store conn.old) (state S.Store conn.new)) }
 {
     if !conn.is_autocommit() {

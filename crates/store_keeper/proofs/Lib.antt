@@ -2,3 +2,4 @@ pub mod Alike
 pub mod Whole
 pub mod Reading
 pub mod Same
+pub mod Telling

@@ -1,12 +1,13 @@
 //! The keeper.
 
-ghost use Rattle.std.specs.Prelude.{◌≡◌, ◌≤◌, Some, true, false, map, IfOk, IfErr};
+ghost use Rattle.std.specs.Prelude.{◌≡◌, ◌≢◌, ◌≤◌, Ok, Some, true, false, map, IfOk, IfErr};
 ghost use Rattle.okws_outer.specs.Streams.{Rose, counted};
 ghost use Rattle.store_keeper.specs.Alike.{AreAlike, HasRows};
 
 use index_keeper::{IndexKeeper, IndexPin};
 use okws_base::value::Value;
 use okws_outer::keeper::{Keeper, RunError};
+use okws_outer::pinned::Pinned;
 use okws_plan::configuration::{Query, Table};
 use okws_plan::statement::{Action, Answer, Statement};
 use std::alloc::{AllocError, Global};
@@ -77,7 +78,8 @@ impl<K: Keeper> StoredKeeper<K> {
 
 /// Whether two answers are the same.
 fn agree(told: &Answer, answer: &Result<Answer, RunError>) -> bool
-    ensures { result ≡ true → IfErr answer.now (λ _. ⊥) }
+    ensures answered { result ≡ true → IfErr answer.now (λ _. ⊥) }
+    ensures other { result ≡ false → answer.now ≢ Ok told.now }
 {
     match answer {
         Ok(answer) => answer == told,
@@ -99,6 +101,14 @@ fn failed(faults: &mut u64) -> RunError
 impl<K: Keeper> Keeper for StoredKeeper<K> {
     type Pin = IndexPin;
 
+    ghost use Rattle.std.specs.Prelude.{◌≡◌, true, false, IfOk, IsErrOf};
+    ghost use Rattle.okws_plan.specs.Fits.{fits};
+    ghost use Rattle.okws_plan.specs.Rules.{keeps_rules};
+    ghost use Rattle.okws_plan.specs.declared.statement.Answer.TheVariants.{Rows};
+    ghost use Rattle.okws_outer.specs.Keeping.{Runs, Pins, is_select};
+    ghost use Rattle.okws_outer.specs.Streams.{Counts, Rose};
+    ghost use Rattle.store_keeper.specs.Parting.{PartsBy};
+
     ghost tables = { λ k. ⟦<IndexKeeper as Keeper>⟧.tables k.rows };
 
     ghost told = { λ k. ⟦<IndexKeeper as Keeper>⟧.told k.rows };
@@ -112,7 +122,20 @@ impl<K: Keeper> Keeper for StoredKeeper<K> {
         alloc: Global,
         statement: &Statement,
         args: &[Value],
-    ) -> Result<Answer, RunError> {
+    ) -> Result<Answer, RunError>
+        requires fits { fits statement.now.parameters args.now ≡ true }
+        requires rules { keeps_rules (⟦<IndexKeeper as Keeper>⟧.tables self.old.rows) statement.now ≡ true }
+        ensures rows { Runs (⟦<IndexKeeper as Keeper>⟧.tables self.old.rows) statement.now args.now (⟦<IndexKeeper as Keeper>⟧.told self.old.rows) (⟦<IndexKeeper as Keeper>⟧.told self.new.rows) result }
+        ensures tables { ⟦<IndexKeeper as Keeper>⟧.tables self.new.rows ≡ ⟦<IndexKeeper as Keeper>⟧.tables self.old.rows }
+        ensures faults { Counts self.old.faults self.new.faults (IsErrOf result RunError.Failed) }
+        ensures spared { IsErrOf result RunError.NoMemory → self.new.faults ≡ self.old.faults }
+        ensures sure { false ≡ true → IsErrOf result RunError.Failed → ⊥ }
+        ensures steady { false ≡ false }
+        ensures read { is_select statement.now.action ≡ true → (self.new.store ≡ self.old.store) × (self.new.parted ≡ self.old.parted) }
+        ensures refused { is_select statement.now.action ≡ false → self.old.parted ≡ true → IsErrOf result RunError.NoMemory × (self.new ≡ self.old) }
+        ensures failed { IsErrOf result RunError.Failed → Rose (K.faults self.old.store) (K.faults self.new.store) }
+        ensures parts { self.old.parted ≡ false → self.new.parted ≡ true → PartsBy (K.tables self.old.store) statement.now args.now (K.told self.old.store) (K.told self.new.store) result }
+    {
         if let Action::Select(_) = statement.action {
             return self.rows.run(alloc, statement, args);
         }
@@ -135,7 +158,20 @@ impl<K: Keeper> Keeper for StoredKeeper<K> {
         alloc: Global,
         statement: &Statement,
         args: &[Value],
-    ) -> Result<IndexPin, RunError> {
+    ) -> Result<IndexPin, RunError>
+        requires select { is_select statement.now.action ≡ true }
+        requires fits { fits statement.now.parameters args.now ≡ true }
+        requires rules { keeps_rules (⟦<IndexKeeper as Keeper>⟧.tables self.old.rows) statement.now ≡ true }
+        ensures answer { IfOk result (λ p. Pins (⟦<IndexKeeper as Keeper>⟧.tables self.old.rows) statement.now args.now (⟦<IndexKeeper as Keeper>⟧.told self.old.rows) (Rows (⟦<IndexPin as Pinned>⟧.width p) (⟦<IndexPin as Pinned>⟧.rows p))) }
+        ensures told { ⟦<IndexKeeper as Keeper>⟧.told self.new.rows ≡ ⟦<IndexKeeper as Keeper>⟧.told self.old.rows }
+        ensures tables { ⟦<IndexKeeper as Keeper>⟧.tables self.new.rows ≡ ⟦<IndexKeeper as Keeper>⟧.tables self.old.rows }
+        ensures faults { Counts self.old.faults self.new.faults (IsErrOf result RunError.Failed) }
+        ensures spared { IsErrOf result RunError.NoMemory → self.new.faults ≡ self.old.faults }
+        ensures sure { false ≡ true → IsErrOf result RunError.Failed → ⊥ }
+        ensures steady { false ≡ false }
+        ensures read { (self.new.store ≡ self.old.store) × (self.new.parted ≡ self.old.parted) }
+        ensures failed { IsErrOf result RunError.Failed → ⊥ }
+    {
         self.rows.pin(alloc, statement, args)
     }
 }

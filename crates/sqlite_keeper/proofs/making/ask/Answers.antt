@@ -13,7 +13,7 @@ returns-in-Ok-clause-shown g c =
     let values = sql.Text (table_name c.args.at) ∷ [] in
     let asked : HasCleanDisk new → Shown schema_sql values old new c.in-Ok.shown.items = λ clean. rw (c.params-to_sql.ensures, c.requires.name) at (c.in-Ok.ensures.ok clean) in
     let both = λ (clean : HasCleanDisk new). shown_inside old new schema_sql values c.in-Ok.shown.items (c.requires.inside (omega (arith, c.query_all.ensures.survives.clean))) (asked clean) in
-    record { clean = c.query_all.ensures.survives.clean; did = asked; inside = λ clean. (both clean).0; kept = λ clean. (both clean).1 }
+    record { clean = c.query_all.ensures.survives.clean; limit = c.query_all.ensures.survives.limit; did = asked; inside = λ clean. (both clean).0; kept = λ clean. (both clean).1 }
 
 pub returns-in-Err-clause-refused : goal.returns-in-Err-clause-refused
 returns-in-Err-clause-refused g c =
@@ -24,6 +24,7 @@ returns-in-Err-clause-refused g c =
     λ clean. rw (c.params-to_sql.ensures, c.requires.name) at (c.in-Err.ensures.err clean) in
     record {
       clean = c.query_all.ensures.survives.clean;
+      limit = c.query_all.ensures.survives.limit;
       did = λ clean. (c.in-Err.error, refused clean, c.make_reason.ensures);
       inside = λ clean. tt;
       kept = λ clean. refused_commits old new schema_sql values c.in-Err.error (refused clean);

@@ -1,4 +1,4 @@
-use Rattle.std.proofs.Common.{◌≡◌, false, Err, inl, inr, sym, subst, rules, arith}
+use Rattle.std.proofs.Common.{◌≡◌, ◌∙◌, false, Err, ap, inl, inr, sym, subst, rules, arith}
 use Rattle.std.specs.Prelude.{IfErr}
 use Rattle.sqlite.specs.Held.{state}
 use Rattle.sqlite.specs.State.{HasCleanDisk, Shows}
@@ -38,3 +38,21 @@ returns-in-Err-clause-unmade g c clean =
     let prepared : PreparesAll g.S.Store c.args.tables.now c.args.conn.now last done = rw c.transaction-tx.ensures.begun at (c.in_ok-prepare_all.ensures.steps.did early) in
     subst (λ h. IsUnmade g.S.Store c.args.tables.now c.args.conn.now h c.make_reason.result) ended
     (inr (last, inr (prepared, c.in-Err.error, c.in-Err.ensures.err late, c.make_reason.ensures)))
+
+pub returns-in_err-prepare_all-clause-limit : goal.returns-in_err-prepare_all-clause-limit
+returns-in_err-prepare_all-clause-limit g c =
+    let ended : c.drop-tx.new.self.0 ≡ c.conn-1.given.0 = search rules in
+    subst (λ h. h.step_limit ≡ c.args.conn.now.step_limit) ended
+    (c.drop-tx.ensures.survives.limit ∙ c.in_err-prepare_all.ensures.steps.limit ∙ ap (λ h. h.step_limit) c.transaction-tx.ensures.begun)
+
+pub returns-in-Ok-clause-limit : goal.returns-in-Ok-clause-limit
+returns-in-Ok-clause-limit g c =
+    let ended : c.commit.new.self.0 ≡ c.conn-2-1.given.0 = search rules in
+    subst (λ h. h.step_limit ≡ c.args.conn.now.step_limit) ended
+    (c.commit.ensures.survives.limit ∙ c.in_ok-prepare_all.ensures.steps.limit ∙ ap (λ h. h.step_limit) c.transaction-tx.ensures.begun)
+
+pub returns-in-Err-clause-limit : goal.returns-in-Err-clause-limit
+returns-in-Err-clause-limit g c =
+    let ended : c.commit.new.self.0 ≡ c.conn-2-1.given.0 = search rules in
+    subst (λ h. h.step_limit ≡ c.args.conn.now.step_limit) ended
+    (c.commit.ensures.survives.limit ∙ c.in_ok-prepare_all.ensures.steps.limit ∙ ap (λ h. h.step_limit) c.transaction-tx.ensures.begun)

@@ -11,7 +11,7 @@ pub invariant_of-self-in-Ok : goal.invariant_of-self-in-Ok
 invariant_of-self-in-Ok g c = record {
   alike = still_alike (g.K.Keeper.tables c.args.self.now.store) _ _ _ c.run-2.ensures.tables c.run-answer.ensures.tables c.args.self.now.alike;
   same = λ off. same_ok (g.K.Keeper.tables c.args.self.now.store) _ c.args.statement.now c.args.args.now (g.K.Keeper.told c.args.self.now.store) (g.K.Keeper.told c.run-2.new.self) _ _ c.in-Ok.told c.run-answer.result c.agree.result off
-      c.agree.ensures c.args.self.now.alike (c.args.self.now.same c.if-self.false)
+      c.agree.ensures.answered c.args.self.now.alike (c.args.self.now.same c.if-self.false)
       (subst (λ r. Runs (g.K.Keeper.tables c.args.self.now.store) c.args.statement.now c.args.args.now (g.K.Keeper.told c.args.self.now.store) (g.K.Keeper.told c.run-2.new.self) r) c.in-Ok.is c.run-2.ensures.rows)
       c.run-answer.ensures.rows;
   counted = omega (arith, c.args.self.now.counted, c.run-2.ensures.faults.later);

@@ -1,0 +1,287 @@
+//! The same statements, drawn at random, over the keeper with a database and over the plain one. The values
+//! are those at which another order or another equality would show: the ends of the numbers, texts that
+//! are numbers, upper case, letters of several bytes, a zero byte, and bytes that begin one another.
+
+ghost use Rattle.std.specs.Prelude.{◌≡◌};
+ghost use Rattle.okws_plan.specs.Configuration.{tables};
+ghost use Rattle.config_reader.specs.Ruled.{AreRuled};
+
+use crate::site::{bytes, call, config, plain, query_at, tables_at, text};
+use okws_base::value::{Kind, Value};
+use okws_outer::keeper::Keeper;
+use okws_plan::configuration::Config;
+use row_keeper::ListKeeper;
+use sqlite::{Alter, Connection};
+use sqlite_keeper::SqliteKeeper;
+use std::alloc::{AllocError, Global};
+use std::test::Fail;
+use std::{fs, process};
+
+const SITE: &str = "okws 1
+proxy main
+table main t id INT KEY kind TEXT n INT data BYTES
+table main u name TEXT KEY n INT
+table main v data BYTES KEY name TEXT
+row main t 7 'first' 9223372036854775807 X''
+row main t -7 '' -9223372036854775808 X'00'
+row main u 'first' 0
+query main 1 INSERT INTO t (id, kind, n, data) VALUES (?1, ?2, ?3, ?4)
+query main 2 SELECT id, kind, n, data FROM t
+query main 3 SELECT id, n FROM t WHERE kind = ?1 ORDER BY n
+query main 4 SELECT id FROM t WHERE kind <> ?1 AND n <= ?2 ORDER BY data LIMIT 3
+query main 5 UPDATE t SET kind = ?1 WHERE n >= ?2
+query main 6 UPDATE t SET n = ?1, kind = ?2 WHERE id = ?3
+query main 7 UPDATE t SET n = ?1, data = ?2 WHERE kind < ?3 AND n > ?4
+query main 8 DELETE FROM t WHERE id = ?1
+query main 9 DELETE FROM t WHERE n = ?1 AND kind >= ?2
+query main 10 SELECT kind, id FROM t WHERE data > ?1 ORDER BY kind
+query main 11 SELECT id FROM t WHERE n >= ?1 ORDER BY id LIMIT 5
+query main 12 SELECT id, data FROM t WHERE data = ?1 ORDER BY kind LIMIT 2
+query main 13 INSERT INTO t (id, kind, n, data) VALUES (?1, 'it''s', ?2, X'00')
+query main 14 INSERT INTO u (name, n) VALUES (?1, ?2)
+query main 15 SELECT name, n FROM u ORDER BY name
+query main 16 SELECT n FROM u WHERE name <= ?1
+query main 17 UPDATE u SET n = ?1 WHERE name = ?2
+query main 18 DELETE FROM u WHERE name > ?1 AND n < ?2
+query main 19 INSERT INTO v (data, name) VALUES (?1, ?2)
+query main 20 SELECT data, name FROM v ORDER BY data
+query main 21 SELECT name FROM v WHERE data < ?1 ORDER BY name LIMIT 0
+query main 22 DELETE FROM v WHERE data = ?1
+query main 23 SELECT id FROM t WHERE n = 0 AND kind = 'a' ORDER BY data
+";
+
+const INTS: [i64; 11] = [
+    i64::MIN,
+    -256,
+    -1,
+    0,
+    1,
+    2,
+    9,
+    10,
+    256,
+    i64::MAX - 1,
+    i64::MAX,
+];
+
+const TEXTS: [&str; 11] = [
+    "", "a", "A", "ab", "b", "10", "9", "é", "\u{0}", "a\u{0}", "𝄞",
+];
+
+const BYTES: [&[u8]; 11] = [
+    &[],
+    &[0],
+    &[0, 0],
+    &[1],
+    &[97],
+    &[97, 0],
+    &[127],
+    &[128],
+    &[255],
+    &[255, 0],
+    &[254, 255],
+];
+
+// The next number of a row of numbers that looks drawn.
+fn next(state: u64) -> u64 {
+    state
+        .wrapping_mul(6_364_136_223_846_793_005)
+        .wrapping_add(1_442_695_040_888_963_407)
+}
+
+fn drawn(alloc: Global, kind: Kind, number: u64) -> Result<Value, AllocError> {
+    let at = (number / 4_294_967_296 % 11) as usize;
+    match kind {
+        Kind::Int => Ok(Value::Int(INTS[at])),
+        Kind::Text => text(alloc, TEXTS[at]),
+        Kind::Bytes => bytes(alloc, BYTES[at]),
+    }
+}
+
+fn arguments(
+    alloc: Global,
+    config: &Config,
+    query: u16,
+    mut number: u64,
+) -> Result<Vec<Value>, AllocError> {
+    let mut args = Vec::new(alloc);
+    if let Some(query) = query_at(config, query) {
+        for kind in query.statement.parameters.as_slice() {
+            number = next(number);
+            args.push(drawn(alloc, *kind, number)?)?;
+        }
+    }
+    Ok(args)
+}
+
+// Whether both keepers answer so many statements alike, the first of which is drawn by this number.
+fn answer_alike<K: Keeper>(
+    alloc: Global,
+    config: &Config,
+    one: &mut K,
+    other: &mut ListKeeper,
+    mut number: u64,
+    calls: u64,
+) -> Result<bool, AllocError>
+    requires one { K.tables one.old ≡ tables config.now 0 }
+    requires other { ⟦<ListKeeper as Keeper>⟧.tables other.old ≡ tables config.now 0 }
+    requires ruled { AreRuled config.now }
+    ensures one { K.tables one.new ≡ tables config.now 0 }
+    ensures other { ⟦<ListKeeper as Keeper>⟧.tables other.new ≡ tables config.now 0 }
+{
+    for _ in 0..calls {
+        number = next(number);
+        let query = (number / 4_294_967_296 % 24) as u16;
+        let args = arguments(alloc, config, query, number)?;
+        let found = call(alloc, one, config, query, &args);
+        if found != call(alloc, other, config, query, &args) {
+            return Ok(false);
+        }
+    }
+    Ok(true)
+}
+
+// The same over a database.
+fn database_answers_alike<S: Alter + Drop>(
+    alloc: Global,
+    conn: Connection<S>,
+    config: &Config,
+    other: &mut ListKeeper,
+    number: u64,
+    calls: u64,
+) -> Result<bool, Fail>
+    requires other { ⟦<ListKeeper as Keeper>⟧.tables other.old ≡ tables config.now 0 }
+    requires ruled { AreRuled config.now }
+    ensures other { ⟦<ListKeeper as Keeper>⟧.tables other.new ≡ tables config.now 0 }
+{
+    let Ok(mut one) = SqliteKeeper::new(alloc, conn, tables_at(config)) else {
+        return Err(Fail::from("no keeper"));
+    };
+    Ok(answer_alike(alloc, config, &mut one, other, number, calls)?)
+}
+
+// The same of 2,000 statements over a new database in memory.
+fn new_answers_alike(
+    alloc: Global,
+    config: &Config,
+    other: &mut ListKeeper,
+    number: u64,
+) -> Result<bool, Fail>
+    requires other { ⟦<ListKeeper as Keeper>⟧.tables other.old ≡ tables config.now 0 }
+    requires ruled { AreRuled config.now }
+{
+    let conn = Connection::open_in_memory(alloc)?;
+    database_answers_alike(alloc, conn, config, other, number, 2_000)
+}
+
+// Whether a database in memory answers 2,000 statements as lists do, the first of which is drawn by this number.
+fn memory_answers_alike(alloc: Global, number: u64) -> Result<bool, Fail> {
+    let config = config(alloc, SITE)?;
+    let mut other = plain(alloc, &config)?;
+    new_answers_alike(alloc, &config, &mut other, number)
+}
+
+#[test]
+fn a_database_answers_as_lists_do_one(rt: HostRuntime) -> Result<(), Fail> {
+    assert!(rt; memory_answers_alike(rt.alloc(), 1)?);
+    Ok(())
+}
+
+#[test]
+fn a_database_answers_as_lists_do_two(rt: HostRuntime) -> Result<(), Fail> {
+    assert!(rt; memory_answers_alike(rt.alloc(), 2)?);
+    Ok(())
+}
+
+#[test]
+fn a_database_answers_as_lists_do_three(rt: HostRuntime) -> Result<(), Fail> {
+    assert!(rt; memory_answers_alike(rt.alloc(), 3)?);
+    Ok(())
+}
+
+#[test]
+fn a_database_answers_as_lists_do_four(rt: HostRuntime) -> Result<(), Fail> {
+    assert!(rt; memory_answers_alike(rt.alloc(), 4)?);
+    Ok(())
+}
+
+#[test]
+fn a_database_answers_as_lists_do_five(rt: HostRuntime) -> Result<(), Fail> {
+    assert!(rt; memory_answers_alike(rt.alloc(), 5)?);
+    Ok(())
+}
+
+#[test]
+fn a_database_answers_as_lists_do_six(rt: HostRuntime) -> Result<(), Fail> {
+    assert!(rt; memory_answers_alike(rt.alloc(), 6)?);
+    Ok(())
+}
+
+// The same of 60 statements over the rows that a file has, which is closed again.
+fn file_answers_alike(
+    rt: &HostRuntime,
+    config: &Config,
+    path: &str,
+    other: &mut ListKeeper,
+    number: u64,
+) -> Result<bool, Fail>
+    requires other { ⟦<ListKeeper as Keeper>⟧.tables other.old ≡ tables config.now 0 }
+    requires ruled { AreRuled config.now }
+    ensures other { ⟦<ListKeeper as Keeper>⟧.tables other.new ≡ tables config.now 0 }
+{
+    let conn = Connection::open(rt, path)?;
+    database_answers_alike(rt.alloc(), conn, config, other, number, 60)
+}
+
+fn clear(rt: &HostRuntime, path: &str) -> Result<(), Fail> {
+    let log = format!(in rt.alloc(); "{path}-wal")?;
+    let _ = fs::remove_file(rt, path);
+    let _ = fs::remove_file(rt, log.as_str());
+    Ok(())
+}
+
+// Whether a file that is opened twice, for 60 statements each, answers as lists do.
+fn path_answers_alike(rt: &HostRuntime, path: &str, first: u64) -> Result<bool, Fail> {
+    let config = config(rt.alloc(), SITE)?;
+    let mut other = plain(rt.alloc(), &config)?;
+    for turn in 0..2 {
+        if !file_answers_alike(rt, &config, path, &mut other, first.wrapping_add(turn))? {
+            return Ok(false);
+        }
+    }
+    Ok(true)
+}
+
+// The same of a new file, which is removed when they were asked.
+fn opened_again_answers_alike(rt: &HostRuntime, first: u64) -> Result<bool, Fail> {
+    let id = process::id(rt.process());
+    let path = format!(in rt.alloc(); "/tmp/okws-drawn-{id}-{first}")?;
+    clear(rt, &path)?;
+    let alike = path_answers_alike(rt, &path, first)?;
+    clear(rt, &path)?;
+    Ok(alike)
+}
+
+#[test]
+fn a_file_that_is_opened_again_answers_as_lists_do_one(rt: HostRuntime) -> Result<(), Fail> {
+    assert!(rt; opened_again_answers_alike(&rt, 10)?);
+    Ok(())
+}
+
+#[test]
+fn a_file_that_is_opened_again_answers_as_lists_do_two(rt: HostRuntime) -> Result<(), Fail> {
+    assert!(rt; opened_again_answers_alike(&rt, 20)?);
+    Ok(())
+}
+
+#[test]
+fn a_file_that_is_opened_again_answers_as_lists_do_three(rt: HostRuntime) -> Result<(), Fail> {
+    assert!(rt; opened_again_answers_alike(&rt, 30)?);
+    Ok(())
+}
+
+#[test]
+fn a_file_that_is_opened_again_answers_as_lists_do_four(rt: HostRuntime) -> Result<(), Fail> {
+    assert!(rt; opened_again_answers_alike(&rt, 40)?);
+    Ok(())
+}

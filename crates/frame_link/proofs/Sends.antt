@@ -19,6 +19,8 @@ pub gives_then : (start mid new : Wire) (n m k : ℕ) (done : Type 0) → k ≡ 
 gives_then start mid new n m k done e a b = record {
   faults = record { later = omega (arith, a.faults.later, b.faults.later); cause = λ fault. rose_later start.faults mid.faults new.faults a.faults.later (b.faults.cause fault) };
   sure = λ steady room. b.sure (a.steady ∙ steady) (omega (arith, e, room, a.room));
+  whose = b.whose ∙ a.whose;
+  came = b.came ∙ a.came;
   left = b.left ∙ a.left;
   untold = λ none. b.untold (a.untold none);
   steady = b.steady ∙ a.steady;
@@ -27,7 +29,7 @@ gives_then start mid new n m k done e a b = record {
 }
 
 pub done_so_far : (start mid : Wire) (n : ℕ) (done : Type 0) → Gives start mid n done → Gives start mid n (Unit {0})
-done_so_far start mid n done a = record { faults = record { later = a.faults.later; cause = λ fault. absurd (fault tt) }; sure = λ steady room. tt; left = a.left; untold = a.untold; steady = a.steady; ended = a.ended; room = a.room }
+done_so_far start mid n done a = record { faults = record { later = a.faults.later; cause = λ fault. absurd (fault tt) }; sure = λ steady room. tt; whose = a.whose; came = a.came; left = a.left; untold = a.untold; steady = a.steady; ended = a.ended; room = a.room }
 
 pub sends_then : (start mid new : Wire) (text bytes : List ℕ) (result : Result (Unit {0}) LinkFault) → Sends start text (Ok tt) mid → Sends mid bytes result new → Sends start (text ++ bytes) result new
 sends_then start mid new text bytes result a b = record {
@@ -43,7 +45,7 @@ sends_then start mid new text bytes result a b = record {
 pub sends_nothing : (wire : Wire) → Sends wire [] (Ok tt) wire
 sends_nothing wire = record {
   puts = Appends-nil wire.given;
-  link = record { faults = record { later = omega arith; cause = λ fault. absurd (fault refl) }; sure = λ steady room. refl; left = refl; untold = λ none. none; steady = refl; ended = refl; room = omega arith };
+  link = record { faults = record { later = omega arith; cause = λ fault. absurd (fault refl) }; sure = λ steady room. refl; whose = refl; came = refl; left = refl; untold = λ none. none; steady = refl; ended = refl; room = omega arith };
 }
 
 -- ---- what is gathered
@@ -55,6 +57,8 @@ sends_more start new text bytes fault a = record {
   link = record {
     faults = record { later = a.link.faults.later; cause = λ none. a.link.faults.cause (λ is. cc) };
     sure = λ steady room. let done = a.link.sure steady (omega (arith, room, length-append text bytes)) in cc;
+    whose = a.link.whose;
+    came = a.link.came;
     left = a.link.left;
     untold = a.link.untold;
     steady = a.link.steady;

@@ -1,7 +1,8 @@
 -- The children of a run as contracts see them.
-use Rattle.std.specs.Prelude.{◌≡◌, ℕ, List, [], ◌∷◌, false, IfSome}
+use Rattle.std.specs.Prelude.{◌≡◌, ℕ, List, [], ◌∷◌, Some, IfSome}
 use Rattle.okws_outer.specs.declared.children.ChildStart.{ChildStart}
 use Rattle.okws_outer.specs.declared.children.ChildEnd.{ChildEnd}
+use Rattle.okws_outer.specs.declared.children.ChildName.{ChildName}
 use Rattle.okws_outer.specs.Lives.{Life, new_life}
 use Rattle.okws_outer.specs.Wire.{Wire}
 
@@ -15,8 +16,14 @@ pub record Family : Type 0 where
 abbrev pub IsNewChild : ℕ → ℕ → Life → Type 0
 IsNewChild service incarnation life = life ≡ new_life service incarnation
 
--- Over this link nothing went, and no call of it failed.
-pub record IsNewLink (wire : Wire) : Type 0 where
+-- The child that is this incarnation of this service.
+abbrev pub child_named : ℕ → ℕ → ChildName
+child_named service incarnation = record { service = service; incarnation = incarnation }
+
+-- This link leads to the child of this service and incarnation, nothing came or went over it, and no call of it failed.
+pub record IsNewLink (service incarnation : ℕ) (wire : Wire) : Type 0 where
+  pub whose : wire.whose ≡ Some (child_named service incarnation)
+  pub came : wire.came ≡ wire.left
   pub given : IfSome wire.given (λ given. given ≡ [])
   pub faults : wire.faults ≡ 0
 
@@ -33,6 +40,8 @@ with_end life wire family = record family {
     service = life.service;
     incarnation = life.incarnation;
     ended = life.ended;
+    whose = wire.whose;
+    came = wire.came;
     left = wire.left;
     given = wire.given;
     faults = wire.faults;

@@ -10,6 +10,15 @@ use crate::stream::Link;
 use okws_base::items::Items;
 use std::alloc::Global;
 
+/// A child, by its service and its incarnation.
+#[derive(Clone, Copy, Debug, PartialEq, Eq)]
+pub struct ChildName {
+    /// The service, by its number.
+    pub service: u16,
+    /// The incarnation, from 1.
+    pub incarnation: u32,
+}
+
 /// A child that was started, and its link.
 #[derive(Drop)]
 pub struct Started<C, L> {
@@ -41,11 +50,15 @@ pub struct ChildEnd {
     pub incarnation: u32,
     /// Whether Yes was among its answers.
     pub ended: bool,
-    /// The bytes that it said and that were not taken, where its link told them.
+    /// The child that the link led to with which it was finished.
+    pub whose: Option<ChildName>,
+    /// All bytes that came on that link or were to, where it told them.
+    pub came: Option<Items<u8>>,
+    /// Those of them that were not taken.
     pub left: Option<Items<u8>>,
-    /// The bytes that were given to it, where its link told them.
+    /// The bytes that were given to go out on it, where it told them.
     pub given: Option<Items<u8>>,
-    /// How many calls of its link failed.
+    /// How many calls of it failed.
     pub faults: u64,
 }
 
@@ -61,8 +74,8 @@ pub trait Children {
     /// once it is there.
     ghost family: { Self → Family };
 
-    /// Starts a program, whose name and words these are, as an incarnation of a service. Over its link
-    /// nothing came or went yet.
+    /// Starts a program, whose name and words these are, as an incarnation of a service. Its link leads to
+    /// it, and over that nothing came or went yet.
     fn start(
         &mut self,
         alloc: Global,
@@ -71,7 +84,7 @@ pub trait Children {
         words: &[Items<u8>],
     ) -> Result<Started<Self::Child, Self::Link>, MakeError>
         ensures child { IfOk result (λ s. IsNewChild service incarnation (Self.Child.life s.child)) }
-        ensures link { IfOk result (λ s. IsNewLink (Self.Link.wire s.link)) }
+        ensures link { IfOk result (λ s. IsNewLink service incarnation (Self.Link.wire s.link)) }
         ensures started { IfOk result (λ s. family self.new ≡ with_start service incarnation words.now (Self.Link.wire s.link) (family self.old)) }
         ensures refused { OnErr result (family self.new ≡ record (family self.old) { faults = (family self.new).faults }) }
         ensures faults { CountsMade (family self.old).faults (family self.new).faults result };

@@ -10,3 +10,4 @@ pub mod passing;
 mod room;
 pub mod sink;
 pub mod source;
+mod told;

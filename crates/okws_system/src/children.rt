@@ -10,17 +10,48 @@ use awaited_pipe::Awaited;
 use okws_base::items::Items;
 use okws_base::told::{Says, Told};
 use okws_outer::child::{Child, Ended};
-use okws_outer::children::{ChildEnd, ChildStart, Children, Started};
+use okws_outer::children::{ChildEnd, ChildName, ChildStart, Children, Started};
 use okws_outer::error::MakeError;
-use okws_outer::stream::Link;
-use std::alloc::Global;
+use okws_outer::stream::{Link, Pull, Put};
+use std::alloc::{AllocError, Global};
 use std::fs::Files;
 use std::io::{ErrorKind, PipeWriter};
 use std::process::{ChildStdout, Command, Processes, Stdio, SystemProcess};
 use std::{io, process, str};
 
 /// The link of a child: its standard output, and the pipe that is its standard input.
-pub type ChildLink = PipeLink<Awaited<ChildStdout>, PipeWriter>;
+#[derive(Drop)]
+pub struct ChildLink {
+    whose: ChildName,
+    pipes: PipeLink<Awaited<ChildStdout>, PipeWriter>,
+}
+
+impl ChildLink {
+    /// How many calls have failed.
+    pub fn faults(&self) -> u64
+        ensures { result ≡ (⟦<ChildLink as Link>⟧.wire self.now).faults }
+    {
+        self.pipes.faults()
+    }
+}
+
+impl Link for ChildLink {
+    ghost use Rattle.std.specs.Prelude.{Some};
+
+    ghost wire = { λ s. record (⟦<PipeLink<Awaited<ChildStdout>, PipeWriter> as Link>⟧.wire s.pipes) { whose = Some s.whose } };
+
+    fn pull(&mut self, into: &mut [u8]) -> Pull {
+        self.pipes.pull(into)
+    }
+
+    fn put(&mut self, bytes: &[u8]) -> Put {
+        self.pipes.put(bytes)
+    }
+
+    fn make_room(&mut self, n: usize) -> Result<(), AllocError> {
+        self.pipes.make_room(n)
+    }
+}
 
 /// A child of the system.
 #[derive(Drop)]
@@ -162,13 +193,17 @@ fn spawn<R: Processes<Started = SystemProcess> + Files>(
 /// The link of a process that was spawned so.
 fn link_of(
     alloc: Global,
+    whose: ChildName,
     child: &mut process::Child<SystemProcess>,
     writer: PipeWriter,
 ) -> io::Result<ChildLink>
-    ensures { IfOk result (λ l. IsNewLink (⟦<ChildLink as Link>⟧.wire l) × ((⟦<ChildLink as Link>⟧.wire l).left ≡ None)) }
+    ensures { IfOk result (λ l. IsNewLink whose.service whose.incarnation (⟦<ChildLink as Link>⟧.wire l) × ((⟦<ChildLink as Link>⟧.wire l).left ≡ None)) }
 {
     match child.stdout.take() {
-        Some(output) => Ok(PipeLink::new(alloc, Awaited::new(output), writer)?),
+        Some(output) => {
+            let pipes = PipeLink::new(alloc, Awaited::new(output), writer)?;
+            Ok(ChildLink { whose, pipes })
+        }
         None => Err(io::Error::from(ErrorKind::InvalidData)),
     }
 }
@@ -177,13 +212,14 @@ fn link_of(
 fn start<R: Processes<Started = SystemProcess> + Files>(
     rt: &R,
     alloc: Global,
+    whose: ChildName,
     words: &[Items<u8>],
 ) -> io::Result<(process::Child<SystemProcess>, ChildLink)>
-    ensures { IfOk result (λ s. IsNewLink (⟦<ChildLink as Link>⟧.wire s.1) × ((⟦<ChildLink as Link>⟧.wire s.1).left ≡ None)) }
+    ensures { IfOk result (λ s. IsNewLink whose.service whose.incarnation (⟦<ChildLink as Link>⟧.wire s.1) × ((⟦<ChildLink as Link>⟧.wire s.1).left ≡ None)) }
 {
     let command = command_of(alloc, words)?;
     let (mut child, writer) = spawn(rt, command)?;
-    match link_of(alloc, &mut child, writer) {
+    match link_of(alloc, whose, &mut child, writer) {
         Ok(link) => Ok((child, link)),
         Err(error) => {
             let _ = child.kill();
@@ -223,6 +259,8 @@ impl<'c> Says for Finished<'c> {
       service = f.child.now.service;
       incarnation = f.child.now.incarnation;
       ended = f.child.now.ended;
+      whose = (⟦<ChildLink as Link>⟧.wire f.link.now).whose;
+      came = (⟦<ChildLink as Link>⟧.wire f.link.now).came;
       left = (⟦<ChildLink as Link>⟧.wire f.link.now).left;
       given = (⟦<ChildLink as Link>⟧.wire f.link.now).given;
       faults = (⟦<ChildLink as Link>⟧.wire f.link.now).faults;
@@ -243,7 +281,11 @@ impl<'r, R: Processes<Started = SystemProcess> + Files> Children for RealChildre
         incarnation: u32,
         words: &[Items<u8>],
     ) -> Result<Started<RealChild, ChildLink>, MakeError> {
-        match start(self.rt, alloc, words) {
+        let whose = ChildName {
+            service,
+            incarnation,
+        };
+        match start(self.rt, alloc, whose, words) {
             Ok((inner, link)) => {
                 let starting = Starting {
                     service,

@@ -19,7 +19,7 @@ pub struct PipeLink<I, O> {
 impl<I: Read + Drop, O: Write + Drop> PipeLink<I, O> {
     /// A link over these, with no fault counted yet. Fails only where memory is refused.
     pub fn new(alloc: Global, input: I, output: O) -> Result<Self, AllocError>
-        ensures { IfOk result (λ l. ⟦<PipeLink<I, O> as Link>⟧.wire l ≡ record { left = None; given = None; faults = 0; steady = false; ended = false; room = 0 }) }
+        ensures { IfOk result (λ l. ⟦<PipeLink<I, O> as Link>⟧.wire l ≡ record { whose = None; came = None; left = None; given = None; faults = 0; steady = false; ended = false; room = 0 }) }
     {
         Ok(PipeLink {
             input: reading_ahead(alloc, input)?,
@@ -37,7 +37,7 @@ impl<I: Read + Drop, O: Write + Drop> PipeLink<I, O> {
 }
 
 impl<I: Read, O: Write> Link for PipeLink<I, O> {
-    ghost wire = { λ l. record { left = None; given = None; faults = l.faults; steady = false; ended = false; room = 0 } };
+    ghost wire = { λ l. record { whose = None; came = None; left = None; given = None; faults = l.faults; steady = false; ended = false; room = 0 } };
 
     fn pull(&mut self, into: &mut [u8]) -> Pull {
         pull_from(&mut self.input, &mut self.faults, into)

@@ -1,6 +1,6 @@
 //! Stores of rows in files of SQLite, one for each proxy.
 
-ghost use Rattle.std.specs.Prelude.{◌≡◌, [], ◌++◌, IfOk, codes, decimal, string_bytes};
+ghost use Rattle.std.specs.Prelude.{◌≡◌, [], ◌++◌, None, IfOk, codes, decimal, string_bytes};
 ghost use Rattle.sqlite.specs.State.{HasCleanDisk};
 ghost use Rattle.sqlite.specs.Files.{file_state, IsOpened};
 ghost use Rattle.okws_outer.specs.Depots.{IsNewKeeper};
@@ -41,6 +41,7 @@ impl FileKeeper {
     ) -> Result<FileKeeper, (MakeError, Connection<FileStore<File>>)>
         ensures tables { IfOk result (λ k. k.keeper.tables.items ≡ tables.now) }
         ensures faults { IfOk result (λ k. k.keeper.faults ≡ 0) }
+        ensures limit { IfOk result (λ k. k.keeper.conn.step_limit ≡ conn.step_limit) }
         ensures made { IfOk result (λ k. HasCleanDisk (file_state k.keeper.conn) → IsMade over_files tables.now conn k.keeper.conn) }
         ensures unmade { IfErr result (λ e. HasCleanDisk (file_state e.1) → ((e.0 ≡ MakeError.NoMemory) × (e.1 ≡ conn)) ⊎ IsUnmade over_files tables.now conn e.1 e.0) }
         ensures kept { IfErr result (λ e. HasCleanDisk (file_state e.1) → KeepsRows (file_state conn) (file_state e.1)) }
@@ -84,6 +85,7 @@ impl Keeper for FileKeeper {
         ensures sure { false ≡ true → IsErrOf result RunError.Failed → ⊥ }
         ensures steady { false ≡ false }
         ensures handed { HasCleanDisk (file_state self.new.keeper.conn) → RunsAs over_files self.old.keeper.tables.items statement.now args.now self.old.keeper.conn self.new.keeper.conn result }
+        ensures limit { self.new.keeper.conn.step_limit ≡ self.old.keeper.conn.step_limit }
     {
         self.keeper.run(alloc, statement, args)
     }
@@ -104,6 +106,7 @@ impl Keeper for FileKeeper {
         ensures steady { false ≡ false }
         ensures pinned { HasCleanDisk (file_state self.new.keeper.conn) → IfOk result (λ p. RunsAs over_files self.old.keeper.tables.items statement.now args.now self.old.keeper.conn self.new.keeper.conn (Ok (pinned_answer p))) }
         ensures unpinned { HasCleanDisk (file_state self.new.keeper.conn) → IfErr result (λ why. RunsAs over_files self.old.keeper.tables.items statement.now args.now self.old.keeper.conn self.new.keeper.conn (Err why)) }
+        ensures limit { self.new.keeper.conn.step_limit ≡ self.old.keeper.conn.step_limit }
     {
         self.keeper.pin(alloc, statement, args)
     }
@@ -118,7 +121,8 @@ fn file_of(alloc: Global, file: &str, proxy: u16) -> Result<String, AllocError>
 
 /// The database of a file, which is made where it is not there.
 fn open(rt: &HostRuntime, name: &str) -> Result<Connection<FileStore<File>>, MakeError>
-    ensures { IfOk result (λ c. HasCleanDisk (file_state c) → IsOpened c) }
+    ensures opened { IfOk result (λ c. HasCleanDisk (file_state c) → IsOpened c) }
+    ensures unlimited { IfOk result (λ c. c.step_limit ≡ None) }
 {
     match Connection::open(rt, name) {
         Ok(conn) => Ok(conn),
@@ -137,6 +141,7 @@ fn keeper_over(
     ensures tables { IfOk result (λ k. ⟦<FileKeeper as Keeper>⟧.tables k ≡ tables.now) }
     ensures keeper { IfOk result (λ k. IsNewKeeper tables.now (⟦<FileKeeper as Keeper>⟧.told k) (⟦<FileKeeper as Keeper>⟧.faults k)) }
     ensures filed { IfOk result (λ k. IsFiled tables.now k.keeper.conn) }
+    ensures unlimited { IfOk result (λ k. k.keeper.conn.step_limit ≡ None) }
 {
     match FileKeeper::new(alloc, open(rt, name)?, tables) {
         Ok(keeper) => Ok(keeper),
@@ -210,6 +215,7 @@ impl<'r> RealStores<'r> {
         ensures tables { IfOk result (λ k. ⟦<FileKeeper as Keeper>⟧.tables k ≡ tables.now) }
         ensures keeper { IfOk result (λ k. IsNewKeeper tables.now (⟦<FileKeeper as Keeper>⟧.told k) (⟦<FileKeeper as Keeper>⟧.faults k)) }
         ensures filed { IfOk result (λ k. IsFiled tables.now k.keeper.conn) }
+        ensures unlimited { IfOk result (λ k. k.keeper.conn.step_limit ≡ None) }
     {
         let name = file_of(alloc, file, proxy)?;
         keeper_over(self.rt, alloc, &name, tables)
@@ -219,7 +225,7 @@ impl<'r> RealStores<'r> {
 impl<'r> Stores for RealStores<'r> {
     type Keeper = FileKeeper;
 
-    ghost use Rattle.std.specs.Prelude.{◌≡◌, IfOk, OnErr};
+    ghost use Rattle.std.specs.Prelude.{◌≡◌, None, IfOk, OnErr};
     ghost use Rattle.okws_outer.specs.Depots.{IsNewKeeper, with_made};
     ghost use Rattle.okws_outer.specs.Making.{CountsMade};
     ghost use Rattle.okws_system.specs.Filed.{IsFiled};
@@ -239,6 +245,7 @@ impl<'r> Stores for RealStores<'r> {
         ensures refused { OnErr result (⟦<RealStores<'r> as Stores>⟧.depot self.new ≡ record (⟦<RealStores<'r> as Stores>⟧.depot self.old) { faults = (⟦<RealStores<'r> as Stores>⟧.depot self.new).faults }) }
         ensures faults { CountsMade (⟦<RealStores<'r> as Stores>⟧.depot self.old).faults (⟦<RealStores<'r> as Stores>⟧.depot self.new).faults result }
         ensures filed { IfOk result (λ k. IsFiled tables.now k.keeper.conn) }
+        ensures unlimited { IfOk result (λ k. k.keeper.conn.step_limit ≡ None) }
     {
         let made = self.keeper(alloc, file, proxy, tables);
         match &made {

@@ -1,6 +1,6 @@
 //! Children in memory.
 
-ghost use Rattle.std.specs.Prelude.{◌≡◌, ◌==◌, [], IfOk, IfSome, length, reverse};
+ghost use Rattle.std.specs.Prelude.{◌≡◌, ◌==◌, [], IfOk, IfSome, Some, length, reverse};
 ghost use Rattle.okws_outer.specs.Lives.{new_life};
 ghost use Rattle.okws_outer.specs.Wire.{unused, fed, shut};
 
@@ -8,11 +8,11 @@ use crate::noted::Noted;
 use okws_base::items::{Items, copies};
 use okws_base::told::{Parts, Says};
 use okws_outer::child::{Child, Ended};
-use okws_outer::children::{ChildEnd, ChildStart, Children, Started};
+use okws_outer::children::{ChildEnd, ChildName, ChildStart, Children, Started};
 use okws_outer::error::MakeError;
 use okws_outer::memory::failing::Failing;
 use okws_outer::memory::link::{FedLink, MemoryLink};
-use okws_outer::stream::Link;
+use okws_outer::stream::{Link, Pull, Put};
 use std::alloc::{AllocError, Global};
 
 /// What the child of a service's incarnation does.
@@ -107,6 +107,30 @@ impl<'a> Child for MemoryChild<'a> {
     fn stop(&mut self) {}
 }
 
+/// The link of a child in memory, to which all that the child says was fed at its start.
+#[derive(Drop)]
+pub struct ChildLink<'a> {
+    whose: ChildName,
+    says: &'a [u8],
+    link: MemoryLink<'a>,
+}
+
+impl<'a> Link for ChildLink<'a> {
+    ghost wire = { λ s. record (⟦<MemoryLink<'a> as Link>⟧.wire s.link) { whose = Some s.whose; came = Some s.says.now } };
+
+    fn pull(&mut self, into: &mut [u8]) -> Pull {
+        self.link.pull(into)
+    }
+
+    fn put(&mut self, bytes: &[u8]) -> Put {
+        self.link.put(bytes)
+    }
+
+    fn make_room(&mut self, n: usize) -> Result<(), AllocError> {
+        self.link.make_room(n)
+    }
+}
+
 /// Children in memory, which do what is planned.
 #[derive(Drop)]
 pub struct MemoryChildren<'a> {
@@ -180,14 +204,22 @@ fn plan_of<'a>(plans: &'a [ChildPlan<'a>], service: u16, incarnation: u32) -> Ch
     SILENT
 }
 
-/// A link over which these bytes come, and nothing behind them.
-fn link_of<'a>(alloc: Global, plan: &ChildPlan<'a>) -> Result<MemoryLink<'a>, AllocError>
-    ensures { IfOk result (λ l. ⟦<MemoryLink<'a> as Link>⟧.wire l ≡ shut (fed plan.now.says.now (unused (length plan.now.failing.now == 0)))) }
+/// The link of a child, over which the bytes come that it says, and nothing behind them.
+fn link_of<'a>(
+    alloc: Global,
+    whose: ChildName,
+    plan: &ChildPlan<'a>,
+) -> Result<ChildLink<'a>, AllocError>
+    ensures { IfOk result (λ l. ⟦<ChildLink<'a> as Link>⟧.wire l ≡ record (shut (fed plan.now.says.now (unused (length plan.now.failing.now == 0)))) { whose = Some whose }) }
 {
     let mut link = MemoryLink::new(alloc, plan.piece, plan.failing);
     link.feed(plan.says)?;
     link.feed_end();
-    Ok(link)
+    Ok(ChildLink {
+        whose,
+        says: plan.says,
+        link,
+    })
 }
 
 /// A child that was started.
@@ -222,7 +254,7 @@ impl<'c> Parts for Starting<'c> {
 #[derive(Clone, Copy)]
 struct Finished<'c, 'a> {
     child: &'c MemoryChild<'a>,
-    link: &'c MemoryLink<'a>,
+    link: &'c ChildLink<'a>,
 }
 
 impl<'c, 'a> Says for Finished<'c, 'a> {
@@ -232,9 +264,11 @@ impl<'c, 'a> Says for Finished<'c, 'a> {
       service = f.child.now.service;
       incarnation = f.child.now.incarnation;
       ended = f.child.now.ended;
-      left = (⟦<MemoryLink<'a> as Link>⟧.wire f.link.now).left;
-      given = (⟦<MemoryLink<'a> as Link>⟧.wire f.link.now).given;
-      faults = (⟦<MemoryLink<'a> as Link>⟧.wire f.link.now).faults;
+      whose = (⟦<ChildLink<'a> as Link>⟧.wire f.link.now).whose;
+      came = (⟦<ChildLink<'a> as Link>⟧.wire f.link.now).came;
+      left = (⟦<ChildLink<'a> as Link>⟧.wire f.link.now).left;
+      given = (⟦<ChildLink<'a> as Link>⟧.wire f.link.now).given;
+      faults = (⟦<ChildLink<'a> as Link>⟧.wire f.link.now).faults;
     } };
 }
 
@@ -244,9 +278,11 @@ impl<'c, 'a> Parts for Finished<'c, 'a> {
             service: self.child.service,
             incarnation: self.child.incarnation,
             ended: self.child.ended,
-            left: Some(Items::of(copies(alloc, self.link.left())?)),
-            given: Some(Items::of(copies(alloc, self.link.given())?)),
-            faults: self.link.faults(),
+            whose: Some(self.link.whose),
+            came: Some(Items::of(copies(alloc, self.link.says)?)),
+            left: Some(Items::of(copies(alloc, self.link.link.left())?)),
+            given: Some(Items::of(copies(alloc, self.link.link.given())?)),
+            faults: self.link.link.faults(),
         })
     }
 }
@@ -254,7 +290,7 @@ impl<'c, 'a> Parts for Finished<'c, 'a> {
 impl<'a> Children for MemoryChildren<'a> {
     type Child = MemoryChild<'a>;
 
-    type Link = MemoryLink<'a>;
+    type Link = ChildLink<'a>;
 
     ghost family = { λ c. record { started = c.started.told.past; finished = c.finished.told.past; faults = c.failing.faults } };
 
@@ -264,12 +300,16 @@ impl<'a> Children for MemoryChildren<'a> {
         service: u16,
         incarnation: u32,
         words: &[Items<u8>],
-    ) -> Result<Started<MemoryChild<'a>, MemoryLink<'a>>, MakeError> {
+    ) -> Result<Started<MemoryChild<'a>, ChildLink<'a>>, MakeError> {
         if self.failing.fails_or(self.refuses) {
             return Err(MakeError::Failed);
         }
         let plan = plan_of(self.plans, service, incarnation);
-        let link = link_of(alloc, &plan)?;
+        let whose = ChildName {
+            service,
+            incarnation,
+        };
+        let link = link_of(alloc, whose, &plan)?;
         let says = plan.says;
         let starting = Starting {
             service,
@@ -289,7 +329,7 @@ impl<'a> Children for MemoryChildren<'a> {
         _service: u16,
         _incarnation: u32,
         child: MemoryChild<'a>,
-        link: MemoryLink<'a>,
+        link: ChildLink<'a>,
     ) {
         let finished = Finished {
             child: &child,

@@ -11,12 +11,12 @@ use okws_outer::conn::Conn;
 use okws_outer::door::{Door, Served};
 use okws_outer::error::{Fault, MakeError};
 use okws_outer::gate::{Gate, NoGate, Point};
-use okws_outer::memory::link::{FedLink, MemoryLink};
+use okws_outer::memory::link::FedLink;
 use okws_outer::network::Network;
 use okws_outer::sinks::Sinks;
 use okws_outer::stores::Stores;
 use okws_outer::stream::{Link, Pull, Put, Sink};
-use outer_memory::children::{ChildPlan, MemoryChildren};
+use outer_memory::children::{ChildLink, ChildPlan, MemoryChildren};
 use outer_memory::door::{Client, MemoryDoor, MemoryNetwork};
 use outer_memory::sinks::MemorySinks;
 use outer_memory::stores::{Breaking, MemoryStores};
@@ -202,7 +202,7 @@ const PLANS: [ChildPlan<'static>; 1] = [ChildPlan {
 }];
 
 /// The link says `hel`, fails once, and takes four bytes as soon as there is room.
-fn speaks(rt: &impl Abort, link: &mut MemoryLink) -> Result<(), Fail> {
+fn speaks(rt: &impl Abort, link: &mut ChildLink) -> Result<(), Fail> {
     let mut piece = [0u8; 8];
     assert!(rt; link.pull(&mut piece) == Pull::Took(3));
     assert!(rt; link.pull(&mut piece) == Pull::Failed);

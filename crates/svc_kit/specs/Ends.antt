@@ -1,5 +1,5 @@
 -- A source and a sink as one link, and a link that keeps bytes.
-use Rattle.std.specs.Prelude.{ℕ, ◌+◌, ◌<◌, List, ◌++◌, false, option_map}
+use Rattle.std.specs.Prelude.{ℕ, ◌+◌, ◌<◌, List, ◌++◌, None, false, option_map}
 use Rattle.std.specs.Io.KnownBytes.{Keeps, IsAtEnd}
 use Rattle.okws_outer.specs.declared.stream.Pull.{Pull}
 use Rattle.okws_outer.specs.declared.stream.Pull.TheVariants.{Took, End, Failed}
@@ -8,7 +8,7 @@ use Rattle.okws_outer.specs.Wire.{Wire}
 
 -- What is left at a source and was given to a sink, as a link of which nothing more is known; its faults are those of both.
 abbrev pub wire_of : Option (List ℕ) → Option (List ℕ) → ℕ → ℕ → Wire
-wire_of left given came went = record { left = left; given = given; faults = came + went; steady = false; ended = false; room = 0 }
+wire_of left given came went = record { whose = None; came = None; left = left; given = given; faults = came + went; steady = false; ended = false; room = 0 }
 
 -- The link with these bytes before those that are left.
 abbrev pub holding : List ℕ → Wire → Wire

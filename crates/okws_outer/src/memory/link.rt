@@ -1,6 +1,6 @@
 //! Links in memory.
 
-ghost use Rattle.std.specs.Prelude.{◌≡◌, ◌≤◌, ◌-◌, ◌==◌, Some, OnOk, OnErr, length, vec_len, vec_capacity};
+ghost use Rattle.std.specs.Prelude.{◌≡◌, ◌≤◌, ◌-◌, ◌==◌, Some, None, OnOk, OnErr, length, vec_len, vec_capacity};
 ghost use Rattle.okws_outer.specs.Wire.{unused, fed, shut};
 
 use crate::memory::coming::Coming;
@@ -76,7 +76,9 @@ impl<'a> MemoryLink<'a> {
 
 impl<'a> Link for MemoryLink<'a> {
     ghost wire = { λ s. record {
-      left = Some s.coming;
+      whose = None;
+      came = Some s.coming.came;
+      left = Some s.coming.left;
       given = Some s.room.bytes.items;
       faults = s.failing.faults;
       steady = (length s.failing.calls.now == 0);

@@ -5,22 +5,11 @@ ghost use Rattle.okws_outer.specs.Wire.{unused};
 
 use crate::memory::coming::Coming;
 use crate::memory::link::FedLink;
+use crate::memory::told::Piece;
 use crate::stream::{Link, Pull, Put};
 use okws_base::items::Items;
-use okws_base::told::{Says, Told};
+use okws_base::told::Told;
 use std::alloc::{AllocError, Global};
-
-/// Bytes that are put.
-#[derive(Clone, Copy)]
-struct Piece<'a> {
-    bytes: &'a [u8],
-}
-
-impl<'a> Says for Piece<'a> {
-    type Item = Items<u8>;
-
-    ghost item = { λ p. p.bytes.now };
-}
 
 /// Both directions of a link in memory, of which no call fails: bytes are fed to it, and come out of it
 /// in the pieces that are asked for; bytes that are put to it take no memory, and contracts alone see
@@ -49,10 +38,13 @@ impl PassingLink {
 }
 
 impl Link for PassingLink {
+    ghost use Rattle.std.specs.Prelude.{None};
     ghost use Rattle.okws_outer.specs.Wire.{all_put};
 
     ghost wire = { λ s. record {
-      left = Some s.coming;
+      whose = None;
+      came = Some s.coming.came;
+      left = Some s.coming.left;
       given = Some (all_put s.given.past);
       faults = 0;
       steady = true;

@@ -10,9 +10,10 @@ use Rattle.monitor_model.specs.declared.record.End.{End}
 use Rattle.monitor_model.specs.declared.record.End.TheVariants as end
 use Rattle.okws_plan.specs.declared.configuration.Config.{Config}
 use Rattle.okws_outer.specs.Wire.{Wire}
-use Rattle.monitor_model.specs.Cell.{heard, incarnation, last_booted, after_end}
+use Rattle.monitor_model.specs.Cell.{heard, incarnation, last_booted, after_end, said}
 use Rattle.monitor_model.specs.Sent.{IsGiven, broken_in}
 use Rattle.site_cell.specs.Held.{by_event, IsLinkOf}
+use Rattle.site_cell.proofs.Taken.{quiet_taken}
 use Rattle.turn_lock.specs.Seats.{SeatIs}
 
 pub cons_nil : {A : Type 0} (x : A) (xs : List A) → x ∷ xs ≡ [] → ⊥
@@ -70,11 +71,13 @@ retired_last J = dite (ℕ_discrete (incarnation J) 0)
     (λ is. let t = eq-eqb (incarnation J) 0 is in subst (λ (b : Bool). last_booted (if b then J else cell.Retired ∷ J) ≡ last_booted J) (sym t) refl)
     (λ not. let t = ne_eqb (incarnation J) 0 not in subst (λ (b : Bool). last_booted (if b then J else cell.Retired ∷ J) ≡ last_booted J) (sym t) refl)
 
--- the link of a cell that was retired heard no more
+-- nothing more goes over the link of a cell that was retired
 still_link : (C : Config) (seed : List ℕ) (s : ℕ) (b : Bool) (J : List CellEvent) (wire : Wire) → IsLinkOf C seed s J wire → IsLinkOf C seed s (if b then J else cell.Retired ∷ J) wire
 still_link C seed s true J wire h = h
 still_link C seed s false J wire h = record {
+  whose = h.whose;
   given = subst (λ (text : List ℕ). IsGiven text (broken_in (last_booted J) J) wire.given) (sym (append-nil (heard C seed s (last_booted J) J))) h.given;
+  taken = quiet_taken (last_booted J) J (cell.Retired ∷ J) wire.came wire.left (append-nil (said (last_booted J) J)) refl h.taken;
   faults = h.faults;
 }
 

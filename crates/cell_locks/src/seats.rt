@@ -5,7 +5,7 @@ ghost use Rattle.okws_base.specs.Turns.{GrowsBy, Behind};
 ghost use Rattle.okws_base.specs.declared.limit.TheConstants.{LONGEST_FRAME, MOST_INCARNATIONS, MOST_PROXIES};
 ghost use Rattle.monitor_model.specs.Cell.{CellLaw, incarnation, last_booted, boot_frame};
 ghost use Rattle.service_cell.specs.Asking.{KeepsBoard};
-ghost use Rattle.service_cell.specs.Standing.{IsFresh};
+ghost use Rattle.okws_outer.specs.Families.{IsNewLink};
 ghost use Rattle.site_cell.specs.Held.{by_event, has_booted, IsLinkOf};
 ghost use Rattle.cell_locks.specs.Row.{seen_at, link_at, OnlyAt};
 ghost use Rattle.cell_locks.specs.Turns.{GivesLast, HasTalked, HasLaunched, HasRetired};
@@ -157,7 +157,7 @@ impl<N: Numbered, C: CellNames, L: Link> CellSeats<N, C, L> {
         requires later { last_booted (seen_at self.old service) < number }
         requires few { length tokens < 256 }
         requires tokens { ServerFrame.Boot service number tokens ≡ boot_frame N.site N.run_seed service number }
-        requires fresh { IsFresh (L.wire link) }
+        requires link { IsNewLink service number (L.wire link) }
         ensures launched { HasLaunched L.wire N.launcher link (ServerFrame.Boot service number tokens) number service (seen_at self.old service) result (seen_at self.new service) }
         ensures link { link_at self.new service ≡ has_booted result.booting }
         ensures only { OnlyAt service self.old self.new }
@@ -169,8 +169,8 @@ impl<N: Numbered, C: CellNames, L: Link> CellSeats<N, C, L> {
     }
 
     /// Retires the incarnation at the cell of a service, where there is one, in one turn, and takes the link
-    /// out, which is there where the launcher has booted the cell since it took one out last, and was given
-    /// what the last incarnation heard. Tells which incarnation was there, 0 for none. Takes no memory.
+    /// out, which is there where the launcher has booted the cell since it took one out last: it was given
+    /// what the last incarnation heard, and what that said was taken from it. Tells which incarnation was there, 0 for none. Takes no memory.
     pub fn retire<R: Wait>(
         &mut self,
         rt: &R,

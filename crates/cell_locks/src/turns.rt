@@ -6,7 +6,7 @@ ghost use Rattle.okws_base.specs.declared.limit.TheConstants.{LONGEST_FRAME, MOS
 ghost use Rattle.monitor_model.specs.Cell.{CellLaw, incarnation, last_booted, boot_frame};
 ghost use Rattle.service_cell.specs.Asking.{KeepsBoard};
 ghost use Rattle.service_cell.specs.Ending.{IsSpelledReply};
-ghost use Rattle.service_cell.specs.Standing.{IsFresh};
+ghost use Rattle.okws_outer.specs.Families.{IsNewLink};
 ghost use Rattle.site_cell.specs.Held.{by_event, events_in, has_booted, is_booted, IsLinkOf};
 ghost use Rattle.cell_locks.specs.Turns.{reply_frame, HasReplied, RepliedIf, EndsInReply, GivesLast, HasTalked, HasLaunched, HasRetired};
 
@@ -165,7 +165,7 @@ pub(crate) fn boot<R: Wait, N: Numbered, L: Link>(
     requires later { last_booted (events_in seat.old.seen) < number }
     requires few { length tokens < 256 }
     requires tokens { ServerFrame.Boot seat.old.label number tokens ≡ boot_frame N.site N.run_seed seat.old.label number }
-    requires fresh { IsFresh (L.wire link) }
+    requires link { IsNewLink seat.old.label number (L.wire link) }
     ensures launched { HasLaunched L.wire N.launcher link (ServerFrame.Boot seat.old.label number tokens) number seat.old.label (events_in seat.old.seen) result (events_in seat.new.seen) }
     ensures link { is_booted seat.new.seen ≡ has_booted result.booting }
     ensures seat { seat.new ≡ record seat.old { seen = seat.new.seen } }

@@ -2,13 +2,14 @@
 
 ghost use Rattle.std.specs.Prelude.{◌≡◌, ◌≤◌, [], None, length};
 ghost use Rattle.okws_base.specs.declared.limit.TheConstants.{MOST_PROXIES};
-ghost use Rattle.service_cell.specs.Standing.{IsFresh};
+ghost use Rattle.okws_outer.specs.Families.{IsNewLink};
 
 use crate::bare::Bare;
 use crate::dialogs::{REPLY, site};
 use okws_base::items::Items;
-use okws_outer::memory::link::{FedLink, MemoryLink};
+use okws_outer::children::{Children, Started};
 use okws_outer::stream::Link;
+use outer_memory::children::{ChildPlan, MemoryChildren};
 use service_cell::answer::{Booting, Spoken};
 use service_cell::cell::Cell;
 use site_cell::cell::SiteCell;
@@ -35,7 +36,7 @@ fn take_turns<N: Numbered, L: Link + Drop>(
     requires few { length N.site.proxies ≤ MOST_PROXIES }
     requires service { cell.service ≡ 0 }
     requires new { (cell.past ≡ []) × (cell.open_dialog ≡ None) × (cell.link ≡ None) }
-    requires fresh { IsFresh (L.wire link) }
+    requires link { IsNewLink 0 1 (L.wire link) }
 {
     let mut held = SiteCell::<N, L>::new(cell);
     held.hold(LAUNCHER);
@@ -56,12 +57,24 @@ fn take_turns<N: Numbered, L: Link + Drop>(
     Some((answer, before, behind))
 }
 
+/// What the child of the cell's incarnation does.
+const PLANS: [ChildPlan<'static>; 1] = [ChildPlan {
+    service: 0,
+    incarnation: 1,
+    says: REPLY,
+    piece: 3,
+    failing: &[],
+    answers: &[],
+}];
+
 #[test]
 fn a_cell_is_taken_in_turns(rt: HostRuntime) -> Result<(), Fail> {
     let alloc = rt.alloc();
     let mut columns = Bare::new(alloc);
-    let mut link = MemoryLink::new(alloc, 3, &[]);
-    link.feed(REPLY)?;
+    let mut children = MemoryChildren::new(alloc, &PLANS, &[]);
+    let Ok(Started { child: _, link }) = children.start(alloc, 0, 1, &[]) else {
+        panic!(rt; "not as planned");
+    };
     let cell = Cell::new(alloc, site(alloc)?, [0; 32], 0, false);
     let taken = take_turns::<Brand, _>(alloc, cell, link, &mut columns);
     assert!(rt; taken == Some((Spoken::Reply, 1, 0)));

@@ -39,6 +39,7 @@ fn talk<L: Link, C: Columns>(
     requires declared { cell.old.service < length (C.asker columns.old).config.services }
     ensures { (cell.new.open_dialog ≡ None) × (cell.new.service ≡ cell.old.service) }
 {
+    cell.keeps();
     let head = Items::of(Vec::new(alloc));
     let content = Items::of(Vec::new(alloc));
     cell.dialog(head, content, wanted, columns)

@@ -29,7 +29,7 @@ after_low end.LinkFault k n le = omega arith
 after_low end.FrameLimit k n le = omega arith
 after_low end.Starved k n le = omega arith
 
-low : (J : List CellEvent) → incarnation J ≤ last_booted J
+pub low : (J : List CellEvent) → incarnation J ≤ last_booted J
 low [] = omega arith
 low (cell.Boot k ∷ J) = omega arith
 low (cell.Retired ∷ J) = omega arith
@@ -37,7 +37,7 @@ low (cell.Missed worker wanted is ∷ J) = low J
 low (cell.Dialog d ∷ J) = after_low d.end (incarnation J) (last_booted J) (low J)
 low (cell.Speaking worker items ∷ J) = low J
 
-is_last : (J : List CellEvent) → CellLaw J → incarnation J ≢ 0 → incarnation J ≡ last_booted J
+pub is_last : (J : List CellEvent) → CellLaw J → incarnation J ≢ 0 → incarnation J ≡ last_booted J
 is_last [] law there = absurd (there refl)
 is_last (cell.Boot k ∷ J) law there = let above : last_booted J < k = law.2.1 in omega arith
 is_last (cell.Retired ∷ J) law there = absurd (there refl)

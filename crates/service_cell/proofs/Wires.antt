@@ -37,13 +37,15 @@ appends_none : (a b : Option (List ℕ)) → b ≡ a → Appends a b []
 appends_none a b e = subst (λ (o : Option (List ℕ)). Appends a o []) (sym e) (Appends-nil a)
 
 pub stood : (old new : Wire) → GainsRoom old new → Moves old new [] []
-stood old new s = record { takes = consumes_none old.left new.left s.left; puts = appends_none old.given new.given s.given; untold = λ none. s.given ∙ none; faults = omega (arith, s.faults); steady = s.steady; ended = s.ended }
+stood old new s = record { whose = s.whose; came = s.came; takes = consumes_none old.left new.left s.left; puts = appends_none old.given new.given s.given; untold = λ none. s.given ∙ none; faults = omega (arith, s.faults); steady = s.steady; ended = s.ended }
 
 pub unmoved : (w : Wire) → Moves w w [] []
-unmoved w = record { takes = Consumes-nil w.left; puts = Appends-nil w.given; untold = λ none. none; faults = omega arith; steady = refl; ended = refl }
+unmoved w = record { whose = refl; came = refl; takes = Consumes-nil w.left; puts = Appends-nil w.given; untold = λ none. none; faults = omega arith; steady = refl; ended = refl }
 
 pub moves_then : (a b c : Wire) (t u p q : List ℕ) → Moves a b t p → Moves b c u q → Moves a c (t ++ u) (p ++ q)
 moves_then a b c t u p q x y = record {
+  whose = y.whose ∙ x.whose;
+  came = y.came ∙ x.came;
   takes = Consumes-trans a.left b.left c.left t u x.takes y.takes;
   puts = Appends-trans a.given b.given c.given p q x.puts y.puts;
   untold = λ none. y.untold (x.untold none);
@@ -57,6 +59,8 @@ rose_later a b c le rose = omega (arith, rose)
 
 pub breaks_after : (a b c : Wire) (t u p q due : List ℕ) → Moves a b t p → Breaks b c u q due → Breaks a c (t ++ u) (p ++ q) due
 breaks_after a b c t u p q due x y = record {
+  whose = y.whose ∙ x.whose;
+  came = y.came ∙ x.came;
   takes = Consumes-trans a.left b.left c.left t u x.takes y.takes;
   front = y.front;
   rest = y.rest;
@@ -88,9 +92,11 @@ pub puts_frame : (old new : Wire) (text : List ℕ) (result : Result (Unit {0}) 
     → (old.steady ≡ true → length text ≤ old.room)
     → PutsFrame old text result new
 puts_frame old new text (Ok done) bytes link room =
-    record { takes = consumes_none old.left new.left link.left; puts = bytes; untold = link.untold; faults = link.faults.later; steady = link.steady; ended = link.ended }
+    record { whose = link.whose; came = link.came; takes = consumes_none old.left new.left link.left; puts = bytes; untold = link.untold; faults = link.faults.later; steady = link.steady; ended = link.ended }
 puts_frame old new text (Err fault) bytes link room =
     record {
+      whose = link.whose;
+      came = link.came;
       takes = consumes_none old.left new.left link.left;
       front = take bytes.taken text;
       rest = drop bytes.taken text;
@@ -106,6 +112,8 @@ puts_frame old new text (Err fault) bytes link room =
 -- room was made first, and then a fault came before a frame was there
 pub broke_taking : (old mid new : Wire) (taken : List ℕ) (fault : Type 0) → GainsRoom old mid → Consumes mid.left new.left taken → Receives mid new fault → fault → Breaks old new taken [] []
 broke_taking old mid new taken fault made takes link failed = breaks_after old mid new [] taken [] [] [] (stood old mid made) (record {
+  whose = link.whose;
+  came = link.came;
   takes = takes;
   front = [];
   rest = [];
@@ -121,6 +129,8 @@ broke_taking old mid new taken fault made takes link failed = breaks_after old m
 -- room was made first, and then bytes were taken
 pub took : (old mid new : Wire) (taken : List ℕ) (fault : Type 0) → GainsRoom old mid → Consumes mid.left new.left taken → Receives mid new fault → Moves old new taken []
 took old mid new taken fault made takes link = moves_then old mid new [] taken [] [] (stood old mid made) (record {
+  whose = link.whose;
+  came = link.came;
   takes = takes;
   puts = appends_none mid.given new.given link.given;
   untold = λ none. link.given ∙ none;

@@ -65,6 +65,8 @@ with_open (Some o) J = cell.Speaking o.worker o.items ∷ J
 
 -- The same link, from which some bytes were taken and on which some were put; no fault is forgotten.
 pub record Moves (old new : Wire) (taken put : List ℕ) : Type 0 where
+  pub whose : new.whose ≡ old.whose
+  pub came : new.came ≡ old.came
   pub takes : Consumes old.left new.left taken
   pub puts : Appends old.given new.given put
   pub untold : old.given ≡ None → new.given ≡ None
@@ -74,6 +76,8 @@ pub record Moves (old new : Wire) (taken put : List ℕ) : Type 0 where
 
 -- The same link, of which a call failed: it isn't steady, and its count of faults rose. Of what was due after the bytes that were put, a prefix was put.
 pub record Breaks (old new : Wire) (taken put due : List ℕ) : Type 0 where
+  pub whose : new.whose ≡ old.whose
+  pub came : new.came ≡ old.came
   pub takes : Consumes old.left new.left taken
   pub front : List ℕ
   pub rest : List ℕ

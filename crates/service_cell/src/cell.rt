@@ -97,6 +97,13 @@ impl<L: Link> Cell<L> {
         }
     }
 
+    /// What a cell's type tells of it.
+    pub fn keeps(&self)
+        ensures law { CellLaw self.now.past }
+    {
+        let _events = &self.events;
+    }
+
     /// The number of the service.
     pub fn service(&self) -> u16
         ensures { result ≡ self.now.service }

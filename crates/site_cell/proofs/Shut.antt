@@ -1,12 +1,14 @@
 -- What a call leaves of a cell at which no dialog is open.
-use Rattle.std.proofs.Common.{◌≡◌, inl, inr, ℕ, ◌<◌, ◌≤◌, Bool, true, false, List, [], ◌∷◌, Option, Some, None, refl, ap, sym, ◌∙◌, subst, arith}
+use Rattle.std.proofs.Common.{◌≡◌, ◌≢◌, inl, inr, ℕ, ◌<◌, ◌≤◌, Bool, true, false, List, [], ◌∷◌, Option, Some, None, refl, ap, sym, ◌∙◌, subst, arith}
 use Rattle.std.specs.Prelude.{IfSome, if◌then◌else◌, ◌==◌, is_some, max, option_map}
 use Rattle.std.proofs.lemmas.Bool.{false≢true}
 use Rattle.okws_outer.specs.Streams.{Rose}
 use Rattle.okws_base.specs.Turns.{AddsBy}
 use Rattle.okws_plan.specs.declared.configuration.Config.{Config}
+use Rattle.frame_codec.specs.Spelling.{server_spelling}
 use Rattle.frame_codec.specs.declared.frame.ServerFrame.{ServerFrame}
 use Rattle.frame_codec.specs.declared.frame.ServiceFrame.TheVariants as said
+use Rattle.okws_outer.specs.Families.{IsNewLink, child_named}
 use Rattle.okws_outer.specs.Wire.{Wire}
 use Rattle.monitor_model.specs.declared.record.CellEvent.{CellEvent}
 use Rattle.monitor_model.specs.declared.record.CellEvent.TheVariants as cell
@@ -14,20 +16,23 @@ use Rattle.monitor_model.specs.declared.record.End.{End}
 use Rattle.monitor_model.specs.declared.record.End.TheVariants as end
 use Rattle.monitor_model.specs.declared.record.Item.{Item}
 use Rattle.monitor_model.specs.declared.record.Item.TheVariants.{Said}
-use Rattle.monitor_model.specs.Cell.{incarnation, last_booted}
+use Rattle.monitor_model.specs.declared.record.Own.TheVariants as own
+use Rattle.monitor_model.specs.Cell.{CellLaw, incarnation, last_booted}
 use Rattle.monitor_model.specs.Sent.{AreSent, broken_in, is_link_fault, or_else}
 use Rattle.monitor_model.specs.declared.sent.Sent.{Sent}
-use Rattle.monitor_model.specs.Seen.{Seen}
+use Rattle.monitor_model.specs.Seen.{Seen, noted}
 use Rattle.service_cell.specs.Asking.{Asker}
-use Rattle.site_cell.specs.Held.{by_event, events_in, is_booted, newest, with_boot, with_dialog, is_broken, HasCounted, IsLinkOf, IsShut}
-use Rattle.service_cell.specs.Dialogs.{Dialogs, GoesOver}
-use Rattle.service_cell.specs.Standing.{Standing, all_sent, finished, Passes, Fails}
+use Rattle.site_cell.specs.Held.{by_event, events_in, is_booted, newest, with_boot, with_dialog, is_broken, HasCounted, IsLinkOf, IsShut, LeadsTo}
+use Rattle.service_cell.specs.Dialogs.{Dialogs, GoesOver, HasDialog}
+use Rattle.service_cell.specs.Standing.{Standing, all_sent, finished, speaker, Passes, Fails}
 use Rattle.service_cell.specs.Steps.{Boots, crash_end, retired}
 use Rattle.service_cell.specs.declared.answer.Booting.{Booting}
 use Rattle.service_cell.specs.declared.answer.Booting.TheVariants as booting
 use Rattle.service_cell.specs.declared.answer.Spoken.{Spoken}
 use Rattle.service_cell.specs.declared.answer.Spoken.TheVariants as spoken
 use Rattle.service_cell.proofs.Sending.{unbroken}
+use Rattle.site_cell.specs.Taken.{IsTaken}
+use Rattle.site_cell.proofs.Taken.{bad_stop, boot_taken, goes_taken, missed_taken}
 
 -- The same cell, at which number w may have entered something, from E to F; number n launches.
 pub record Keeps (n w : ℕ) (E F : List CellEvent) (c d : Standing) : Type 0 where
@@ -37,7 +42,9 @@ pub record Keeps (n w : ℕ) (E F : List CellEvent) (c d : Standing) : Type 0 wh
   pub open_is : c.open_dialog ≡ None → d.open_dialog ≡ None
   pub past_is : c.past ≡ events_in E → d.past ≡ events_in F
   pub link_is : is_some c.link ≡ is_booted E → is_some d.link ≡ is_booted F
+  pub whose : LeadsTo c.service c.past c.link → LeadsTo d.service d.past d.link
   pub counted : HasCounted c.past c.link → HasCounted d.past d.link
+  pub taken : IsTaken c.past c.link → IsTaken d.past d.link
   pub adds : AddsBy (by_event n) w E F
 
 pub still_shut : (C : Config) (seed : List ℕ) (n w : ℕ) (E F : List CellEvent) (c d : Standing) → IsShut C seed E c → Keeps n w E F c d → IsShut C seed F d
@@ -47,7 +54,9 @@ still_shut C seed n w E F c d shut keeps = record {
   seed_is = keeps.seed_is ∙ shut.seed_is;
   past_is = keeps.past_is shut.past_is;
   link_is = keeps.link_is shut.link_is;
+  whose = keeps.whose shut.whose;
   counted = keeps.counted shut.counted;
+  taken = keeps.taken shut.taken;
 }
 
 -- ---- the link stays where a dialog goes over it
@@ -71,6 +80,32 @@ goes_link old new since left due items end.Ended h = passes_link old new _ _ h.0
 goes_link old new since left due items end.LinkFault h = fails_link old new _ _ due h.1
 goes_link old new since left due items end.FrameLimit h = passes_link old new _ _ h
 goes_link old new since left due items end.Starved h = passes_link old new _ _ h.1
+
+-- ---- it leads to the same child
+
+leads_on : (s : ℕ) (J K : List CellEvent) (link : Option Wire) → last_booted K ≡ last_booted J → LeadsTo s J link → LeadsTo s K link
+leads_on s J K None same leads = tt
+leads_on s J K (Some wire) same leads = leads ∙ ap (λ (k : ℕ). Some (child_named s k)) (sym same)
+
+passes_leads : (s : ℕ) (J K : List CellEvent) (old new : Option Wire) (taken put : List ℕ) → last_booted K ≡ last_booted J → Passes old new taken put → LeadsTo s J old → LeadsTo s K new
+passes_leads s J K None new taken put same h leads = absurd h
+passes_leads s J K (Some wire) None taken put same h leads = absurd h
+passes_leads s J K (Some wire) (Some now) taken put same h leads = h.whose ∙ (leads ∙ ap (λ (k : ℕ). Some (child_named s k)) (sym same))
+
+fails_leads : (s : ℕ) (J K : List CellEvent) (old new : Option Wire) (taken put due : List ℕ) → last_booted K ≡ last_booted J → Fails old new taken put due → LeadsTo s J old → LeadsTo s K new
+fails_leads s J K None new taken put due same h leads = absurd h
+fails_leads s J K (Some wire) None taken put due same h leads = absurd h
+fails_leads s J K (Some wire) (Some now) taken put due same h leads = h.whose ∙ (leads ∙ ap (λ (k : ℕ). Some (child_named s k)) (sym same))
+
+goes_leads : (s : ℕ) (J K : List CellEvent) (old new : Option Wire) (since left due : List ℕ) (items : List Item) (how : End) → last_booted K ≡ last_booted J → GoesOver old new since left due items how → LeadsTo s J old → LeadsTo s K new
+goes_leads s J K old new since left due items end.Reply same h leads = passes_leads s J K old new _ _ same h leads
+goes_leads s J K old new since left due items (end.Superseded shown) same (inl h) leads = subst (LeadsTo s K) (sym h.1) (leads_on s J K old same leads)
+goes_leads s J K old new since left due items (end.Superseded shown) same (inr h) leads = passes_leads s J K old new _ _ same h leads
+goes_leads s J K old new since left due items end.BadFrame same h leads = passes_leads s J K old new _ _ same h.0 leads
+goes_leads s J K old new since left due items end.Ended same h leads = passes_leads s J K old new _ _ same h.0 leads
+goes_leads s J K old new since left due items end.LinkFault same h leads = fails_leads s J K old new _ _ due same h.1 leads
+goes_leads s J K old new since left due items end.FrameLimit same h leads = passes_leads s J K old new _ _ same h leads
+goes_leads s J K old new since left due items end.Starved same h leads = passes_leads s J K old new _ _ same h.1 leads
 
 -- ---- the link counts its fault
 
@@ -128,6 +163,13 @@ boot_counts : (k : ℕ) (J : List CellEvent) (link : Option Wire) → last_boote
 boot_counts k J None later = tt
 boot_counts k J (Some wire) later = λ broken. absurd (false≢true (sym (ap is_some (unbroken (max k (last_booted J)) J (omega (arith, later)))) ∙ broken))
 
+most_of : (k n : ℕ) → n < k → max k n ≡ k
+most_of k n less = omega (arith, less)
+
+boot_leads : (s k : ℕ) (J : List CellEvent) (old : Wire) (new : Option Wire) (put : List ℕ) → last_booted J < k → old.whose ≡ Some (child_named s k) → Passes (Some old) new [] put → LeadsTo s (cell.Boot k ∷ J) new
+boot_leads s k J old None put later is h = absurd h
+boot_leads s k J old (Some new) put later is h = h.whose ∙ (is ∙ ap (λ (n : ℕ). Some (child_named s n)) (sym (most_of k (last_booted J) later)))
+
 pub some_link : {L : Type 0} (f : L → Wire) (link : Option L) → is_some link ≡ is_some (option_map f link)
 some_link f None = refl
 some_link f (Some x) = refl
@@ -142,13 +184,17 @@ keeps_same n w E c d is = record {
   open_is = λ none. ap (λ (s : Standing). s.open_dialog) is ∙ none;
   past_is = λ past. ap (λ (s : Standing). s.past) is ∙ past;
   link_is = λ link. ap (λ (s : Standing). is_some s.link) is ∙ link;
+  whose = λ leads. subst (λ (x : Standing). LeadsTo x.service x.past x.link) (sym is) leads;
   counted = λ counted. subst (λ (s : Standing). HasCounted s.past s.link) (sym is) counted;
+  taken = λ taken. subst (λ (s : Standing). IsTaken s.past s.link) (sym is) taken;
   adds = ([], tt, refl);
 }
 
 keeps_finished : (n w : ℕ) (E : List CellEvent) (c d : Standing) (items : List Item) (how : End) (link : Option Wire) → is_some link ≡ is_some c.link
-    → (HasCounted c.past c.link → HasCounted (cell.Dialog (record { worker = w; items = items; end = how }) ∷ c.past) link) → d ≡ finished c w items how link → Keeps n w E (newest d.past ∷ E) c d
-keeps_finished n w E c d items how link same counts is = record {
+    → (LeadsTo c.service c.past c.link → LeadsTo c.service (cell.Dialog (record { worker = w; items = items; end = how }) ∷ c.past) link)
+    → (HasCounted c.past c.link → HasCounted (cell.Dialog (record { worker = w; items = items; end = how }) ∷ c.past) link)
+    → (IsTaken c.past c.link → IsTaken (cell.Dialog (record { worker = w; items = items; end = how }) ∷ c.past) link) → d ≡ finished c w items how link → Keeps n w E (newest d.past ∷ E) c d
+keeps_finished n w E c d items how link same led counts takes is = record {
   config_is = ap (λ (s : Standing). s.config) is;
   seed_is = ap (λ (s : Standing). s.seed) is;
   service_is = ap (λ (s : Standing). s.service) is;
@@ -156,7 +202,9 @@ keeps_finished n w E c d items how link same counts is = record {
   past_is = λ past. ap (λ (s : Standing). s.past) is
       ∙ (ap (λ J. cell.Dialog (record { worker = w; items = items; end = how }) ∷ J) past ∙ sym (ap (λ (s : Standing). events_in (newest s.past ∷ E)) is));
   link_is = λ linked. ap (λ (s : Standing). is_some s.link) is ∙ (same ∙ (linked ∙ sym (ap (λ (s : Standing). is_booted (newest s.past ∷ E)) is)));
+  whose = λ leads. subst (λ (x : Standing). LeadsTo x.service x.past x.link) (sym is) (led leads);
   counted = λ counted. subst (λ (s : Standing). HasCounted s.past s.link) (sym is) (counts counted);
+  taken = λ taken. subst (λ (s : Standing). IsTaken s.past s.link) (sym is) (takes taken);
   adds = (newest d.past ∷ [], (ap (λ (s : Standing). by_event n (newest s.past)) is, tt), refl);
 }
 
@@ -168,39 +216,51 @@ keeps_missed n w wanted there E c d is = record {
   open_is = λ none. ap (λ (s : Standing). s.open_dialog) is ∙ none;
   past_is = λ past. ap (λ (s : Standing). s.past) is ∙ (ap (λ J. cell.Missed w wanted there ∷ J) past ∙ sym (ap (λ (s : Standing). events_in (newest s.past ∷ E)) is));
   link_is = λ linked. ap (λ (s : Standing). is_some s.link) is ∙ (linked ∙ sym (ap (λ (s : Standing). is_booted (newest s.past ∷ E)) is));
+  whose = λ leads. subst (λ (x : Standing). LeadsTo x.service x.past x.link) (sym is) (leads_on c.service c.past (cell.Missed w wanted there ∷ c.past) c.link refl leads);
   counted = λ counted. subst (λ (s : Standing). HasCounted s.past s.link) (sym is) (counted_as c.past (cell.Missed w wanted there ∷ c.past) c.link refl counted);
+  taken = λ taken. subst (λ (s : Standing). IsTaken s.past s.link) (sym is) (missed_taken c.past w wanted there c.link taken);
   adds = (newest d.past ∷ [], (ap (λ (s : Standing). by_event n (newest s.past)) is, tt), refl);
 }
 
+wanted_there : (wanted k : ℕ) → 0 < wanted → wanted ≡ k → k ≢ 0
+wanted_there wanted k some is = omega (arith, some, is)
+
 pub keeps_dialog : (n : ℕ) (who : Asker) (shows : ℕ → Type 0) (head content : List ℕ) (wanted : ℕ) (E : List CellEvent) (c : Standing) (J : Seen) (answer : Spoken) (d : Standing) (now : Seen)
-    → Dialogs who shows head content wanted c J answer d now → Keeps n who.worker E (with_dialog answer (newest d.past) E) c d
-keeps_dialog n who shows head content wanted E c J spoken.Reply d now h =
-    let x = h.1.6 in
-    let items = Said (said.Reply h.1.1 h.1.2 h.1.3 h.1.4) ∷ h.1.5 in
-    keeps_finished n who.worker E c d items end.Reply d.link (goes_link c.link d.link x.since x.left x.due items end.Reply x.link) (goes_counts c.past who.worker c.link d.link x.since x.left x.due items end.Reply x.link) x.entered
-keeps_dialog n who shows head content wanted E c J (spoken.Crashed why) d now h =
-    let x = h.1.2 in
-    keeps_finished n who.worker E c d h.1.1 (crash_end why) d.link (goes_link c.link d.link x.since x.left x.due h.1.1 (crash_end why) x.link) (goes_counts c.past who.worker c.link d.link x.since x.left x.due h.1.1 (crash_end why) x.link) x.entered
-keeps_dialog n who shows head content wanted E c J (spoken.Superseded k shown) d now h =
-    let x = h.1.4 in
-    keeps_finished n who.worker E c d h.1.3 (end.Superseded shown) d.link (goes_link c.link d.link x.since x.left x.due h.1.3 (end.Superseded shown) x.link) (goes_counts c.past who.worker c.link d.link x.since x.left x.due h.1.3 (end.Superseded shown) x.link) x.entered
-keeps_dialog n who shows head content wanted E c J (spoken.Missed asked there) d now h = keeps_missed n who.worker wanted there E c d h.3
-keeps_dialog n who shows head content wanted E c J spoken.NoMemory d now h = keeps_same n who.worker E c d h.0
+    → CellLaw c.past → 0 < wanted → Dialogs who shows head content wanted c J answer d now → Keeps n who.worker E (with_dialog answer (newest d.past) E) c d
+keeps_dialog n who shows head content wanted E c J answer d now law some h = by answer h
+  where
+    -- a whole dialog
+    talked : (items : List Item) (how : End) → wanted ≡ incarnation c.past → HasDialog who head content c J items how d now → Keeps n who.worker E (newest d.past ∷ E) c d
+    talked items how is x =
+        keeps_finished n who.worker E c d items how d.link (goes_link c.link d.link x.since x.left x.due items how x.link)
+        (goes_leads c.service c.past (cell.Dialog (record { worker = who.worker; items = items; end = how }) ∷ c.past) c.link d.link x.since x.left x.due items how refl x.link)
+        (goes_counts c.past who.worker c.link d.link x.since x.left x.due items how x.link)
+        (goes_taken c.past who.worker items law (wanted_there wanted (incarnation c.past) some is) how c.link d.link x.since x.left x.due x.link
+        (bad_stop who.config (speaker c who.worker) x.since x.left x.due head content (noted J (own.Dialog c.service)) now items how x.follows)) x.entered
+
+    by : (answer : Spoken) → Dialogs who shows head content wanted c J answer d now → Keeps n who.worker E (with_dialog answer (newest d.past) E) c d
+    by spoken.Reply h = talked (Said (said.Reply h.1.1 h.1.2 h.1.3 h.1.4) ∷ h.1.5) end.Reply h.0 h.1.6
+    by (spoken.Crashed why) h = talked h.1.1 (crash_end why) h.0 h.1.2
+    by (spoken.Superseded k shown) h = talked h.1.3 (end.Superseded shown) h.0 h.1.4
+    by (spoken.Missed asked there) h = keeps_missed n who.worker wanted there E c d h.3
+    by spoken.NoMemory h = keeps_same n who.worker E c d h.0
 
 pub keeps_boot : {L : Type 0} (n : ℕ) (wire : L → Wire) (link : L) (frame : ServerFrame) (k : ℕ) (E : List CellEvent) (c : Standing) (answer : Booting L) (d : Standing)
-    → last_booted c.past < k → Boots wire link frame k c answer d → Keeps n n E (with_boot answer k E) c d
-keeps_boot n wire link frame k E c booting.Booted d later h = record {
+    → last_booted c.past < k → IsNewLink c.service k (wire link) → Boots wire link frame k c answer d → Keeps n n E (with_boot answer k E) c d
+keeps_boot n wire link frame k E c booting.Booted d later new_link h = record {
   config_is = ap (λ (s : Standing). s.config) h.0;
   seed_is = ap (λ (s : Standing). s.seed) h.0;
   service_is = ap (λ (s : Standing). s.service) h.0;
   open_is = λ none. ap (λ (s : Standing). s.open_dialog) h.0 ∙ none;
   past_is = λ past. ap (λ (s : Standing). s.past) h.0 ∙ ap (λ J. cell.Boot k ∷ J) past;
   link_is = λ linked. passes_link (Some (wire link)) d.link _ _ h.1;
+  whose = λ leads. subst (λ (x : ℕ × List CellEvent). LeadsTo x.0 x.1 d.link) (sym (ap (λ (s : Standing). (s.service, s.past)) h.0)) (boot_leads c.service k c.past (wire link) d.link (server_spelling frame) later new_link.whose h.1);
   counted = λ counted. subst (λ (J : List CellEvent). HasCounted J d.link) (sym (ap (λ (s : Standing). s.past) h.0)) (boot_counts k c.past d.link later);
+  taken = λ taken. subst (λ (J : List CellEvent). IsTaken J d.link) (sym (ap (λ (s : Standing). s.past) h.0)) (boot_taken k c.past (wire link) d.link (server_spelling frame) later new_link.came h.1);
   adds = (cell.Boot k ∷ [], (refl, tt), refl);
 }
-keeps_boot n wire link frame k E c (booting.LinkFault back) d later h = keeps_same n n E c d h.0
-keeps_boot n wire link frame k E c (booting.NoMemory back) d later h = keeps_same n n E c d h.0
+keeps_boot n wire link frame k E c (booting.LinkFault back) d later new_link h = keeps_same n n E c d h.0
+keeps_boot n wire link frame k E c (booting.NoMemory back) d later new_link h = keeps_same n n E c d h.0
 
 pub keeps_retired : (n : ℕ) (E : List CellEvent) (c d : Standing) → d ≡ retired c → Keeps n n E (cell.Retired ∷ E) c d
 keeps_retired n E c d is = record {
@@ -210,11 +270,13 @@ keeps_retired n E c d is = record {
   open_is = λ none. ap (λ (s : Standing). s.open_dialog) is ∙ none;
   past_is = λ past. ap (λ (s : Standing). s.past) is ∙ ap (λ (J : List CellEvent). if incarnation J == 0 then J else cell.Retired ∷ J) past;
   link_is = λ linked. ap (λ (s : Standing). is_some s.link) is;
+  whose = λ leads. subst (λ (link : Option Wire). LeadsTo d.service d.past link) (sym (ap (λ (s : Standing). s.link) is)) tt;
   counted = λ counted. subst (λ (link : Option Wire). HasCounted d.past link) (sym (ap (λ (s : Standing). s.link) is)) tt;
+  taken = λ taken. subst (λ (link : Option Wire). IsTaken d.past link) (sym (ap (λ (s : Standing). s.link) is)) tt;
   adds = (cell.Retired ∷ [], (refl, tt), refl);
 }
 
 -- what is known of a link that is taken out
-pub link_out : (C : Config) (seed : List ℕ) (s : ℕ) (J : List CellEvent) (link : Option Wire) (sent : List Sent) → AreSent C seed s J (all_sent (last_booted J) link sent) → HasCounted J link → IfSome link (IsLinkOf C seed s J)
-link_out C seed s J None sent sents counted = tt
-link_out C seed s J (Some wire) sent sents counted = record { given = sents.each.0; faults = counted }
+pub link_out : (C : Config) (seed : List ℕ) (s : ℕ) (J : List CellEvent) (link : Option Wire) (sent : List Sent) → AreSent C seed s J (all_sent (last_booted J) link sent) → LeadsTo s J link → HasCounted J link → IsTaken J link → IfSome link (IsLinkOf C seed s J)
+link_out C seed s J None sent sents leads counted taken = tt
+link_out C seed s J (Some wire) sent sents leads counted taken = record { whose = leads; given = sents.each.0; taken = taken; faults = counted }

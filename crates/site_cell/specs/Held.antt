@@ -1,5 +1,6 @@
 -- A cell behind a lock that is taken in turns.
-use Rattle.std.specs.Prelude.{◌≡◌, ◌<◌, ℕ, Bool, true, false, List, [], ◌∷◌, Option, None, IfSome, IsTrue, ◌==◌, if◌then◌else◌, is_some}
+use Rattle.std.specs.Prelude.{◌≡◌, ◌<◌, ℕ, Bool, true, false, List, [], ◌∷◌, Option, Some, None, IfSome, IsTrue, ◌==◌, if◌then◌else◌, is_some}
+use Rattle.okws_outer.specs.Families.{child_named}
 use Rattle.okws_outer.specs.Wire.{Wire}
 use Rattle.okws_plan.specs.declared.configuration.Config.{Config}
 use Rattle.monitor_model.specs.declared.record.CellEvent.{CellEvent}
@@ -11,6 +12,7 @@ use Rattle.service_cell.specs.declared.answer.Booting.{Booting}
 use Rattle.service_cell.specs.declared.answer.Booting.TheVariants as booting
 use Rattle.service_cell.specs.declared.answer.Spoken.{Spoken}
 use Rattle.service_cell.specs.declared.answer.Spoken.TheVariants as spoken
+use Rattle.site_cell.specs.Taken.{HasTaken, IsTaken}
 
 -- The number that an event of a cell names, where number n launches: a Boot and a Retired name the launcher's.
 abbrev pub by_event : ℕ → CellEvent → ℕ
@@ -77,16 +79,24 @@ is_broken J = is_some (broken_in (last_booted J) J)
 abbrev pub HasCounted : List CellEvent → Option Wire → Type 0
 HasCounted J link = IfSome link (λ wire. IsTrue (is_broken J) → 0 < wire.faults)
 
--- The link of the last incarnation of s that was booted was given what that heard, and counted a fault, where one ended a dialog of it.
+-- The link leads to the child of the last incarnation of s that was booted.
+abbrev pub LeadsTo : ℕ → List CellEvent → Option Wire → Type 0
+LeadsTo s J link = IfSome link (λ wire. wire.whose ≡ Some (child_named s (last_booted J)))
+
+-- The link of the last incarnation of s that was booted leads to its child, was given what that heard, what that said was taken from it, and it counted a fault, where one ended a dialog of it.
 pub record IsLinkOf (C : Config) (seed : List ℕ) (s : ℕ) (J : List CellEvent) (wire : Wire) : Type 0 where
+  pub whose : wire.whose ≡ Some (child_named s (last_booted J))
   pub given : IsGiven (heard C seed s (last_booted J) J) (broken_in (last_booted J) J) wire.given
+  pub taken : HasTaken (last_booted J) J wire.came wire.left
   pub faults : IsTrue (is_broken J) → 0 < wire.faults
 
--- A cell of a site and a run's seed, at which no dialog is open. Its past is what was entered, it has its link where it was booted last, and that has counted its fault.
+-- A cell of a site and a run's seed, at which no dialog is open. Its past is what was entered, it has its link where it was booted last: that leads to the child of the incarnation, what was said was taken from it, and it has counted its fault.
 pub record IsShut (C : Config) (seed : List ℕ) (entered : List CellEvent) (c : Standing) : Type 0 where
   pub closed : c.open_dialog ≡ None
   pub config_is : c.config ≡ C
   pub seed_is : c.seed ≡ seed
   pub past_is : c.past ≡ events_in entered
   pub link_is : is_some c.link ≡ is_booted entered
+  pub whose : LeadsTo c.service c.past c.link
   pub counted : HasCounted c.past c.link
+  pub taken : IsTaken c.past c.link

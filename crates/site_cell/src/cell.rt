@@ -10,7 +10,8 @@ ghost use Rattle.service_cell.specs.Asking.{KeepsBoard};
 ghost use Rattle.site_cell.specs.Held.{by_event, events_in, is_booted, IsLinkOf, newest, with_boot, with_dialog};
 ghost use Rattle.service_cell.specs.Dialogs.{Dialogs};
 ghost use Rattle.service_cell.specs.Ending.{EndsOtherwise, IsLast};
-ghost use Rattle.service_cell.specs.Standing.{IsFresh, all_sent};
+ghost use Rattle.service_cell.specs.Standing.{all_sent};
+ghost use Rattle.okws_outer.specs.Families.{IsNewLink};
 ghost use Rattle.service_cell.specs.Steps.{Boots, retired};
 
 use crate::entered::Entered;
@@ -119,13 +120,14 @@ impl<N: Numbered, L: Link> SiteCell<N, L> {
         ensures past { self.new.standing.past ≡ events_in self.new.entered }
         ensures board { KeepsBoard C.asker C.shows C.token_seed C.spare columns.old columns.new }
     {
+        self.cell.keeps();
         let spoken = self.cell.dialog(head, content, wanted, columns);
         self.entered.enter_dialog(spoken, &self.cell);
         spoken
     }
 
-    /// Gives the cell, which has no incarnation, a fresh link and one, whose Boot frame is put first.
-    /// One that isn't Booted hands the link back. The launcher has taken the link of the incarnation before
+    /// Gives the cell, which has no incarnation, the fresh link of a child and its incarnation, whose Boot
+    /// frame is put first. One that isn't Booted hands the link back. The launcher has taken the link of the incarnation before
     /// by `retire`.
     pub fn boot(&mut self, link: L, number: u32, tokens: Items<Issued>) -> Booting<L>
         requires holder { self.old.holder ≡ N.launcher }
@@ -134,7 +136,7 @@ impl<N: Numbered, L: Link> SiteCell<N, L> {
         requires later { last_booted self.old.standing.past < number }
         requires few { length tokens < 256 }
         requires tokens { ServerFrame.Boot self.old.standing.service number tokens ≡ boot_frame N.site N.run_seed self.old.standing.service number }
-        requires fresh { IsFresh (L.wire link) }
+        requires link { IsNewLink self.old.standing.service number (L.wire link) }
         ensures boots { Boots L.wire link (ServerFrame.Boot self.old.standing.service number tokens) number self.old.standing result self.new.standing }
         ensures holder { self.new.holder ≡ self.old.holder }
         ensures service { self.new.standing.service ≡ self.old.standing.service }

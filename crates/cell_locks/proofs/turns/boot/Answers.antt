@@ -1,5 +1,6 @@
 use Rattle.std.proofs.Common.{◌≡◌, ℕ, ◌<◌, sym, ap, ◌∙◌, subst}
 use Rattle.okws_base.specs.Turns.{GrowsBy, AddsBy}
+use Rattle.okws_outer.specs.Families.{IsNewLink}
 use Rattle.frame_codec.specs.declared.frame.ServerFrame.TheVariants as frame
 use Rattle.monitor_model.specs.declared.record.CellEvent.{CellEvent}
 use Rattle.monitor_model.specs.Cell.{last_booted}
@@ -20,6 +21,12 @@ boot-booting-requires-clause-later g c =
     let grows = found_on n n seen c.take-cell.result.entered before.past c.keeps.ensures raw in
     let last = ap (λ (h : Held). last_booted h.standing.past) c.retire-left.ensures.cell ∙ (retired_last before.past ∙ last_grown n (events_in seen) before.past grows) in
     subst (λ (k : ℕ). k < c.args.number) (sym last) c.requires.later
+
+pub boot-booting-requires-clause-link : goal.boot-booting-requires-clause-link
+boot-booting-requires-clause-link g c =
+    let mid : c.retire-left.new.self.standing ≡ retired c.take-cell.result.standing = ap (λ (h : Held). h.standing) c.retire-left.ensures.cell in
+    let service = ap (λ (s : Standing). s.service) mid ∙ c.take-cell.ensures.label in
+    subst (λ (n : ℕ). IsNewLink n c.args.number (g.L.Link.wire c.args.link)) (sym service) c.requires.link
 
 pub give-requires-clause-adds : goal.give-requires-clause-adds
 give-requires-clause-adds g c =

@@ -1,5 +1,6 @@
 use Rattle.std.proofs.Common.{rules, ◌≡◌, ℕ, ◌<◌, List, length, sym, ◌∙◌, subst}
 use Rattle.std.specs.Prelude.{vec_len}
+use Rattle.okws_outer.specs.Families.{IsNewLink}
 use Rattle.monitor_model.specs.declared.record.CellEvent.{CellEvent}
 use Rattle.frame_codec.specs.declared.frame.ServerFrame.TheVariants as frame
 use Rattle.monitor_model.specs.Cell.{boot_frame}
@@ -57,6 +58,16 @@ boot-requires-clause-tokens g c =
     let seats = c.self.inside.seats.items in
     let s = c.args.service in
     subst (λ (x : ℕ). frame.Boot x c.args.number c.args.tokens ≡ boot_frame g.N.Numbered.site g.N.Numbered.run_seed x c.args.number) (sym (label_here names ts gates n seats c.args.self.now c.locks.invariant c.self.invariant c.self.view_is s c.requires.service c.index-lock.result.now c.index_mut-seat.result.now c.index-lock.ensures c.index_mut-seat.ensures.value)) c.requires.tokens
+
+pub boot-requires-clause-link : goal.boot-requires-clause-link
+boot-requires-clause-link g c =
+    let names = g.C.CellNames.cell_turns in
+    let ts = c.locks.inside.turns.items in
+    let gates = vec_len c.locks.inside.gates in
+    let n = c.self.inside.number in
+    let seats = c.self.inside.seats.items in
+    let s = c.args.service in
+    subst (λ (x : ℕ). IsNewLink x c.args.number (g.L.Link.wire c.args.link)) (sym (label_here names ts gates n seats c.args.self.now c.locks.invariant c.self.invariant c.self.view_is s c.requires.service c.index-lock.result.now c.index_mut-seat.result.now c.index-lock.ensures c.index_mut-seat.ensures.value)) c.requires.link
 
 pub invariant_of-self : goal.invariant_of-self
 invariant_of-self g c =

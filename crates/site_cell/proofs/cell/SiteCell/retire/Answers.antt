@@ -31,4 +31,4 @@ returns-clause-holds g c =
     let x = c.self.inside.cell in
     let sent = subst (λ (D : Config). AreSent D seed x.service x.past (all_sent (last_booted x.past) x.link x.sent)) c.self.invariant.config_is
     (subst (λ (t : List ℕ). AreSent x.config t x.service x.past (all_sent (last_booted x.past) x.link x.sent)) c.self.invariant.seed_is c.retire.ensures.sent) in
-    subst (λ (h : Held). IfSome h.standing.link (IsLinkOf C seed h.standing.service h.standing.past)) c.self.view_is (link_out C seed x.service x.past x.link x.sent sent c.self.invariant.counted)
+    subst (λ (h : Held). IfSome h.standing.link (IsLinkOf C seed h.standing.service h.standing.past)) c.self.view_is (link_out C seed x.service x.past x.link x.sent sent c.self.invariant.whose c.self.invariant.counted c.self.invariant.taken)

@@ -62,7 +62,7 @@ more_finished ends f g is = record {
 -- ---- children are finished
 
 abbrev pub end_of : Life → Wire → ChildEnd
-end_of life wire = record { service = life.service; incarnation = life.incarnation; ended = life.ended; left = wire.left; given = wire.given; faults = wire.faults }
+end_of life wire = record { service = life.service; incarnation = life.incarnation; ended = life.ended; whose = wire.whose; came = wire.came; left = wire.left; given = wire.given; faults = wire.faults }
 
 pub ends_of : (child : Option Life) (link : Option Wire) (f g : Family) → g ≡ with_end_of child link f → (ends : List ChildEnd) × Finishes ends f g
 ends_of None link f g is = ([], is)

@@ -6,7 +6,7 @@ use mathlib.Core.Logic.{dite}
 use native.Mathlib.Decide.{ℕ_discrete}
 use Rattle.okws_base.specs.Runs.{Each}
 use Rattle.okws_plan.specs.declared.configuration.Config.{Config}
-use Rattle.okws_outer.specs.Families.{Family}
+use Rattle.okws_outer.specs.Families.{Family, child_named}
 use Rattle.okws_outer.specs.Lives.{Life}
 use Rattle.okws_outer.specs.Wire.{Wire}
 use Rattle.okws_outer.specs.declared.children.ChildEnd.{ChildEnd}
@@ -60,7 +60,9 @@ module _ (C : Config) (seed : List ℕ) (s : ℕ) (w v : CellsSeen) (f g : Famil
       behind = ([], ap (seen_at v) attends.0);
       empty = empty;
       last = attends.2 ∙ sym last;
+      whose = holds.whose ∙ (ap (λ n. Some (child_named n (last_booted (seen_at v s)))) (sym attends.0) ∙ ap (λ n. Some (child_named life.service n)) (sym (attends.2 ∙ sym last)));
       given = subst (λ n. IsGiven (heard C seed n (last_booted (seen_at v s)) (seen_at v s)) (broken_in (last_booted (seen_at v s)) (seen_at v s)) wire.given) (sym attends.0) holds.given;
+      taken = holds.taken;
       faults = holds.faults;
     };
     out = λ n. wider (all_out v n) (all_out w n) (one_if (linked && is_broken (seen_at v s))) (one_if (nat_lt 0 wire.faults)) (out n) (fault_shown linked (is_broken (seen_at v s)) wire.faults holds.faults);
@@ -74,7 +76,9 @@ ends_still C seed w v e goes h = record {
   behind = behind_on h.events (seen_at w e.service) (seen_at v e.service) h.behind (goes e.service);
   empty = h.empty;
   last = h.last;
+  whose = h.whose;
   given = h.given;
+  taken = h.taken;
   faults = h.faults;
 }
 
@@ -172,11 +176,12 @@ ends_next C seed u a c d h at e so_far = next_by C seed u a c d h.running_is h.b
 nothing_left : (a b c : ℕ) → a + b ≡ c → b ≡ 0 → a ≡ c
 nothing_left a b c is none = omega (arith, is, none)
 
-pub ends_all : (C : Config) (seed : List ℕ) (c d : CrewIs) → ((s : ℕ) → child_of d s ≡ None) → EndsSome C seed c d → EndsAll C seed d.watch c d.family
-ends_all C seed c d idle h = record {
+pub ends_all : (C : Config) (seed : List ℕ) (c d : CrewIs) → ((s : ℕ) → child_of d s ≡ None) → Attended d → EndsSome C seed c d → EndsAll C seed d.watch c d.family
+ends_all C seed c d idle at h = record {
   ends = h.ends;
   is = h.is;
   each = h.each;
   all = λ s k. nothing_left (count_by (is_end_of s k) h.ends) (runs_as (child_of d s) k) (runs_as (child_of c s) k) (h.so_far s k) (ap (λ (x : Option Life). runs_as x k) (idle s));
   out = h.out;
+  unlinked = λ s. subst (λ (x : Option Life). Attends s x (link_at d.watch s) (last_booted (seen_at d.watch s))) (idle s) (at s);
 }

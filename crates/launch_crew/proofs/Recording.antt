@@ -1,7 +1,7 @@
 -- What a turn of the launcher's number leaves of its seats and its list.
 use Rattle.std.proofs.Common.{◌≡◌, ◌≢◌, ◌∙◌, ℕ, ◌<◌, ◌≤◌, Bool, true, List, [], ◌∷◌, ◌++◌, Option, Some, None, length, refl, sym, ap, subst, arith, eq-eqb, ne_eqb, length-set}
 use Rattle.std.specs.Prelude.{IfSome, if◌then◌else◌, max}
-use Rattle.std.specs.Io.KnownBytes.{Appends}
+use Rattle.std.specs.Io.KnownBytes.{Appends, Consumes}
 use Rattle.std.proofs.lemmas.List.{length-replicate}
 use Rattle.okws_base.specs.Turns.{Behind, GrowsBy}
 use Rattle.okws_base.specs.declared.journal.Entry.{Entry}
@@ -12,6 +12,7 @@ use Rattle.okws_plan.specs.declared.event.ProxyEvent.{ProxyEvent}
 use Rattle.okws_plan.specs.declared.event.PubdEvent.{PubdEvent}
 use Rattle.okws_plan.specs.declared.event.LogEvent.{LogEvent}
 use Rattle.okws_outer.specs.Wire.{Wire}
+use Rattle.okws_outer.specs.declared.children.ChildName.{ChildName}
 use Rattle.frame_codec.specs.Spelling.{server_spelling}
 use Rattle.frame_codec.specs.declared.frame.ServerFrame.{ServerFrame}
 use Rattle.monitor_model.specs.declared.record.CellEvent.{CellEvent}
@@ -180,6 +181,26 @@ module _ {L : Type 0} (wire : L → Wire) (k s number : ℕ) (link : L) (boot : 
   refused_front new_link back is =
       let b = subst (λ (x : Booting L). Boots wire link boot number (retired h.before) x h.after) is h.boots in
       front_put (wire link).given (wire back).given (server_spelling boot) [] (server_spelling boot) new_link b.1.puts b.1.untold refl
+
+  pub faulted_whose : (child : Option ChildName) → (wire link).whose ≡ child → (back : L) → answer.booting ≡ booting.LinkFault back → (wire back).whose ≡ child
+  faulted_whose child leads back is =
+      let b = subst (λ (x : Booting L). Boots wire link boot number (retired h.before) x h.after) is h.boots in
+      b.1.whose ∙ leads
+
+  pub faulted_untaken : (wire link).came ≡ (wire link).left → (back : L) → answer.booting ≡ booting.LinkFault back → Consumes (wire back).came (wire back).left []
+  faulted_untaken untaken back is =
+      let b = subst (λ (x : Booting L). Boots wire link boot number (retired h.before) x h.after) is h.boots in
+      subst (λ (o : Option (List ℕ)). Consumes o (wire back).left []) (sym (b.1.came ∙ untaken)) b.1.takes
+
+  pub refused_whose : (child : Option ChildName) → (wire link).whose ≡ child → (back : L) → answer.booting ≡ booting.NoMemory back → (wire back).whose ≡ child
+  refused_whose child leads back is =
+      let b = subst (λ (x : Booting L). Boots wire link boot number (retired h.before) x h.after) is h.boots in
+      b.1.whose ∙ leads
+
+  pub refused_untaken : (wire link).came ≡ (wire link).left → (back : L) → answer.booting ≡ booting.NoMemory back → Consumes (wire back).came (wire back).left []
+  refused_untaken untaken back is =
+      let b = subst (λ (x : Booting L). Boots wire link boot number (retired h.before) x h.after) is h.boots in
+      subst (λ (o : Option (List ℕ)). Consumes o (wire back).left []) (sym (b.1.came ∙ untaken)) b.1.takes
 
   pub faulted : (back : L) → answer.booting ≡ booting.LinkFault back → new ≡ h.before.past
   faulted back is =

@@ -1,9 +1,10 @@
 -- What is told of children that were started and finished, against what was seen of their services' cells.
 use Rattle.std.specs.Prelude.{◌≡◌, ◌⊎◌, ◌<◌, ◌≤◌, ℕ, zero, suc, ◌+◌, Bool, true, false, not, List, [], ◌∷◌, ◌++◌, Option, Some, None, IfSome, IsTrue, ◌==◌, ◌&&◌, if◌then◌else◌, count_by, nat_lt}
+use Rattle.std.specs.Io.KnownBytes.{Consumes}
 use Rattle.okws_base.specs.Runs.{Each}
 use Rattle.okws_base.specs.Turns.{Behind}
 use Rattle.okws_plan.specs.declared.configuration.Config.{Config}
-use Rattle.okws_outer.specs.Families.{Family, with_start, with_end}
+use Rattle.okws_outer.specs.Families.{Family, child_named, with_start, with_end}
 use Rattle.okws_outer.specs.Lives.{Life, new_life}
 use Rattle.okws_outer.specs.Wire.{Wire}
 use Rattle.okws_outer.specs.declared.children.ChildEnd.{ChildEnd}
@@ -13,6 +14,7 @@ use Rattle.monitor_model.specs.declared.record.CellEvent.TheVariants as cell
 use Rattle.monitor_model.specs.Cell.{boot_frame, heard, incarnation, last_booted}
 use Rattle.monitor_model.specs.Sent.{IsGiven, broken_in, is_link_fault}
 use Rattle.site_cell.specs.Held.{is_broken}
+use Rattle.site_cell.specs.Taken.{HasTaken}
 use Rattle.cell_locks.specs.Row.{CellsSeen, link_at, seen_at}
 use Rattle.launch_crew.specs.Crews.{CrewIs, child_of}
 use Rattle.launch_crew.specs.Told.{Finishes}
@@ -57,13 +59,15 @@ one_if b = if b then 1 else 0
 abbrev pub has_fault : ChildEnd → Bool
 has_fault e = nat_lt 0 e.faults
 
--- The child was the last incarnation that was booted at the cell of its service when that was left empty, behind these events. It was given what that incarnation heard, and of its link a call had failed where a fault ended a dialog of it.
+-- The child was the last incarnation that was booted at the cell of its service when that was left empty, behind these events. Its link is the one that led to it: that was given what the incarnation heard, from it was taken what that said, and a call of it had failed where a fault ended a dialog of the incarnation.
 pub record EndsAt (C : Config) (seed : List ℕ) (watch : CellsSeen) (e : ChildEnd) : Type 0 where
   pub events : List CellEvent
   pub behind : Behind events (seen_at watch e.service)
   pub empty : incarnation events ≡ 0
   pub last : e.incarnation ≡ last_booted events
+  pub whose : e.whose ≡ Some (child_named e.service e.incarnation)
   pub given : IsGiven (heard C seed e.service (last_booted events) events) (broken_in (last_booted events) events) e.given
+  pub taken : HasTaken (last_booted events) events e.came e.left
   pub faults : IsTrue (is_broken events) → 0 < e.faults
 
 -- The child that stood so was finished so, and no other call was made. At most its fault is one more of a link that is out.
@@ -89,13 +93,14 @@ abbrev pub runs_as : Option Life → ℕ → ℕ
 runs_as None k = 0
 runs_as (Some life) k = if life.incarnation == k then 1 else 0
 
--- All children that ran were finished so, and no other call was made.
+-- All children that ran were finished so, and no other call was made. No cell has its link any more.
 pub record EndsAll (C : Config) (seed : List ℕ) (watch : CellsSeen) (c : CrewIs) (g : Family) : Type 0 where
   pub ends : List ChildEnd
   pub is : Finishes ends c.family g
   pub each : Each (EndsAt C seed watch) ends
   pub all : (s k : ℕ) → count_by (is_end_of s k) ends ≡ runs_as (child_of c s) k
   pub out : (n : ℕ) → all_out watch n ≤ all_out c.watch n + count_by has_fault ends
+  pub unlinked : (s : ℕ) → link_at watch s ≡ false
 
 -- A front of the text was given, where the link tells.
 abbrev pub IsFront : List ℕ → Option (List ℕ) → Type 0
@@ -105,16 +110,20 @@ IsFront text given = IfSome given (λ front. (rest : List ℕ) × (front ++ rest
 abbrev pub StartsChild : ℕ → ℕ → List (List ℕ) → Family → Family → Type 0
 StartsChild s k words f g = (wire : Wire) × (g ≡ with_start s k words wire f)
 
--- The child of incarnation k of s was finished, of which nothing was asked, and no other call was made. It was given a front of its Boot frame.
+-- The child of incarnation k of s was finished, of which nothing was asked, and no other call was made. Over its own link it was given a front of its Boot frame, and nothing was taken that came from it.
 abbrev pub PlacesNone : Config → List ℕ → ℕ → ℕ → Family → Family → Type 0
-PlacesNone C seed s k f g = (last : Wire) × (g ≡ with_end (new_life s k) last f) × IsFront (server_spelling (boot_frame C seed s k)) last.given
+PlacesNone C seed s k f g =
+    (last : Wire) × (g ≡ with_end (new_life s k) last f) × IsFront (server_spelling (boot_frame C seed s k)) last.given
+    × (last.whose ≡ Some (child_named s k)) × Consumes last.came last.left []
 
--- The child of incarnation k of s was started with these words and finished, and no other call was made. It was given a front of its Boot frame.
+-- The child of incarnation k of s was started with these words and finished, and no other call was made. Over its own link it was given a front of its Boot frame, and nothing was taken that came from it.
 pub record StartsInVain (C : Config) (seed : List ℕ) (s k : ℕ) (words : List (List ℕ)) (f g : Family) : Type 0 where
   pub first : Wire
   pub last : Wire
   pub is : g ≡ with_end (new_life s k) last (with_start s k words first f)
   pub front : IsFront (server_spelling (boot_frame C seed s k)) last.given
+  pub whose : last.whose ≡ Some (child_named s k)
+  pub untaken : Consumes last.came last.left []
 
 -- No child was started: a start may have failed. Or one was started in vain.
 abbrev pub StartsNone : Config → List ℕ → ℕ → ℕ → List (List ℕ) → Family → Family → Type 0

@@ -1,8 +1,9 @@
 //! What the launcher does at the cells.
 
-ghost use Rattle.std.specs.Prelude.{◌≡◌, ◌<◌, ◌≤◌, ◌+◌, ◌&&◌, ◌∷◌, ℕ, true, false, is_some, option_map, IfErr, IfSome, OnOk, OnErr, length};
+ghost use Rattle.std.specs.Io.KnownBytes.{Consumes};
+ghost use Rattle.std.specs.Prelude.{◌≡◌, ◌<◌, ◌≤◌, ◌+◌, ◌&&◌, [], ◌∷◌, ℕ, Some, true, false, is_some, option_map, IfErr, IfSome, OnOk, OnErr, length};
 ghost use Rattle.okws_base.specs.declared.limit.TheConstants.{MOST_PROXIES};
-ghost use Rattle.okws_outer.specs.Families.{IsNewLink};
+ghost use Rattle.okws_outer.specs.Families.{IsNewLink, child_named};
 ghost use Rattle.frame_codec.specs.Spelling.{server_spelling};
 ghost use Rattle.monitor_model.specs.declared.record.Own.TheVariants as own;
 ghost use Rattle.monitor_model.specs.Cell.{incarnation as incarnation_of, last_booted, boot_frame};
@@ -37,8 +38,8 @@ impl<N: Backed, J: Site, C: CellNames, K: Keeper, S: Sink, L: Link + Drop> Recor
     L,
 > {
     /// Retires the incarnation at the cell of the service, where there is one, and takes out the link, which
-    /// is there where the cell was booted since the last one was taken out, and was given what the last
-    /// incarnation heard.
+    /// is there where the cell was booted since the last one was taken out: it was given what the last
+    /// incarnation heard, and what that said was taken from it.
     pub fn retire<R: Wait>(&mut self, rt: &R, cells: &CellLocks<N, C, L>, service: u16) -> Option<L>
         requires service { service < length N.site.services }
         requires room { 0 < self.old.room }
@@ -63,7 +64,8 @@ impl<N: Backed, J: Site, C: CellNames, K: Keeper, S: Sink, L: Link + Drop> Recor
     }
 
     /// Boots the cell of the service, which is empty, over the link of a child that was just started. Where
-    /// it isn't booted, the link comes back, to which at most a front of the Boot frame was given.
+    /// it isn't booted, the link comes back, to which at most a front of the Boot frame was given, and from
+    /// which nothing was taken.
     pub fn boot<R: Wait>(
         &mut self,
         rt: &R,
@@ -76,7 +78,7 @@ impl<N: Backed, J: Site, C: CellNames, K: Keeper, S: Sink, L: Link + Drop> Recor
         requires service { service < length N.site.services }
         requires empty { incarnation_of (seen_at self.old.watch service) ≡ 0 }
         requires later { last_booted (seen_at self.old.watch service) < incarnation }
-        requires link { IsNewLink (L.wire link) }
+        requires link { IsNewLink service incarnation (L.wire link) }
         requires tokens { ServerFrame.Boot service incarnation tokens ≡ boot_frame N.site N.run_seed service incarnation }
         requires few { length tokens ≤ MOST_PROXIES }
         requires room { 0 < self.old.room }
@@ -93,6 +95,8 @@ impl<N: Backed, J: Site, C: CellNames, K: Keeper, S: Sink, L: Link + Drop> Recor
         ensures out { link_at self.old.watch service ≡ false → (n : ℕ) → all_out self.new.watch n ≤ all_out self.old.watch n }
         ensures last { OnOk result (last_booted (seen_at self.new.watch service) ≡ incarnation) }
         ensures front { IfErr result (λ e. IsFront (server_spelling (boot_frame N.site N.run_seed service incarnation)) (L.wire e.1).given) }
+        ensures whose { IfErr result (λ e. (L.wire e.1).whose ≡ Some (child_named service incarnation)) }
+        ensures untaken { IfErr result (λ e. Consumes (L.wire e.1).came (L.wire e.1).left []) }
         ensures cause { IfErr result (λ e. e.0 ≡ Missed.Failed → 0 < (L.wire e.1).faults) }
         ensures room { self.old.room ≤ self.new.room + 1 }
     {

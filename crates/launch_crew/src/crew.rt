@@ -127,7 +127,7 @@ impl<N: Backed, J: Site, C: CellNames, K: Keeper, S: Sink, F: Children> Crew<N, 
         requires empty { incarnation_of (seen_at self.old.recorder.watch service) ≡ 0 }
         requires later { last_booted (seen_at self.old.recorder.watch service) < incarnation }
         requires child { F.Child.life started.child ≡ new_life service incarnation }
-        requires link { IsNewLink (F.Link.wire started.link) }
+        requires link { IsNewLink service incarnation (F.Link.wire started.link) }
         requires tokens { ServerFrame.Boot service incarnation tokens ≡ boot_frame N.site N.run_seed service incarnation }
         requires few { length tokens ≤ MOST_PROXIES }
         requires room { 0 < self.old.recorder.room }

@@ -150,7 +150,7 @@ impl<N: Numbered, F: Children> Staff<N, F> {
         ensures refused { OnErr result (self.new.family ≡ record self.old.family { faults = self.new.family.faults }) }
         ensures faults { self.old.family.faults ≤ self.new.family.faults }
         ensures child { IfOk result (λ s. F.Child.life s.child ≡ new_life service incarnation) }
-        ensures link { IfOk result (λ s. IsNewLink (F.Link.wire s.link)) }
+        ensures link { IfOk result (λ s. IsNewLink service incarnation (F.Link.wire s.link)) }
         ensures cause { IsErrOf result Missed.Failed → Rose self.old.family.faults self.new.family.faults }
     {
         match self.children.start(self.alloc, service, incarnation, words) {

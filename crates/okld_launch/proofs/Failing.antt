@@ -15,8 +15,9 @@ use Rattle.okws_plan.specs.declared.event.LauncherEvent.{LauncherEvent}
 use Rattle.okws_plan.specs.declared.event.LauncherEvent.TheVariants as event
 use Rattle.monitor_model.specs.Launches.{is_failed}
 use Rattle.launch_journal.specs.Launches.{Launches, entered}
+use Rattle.launch_crew.specs.Finished.{has_fault}
 use Rattle.launch_crew.specs.Told.{TellsMore, FinishesFaulty, FailsBy}
-use Rattle.okld_launch.specs.Failures.{has_fault, is_faulty, is_failed_start, FailuresAreTold}
+use Rattle.okld_launch.specs.Failures.{is_faulty, is_failed_start, FailuresAreTold}
 
 -- ---- how many they are
 

@@ -1,12 +1,13 @@
 -- What later events of a cell leave of an incarnation that is behind it.
-use Rattle.std.proofs.Common.{◌≡◌, ◌≢◌, ◌∙◌, ℕ, ◌+◌, ◌<◌, ◌≤◌, Bool, true, false, cond, List, [], ◌∷◌, ◌++◌, Option, refl, sym, ap, subst, arith, append-nil, eq-eqb, ne_eqb}
+use Rattle.std.proofs.Common.{◌≡◌, ◌∙◌, ℕ, ◌+◌, ◌<◌, List, [], ◌∷◌, ◌++◌, refl, arith, append-nil, ne_eqb}
 use Rattle.okws_plan.specs.declared.configuration.Config.{Config}
 use Rattle.monitor_model.specs.declared.record.CellEvent.{CellEvent}
 use Rattle.monitor_model.specs.declared.record.CellEvent.TheVariants as cell
 use Rattle.monitor_model.specs.declared.record.End.{End}
 use Rattle.monitor_model.specs.declared.record.End.TheVariants as end
-use Rattle.monitor_model.specs.Cell.{CellLaw, MayStand, after_end, heard, incarnation, last_booted}
+use Rattle.monitor_model.specs.Cell.{CellLaw, MayStand, after_end, heard, incarnation, said}
 use Rattle.monitor_model.specs.Sent.{broken_in}
+use Rattle.site_cell.specs.Taken.{last_end}
 use Rattle.okld_launch.specs.Heard.{IsBehind}
 
 -- ---- an incarnation that is behind
@@ -41,18 +42,36 @@ broken_next k (cell.Missed worker wanted there) J h = refl
 broken_next k (cell.Dialog d) J h = rw (ne_eqb (incarnation J) k h.gone) refl
 broken_next k (cell.Speaking worker items) J h = refl
 
--- What was heard by incarnation k, and whether its link broke, stays.
+said_next : (k : ℕ) (e : CellEvent) (J : List CellEvent) → IsBehind k J → said k (e ∷ J) ≡ said k J
+said_next k (cell.Boot j) J h = append-nil (said k J)
+said_next k cell.Retired J h = append-nil (said k J)
+said_next k (cell.Missed worker wanted there) J h = append-nil (said k J)
+said_next k (cell.Dialog d) J h = rw (ne_eqb (incarnation J) k h.gone) (append-nil (said k J))
+said_next k (cell.Speaking worker items) J h = rw (ne_eqb (incarnation J) k h.gone) (append-nil (said k J))
+
+end_next : (k : ℕ) (e : CellEvent) (J : List CellEvent) → IsBehind k J → last_end k (e ∷ J) ≡ last_end k J
+end_next k (cell.Boot j) J h = refl
+end_next k cell.Retired J h = refl
+end_next k (cell.Missed worker wanted there) J h = refl
+end_next k (cell.Dialog d) J h = rw (ne_eqb (incarnation J) k h.gone) refl
+end_next k (cell.Speaking worker items) J h = refl
+
+-- What was heard and said by incarnation k, whether its link broke, and how its last dialog ended, stays.
 pub record Stays (C : Config) (seed : List ℕ) (s k : ℕ) (J K : List CellEvent) : Type 0 where
   pub behind : IsBehind k K
   pub heard_is : heard C seed s k K ≡ heard C seed s k J
   pub broken_is : broken_in k K ≡ broken_in k J
+  pub said_is : said k K ≡ said k J
+  pub end_is : last_end k K ≡ last_end k J
 
 pub heard_later : (C : Config) (seed : List ℕ) (s k : ℕ) (more J : List CellEvent) → CellLaw (more ++ J) → IsBehind k J → Stays C seed s k J (more ++ J)
-heard_later C seed s k [] J law h = record { behind = h; heard_is = refl; broken_is = refl }
+heard_later C seed s k [] J law h = record { behind = h; heard_is = refl; broken_is = refl; said_is = refl; end_is = refl }
 heard_later C seed s k (e ∷ more) J law h =
     let was : Stays C seed s k J (more ++ J) = heard_later C seed s k more J law.0 h in
     record {
       behind = behind_next k e (more ++ J) law.2 was.behind;
       heard_is = heard_next C seed s k e (more ++ J) law.2 was.behind ∙ was.heard_is;
       broken_is = broken_next k e (more ++ J) was.behind ∙ was.broken_is;
+      said_is = said_next k e (more ++ J) was.behind ∙ was.said_is;
+      end_is = end_next k e (more ++ J) was.behind ∙ was.end_is;
     }

@@ -7,8 +7,8 @@ pub mod Telling
 pub mod Counting
 pub mod Opening
 pub mod Told
-pub mod Adds
 pub mod Failing
+pub mod Faults
 pub mod Causing
 pub mod Caused
 pub mod Opened
@@ -16,10 +16,11 @@ pub mod Again
 pub mod Children
 pub mod Pieces
 pub mod OnWay
-pub mod Deeds
 pub mod Turning
 pub mod Attending
-pub mod Standing
+pub mod Booted
+pub mod Boots
 pub mod Kin
+pub mod Kept
 pub mod Gone
 pub mod Heard

@@ -1,5 +1,5 @@
 -- What is known in each state of a launch.
-use Rattle.std.proofs.Common.{◌≡◌, ◌∙◌, ℕ, ◌+◌, ◌-◌, ◌<◌, ◌≤◌, length, refl, sym, ap, subst, arith}
+use Rattle.std.proofs.Common.{◌≡◌, ◌∙◌, ℕ, ◌+◌, ◌<◌, ◌≤◌, length, refl, sym, ap, subst, arith}
 use Rattle.okws_base.specs.declared.limit.TheConstants.{MOST_INCARNATIONS, MOST_PROXIES}
 use Rattle.okws_plan.specs.declared.configuration.Config.{Config}
 use Rattle.okws_plan.specs.declared.event.LauncherEvent.TheVariants as event
@@ -11,6 +11,8 @@ use Rattle.launch_crew.specs.Crews.{Under}
 use Rattle.launch_crew.specs.Told.{TellsMore}
 use Rattle.okld_launch.specs.Causing.{BrokeOff}
 use Rattle.okld_launch.specs.Launchers.{LauncherIs}
+use Rattle.okws_outer.specs.Families.{Family}
+use Rattle.okld_launch.specs.Kin.{Unstarted}
 use Rattle.okld_launch.specs.States.{LaunchIs, IsBegun, IsStill, GoesOn}
 use Rattle.okld_launch.proofs.Begins.{begun_here}
 
@@ -35,10 +37,10 @@ one_more a b is = omega (arith, is)
 at_most : (a b c : ℕ) → a ≡ b + 1 → b < c → a ≤ c
 at_most a b c is less = omega (arith, is, less)
 
-pub still : (C : Config) (s k : ℕ) (m l : LauncherIs) → s < length C.services → Allows C m.journal.past s next.Begin → k ≡ begun m.journal.past s + 1 → l.journal ≡ entered m.journal (event.Begun s k)
+pub still : (C : Config) (first : Family) (s k : ℕ) (m l : LauncherIs) → s < length C.services → Allows C m.journal.past s next.Begin → k ≡ begun m.journal.past s + 1 → l.journal ≡ entered m.journal (event.Begun s k)
     → 2 ≤ m.journal.room → MOST_PROXIES + 4 + (MOST_PROXIES + 2 + (MOST_PROXIES + 4)) + length C.services ≤ m.crew.room → l.crew.room ≡ m.crew.room → Under s k l.crew
-    → BrokeOff (came_up l.crew.sat) l.journal.past s k → IsStill C (launch_of l s k)
-still C s k m l within allows is journal entries items room under fresh = record {
+    → BrokeOff (came_up l.crew.sat) l.journal.past s k → Unstarted s k first l.crew.family → IsStill C first (launch_of l s k)
+still C first s k m l within allows is journal entries items room under fresh unstarted = record {
   begins = record {
     service_is = within;
     counted = one_more k (begun m.journal.past s) is;
@@ -49,6 +51,7 @@ still C s k m l within allows is journal entries items room under fresh = record
   };
   under = under;
   fresh = fresh;
+  unstarted = unstarted;
 }
 
 -- nothing more was entered, and no less is told of the children

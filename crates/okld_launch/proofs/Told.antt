@@ -20,7 +20,6 @@ use Rattle.okld_launch.specs.declared.answer.Attempt.TheVariants as attempt
 use Rattle.okld_launch.specs.declared.answer.Launched.{Launched}
 use Rattle.okld_launch.specs.declared.answer.Launched.TheVariants as launched
 use Rattle.okld_launch.specs.declared.answer.Crashed.{Crashed}
-use Rattle.okld_launch.specs.declared.answer.Tended.TheVariants as tended
 use Rattle.okld_launch.proofs.Begins.{begun_here}
 
 -- ---- an attempt

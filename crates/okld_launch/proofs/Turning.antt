@@ -1,27 +1,22 @@
 -- What a turn tells of what came up in it, and of a child that has ended.
-use Rattle.std.proofs.Common.{◌≡◌, ◌∙◌, ℕ, zero, suc, Bool, true, false, List, [], ◌∷◌, ◌++◌, Option, Some, None, refl, sym, ap, subst}
+use Rattle.std.proofs.Common.{◌≡◌, ◌∙◌, ℕ, zero, suc, Bool, true, false, List, [], ◌∷◌, ◌++◌, Option, Some, None, refl, sym, ap}
 use Rattle.std.specs.Prelude.{◌||◌, if◌then◌else◌, option_to_list}
 use Rattle.std.specs.List.{list_any}
 use Rattle.std.proofs.lemmas.Bool.{or_from, or_parts}
 use Rattle.std.proofs.lemmas.List.{append_assoc}
-use Rattle.okws_base.specs.Turns.{AddsBy}
 use Rattle.okws_base.specs.declared.journal.Entry.{Entry}
-use Rattle.okws_plan.specs.declared.configuration.Config.{Config}
 use Rattle.okws_plan.specs.declared.event.LauncherEvent.{LauncherEvent}
 use Rattle.okws_plan.specs.declared.event.LauncherEvent.TheVariants as event
 use Rattle.monitor_model.specs.Causes.{is_crashed_of}
-use Rattle.turn_lock.specs.Seats.{SeatIs}
-use Rattle.okld_launch.specs.Deeds.{by_deed, crash_up, ended_in, ends_after, entries, is_one, launch_up, oldest, tend_up, up_in, ups_after}
-use Rattle.okld_launch.specs.Entering.{Enters, entries_of, events_of, failed_from}
+use Rattle.okld_launch.specs.Ups.{crash_up, ends_after, is_one, launch_up, oldest, tend_up}
+use Rattle.okld_launch.specs.Entering.{events_of, failed_from}
 use Rattle.okld_launch.specs.Going.{GivesUpAgain, crashed_as, tended_as}
 use Rattle.okld_launch.specs.Launchers.{LauncherIs}
-use Rattle.okld_launch.specs.Pieces.{IsClosed, with_up}
-use Rattle.okld_launch.specs.Resting.{Rests}
+use Rattle.okld_launch.specs.Pieces.{with_up}
 use Rattle.okld_launch.specs.declared.answer.Launched.{Launched}
 use Rattle.okld_launch.specs.declared.answer.Launched.TheVariants as launched
 use Rattle.okld_launch.specs.declared.answer.Crashed.{Crashed}
 use Rattle.okld_launch.specs.declared.answer.Crashed.TheVariants as crashed
-use Rattle.okld_launch.specs.declared.deed.Deed.{Deed}
 
 -- ---- the oldest event of a turn
 
@@ -86,19 +81,3 @@ ends_none events ended h = λ i t j. h t j i || ended t j
 
 pub ends_crashed : (events : List LauncherEvent) (ended : ℕ → ℕ → Bool) (s k : ℕ) → ((t j : ℕ) → is_one (is_crashed_of t j) (oldest events) ≡ is_crashed_of t j (event.Crashed s k)) → ends_after true events ended ≡ with_up s k ended
 ends_crashed events ended s k h = λ i t j. h t j i || ended t j
-
--- ---- the launcher rests behind one turn more
-
-pub rests_after : (C : Config) (seed : List ℕ) (d : Deed) (deeds : List Deed) (l m : LauncherIs) → entries deeds ≡ l.journal.past → Enters d.worker d.entered l.journal.past m.journal.past → IsClosed C seed (ups_after d.up d.entered (up_in deeds)) (ends_after d.tended d.entered (ended_in deeds)) m → Rests C seed (d ∷ deeds) m
-rests_after C seed d deeds l m are enters h = record {
-  entries_are = ap (λ (J : List (Entry LauncherEvent)). entries_of d.worker d.entered ++ J) are ∙ sym enters;
-  closed = h;
-}
-
--- one turn more is added under the number of who took it
-pub one_turn : (old mid : SeatIs Deed) (found : List Deed) (d : Deed) (left : List Deed) → mid ≡ record { lock = old.lock; number = old.number; seen = found; held = true; label = old.label; olds = old.olds } → d.worker ≡ old.number → left ≡ d ∷ found → AddsBy by_deed mid.number mid.seen left
-one_turn old mid found d left seat who is = subst (λ (a : SeatIs Deed). AddsBy by_deed a.number a.seen left) (sym seat) (d ∷ [], (who, tt), is)
-
--- none was taken
-pub rests_new : (C : Config) (seed : List ℕ) (deeds : List Deed) (l : LauncherIs) → deeds ≡ [] → l.journal.past ≡ [] → IsClosed C seed (λ s k. false) (λ s k. false) l → Rests C seed deeds l
-rests_new C seed deeds l none empty h = subst (λ (ds : List Deed). Rests C seed ds l) (sym none) (record { entries_are = sym empty; closed = h })

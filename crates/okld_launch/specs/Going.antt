@@ -1,5 +1,5 @@
 -- How a launch of service s goes: what worker w enters on the launcher's past J, the newest first, what is answered, and the launcher l in the end. The children told f before it.
-use Rattle.std.specs.Prelude.{◌≡◌, ◌≢◌, ◌⊎◌, ◌<◌, ℕ, zero, suc, ◌+◌, true, List, ◌∷◌, None, Some, is_some}
+use Rattle.std.specs.Prelude.{◌≡◌, ◌≢◌, ◌⊎◌, ◌<◌, ℕ, zero, suc, ◌+◌, true, List, ◌∷◌, Option, None, Some, is_some}
 use Rattle.okws_base.specs.declared.journal.Entry.{Entry}
 use Rattle.okws_base.specs.declared.limit.TheConstants.{MOST_INCARNATIONS}
 use Rattle.okws_plan.specs.declared.configuration.Config.{Config}
@@ -151,3 +151,8 @@ GoesTended C w s old (tended.Dead n) new =
     (Allows C old.journal.past s (next.Dead n) × (new.journal.past ≡ old.journal.past)) ⊎ Tends C w s old (launched.Dead n) new
 GoesTended C w s old tended.Spent new = Tends C w s old launched.Spent new
 GoesTended C w s old tended.NoMemory new = (new.journal.past ≡ old.journal.past) ⊎ Tends C w s old launched.NoMemory new
+
+-- A launch, of a service that isn't up.
+abbrev pub GoesIf : Config → ℕ → ℕ → LauncherIs → Option Launched → LauncherIs → Type 0
+GoesIf C n s l None after = (0 < up_in l s) × (after ≡ l)
+GoesIf C n s l (Some answer) after = (up_in l s ≡ 0) × Goes C n s l.journal.past l.crew.family answer after

@@ -1,16 +1,22 @@
 -- What is told of the children of a run, as its launcher knows it.
-use Rattle.std.specs.Prelude.{◌≡◌, ◌⊎◌, ℕ, ◌+◌, ◌<◌, Bool, List, [], ◌++◌, Option, Some, None, ◌==◌, ◌&&◌, count_by, length, slice_get}
+use Rattle.std.specs.Prelude.{◌≡◌, ◌⊎◌, ℕ, ◌+◌, ◌<◌, ◌≤◌, Bool, false, List, [], ◌++◌, Option, Some, None, IsTrue, ◌==◌, ◌&&◌, count_by, length, slice_get}
+use Rattle.std.specs.Io.KnownBytes.{Consumes}
+use Rattle.std.specs.List.{list_any}
 use Rattle.okws_base.specs.Runs.{Each}
+use Rattle.okws_base.specs.declared.journal.Entry.{Entry}
 use Rattle.okws_plan.specs.declared.configuration.Config.{Config}
 use Rattle.okws_plan.specs.declared.configuration.ServicePlan.{ServicePlan}
-use Rattle.okws_outer.specs.Families.{Family}
-use Rattle.okws_outer.specs.Lives.{Life}
+use Rattle.okws_plan.specs.declared.event.LauncherEvent.{LauncherEvent}
+use Rattle.okws_outer.specs.Families.{Family, child_named}
 use Rattle.okws_outer.specs.declared.children.ChildEnd.{ChildEnd}
 use Rattle.okws_outer.specs.declared.children.ChildStart.{ChildStart}
 use Rattle.frame_codec.specs.Spelling.{server_spelling}
+use Rattle.monitor_model.specs.declared.record.Own.{Own}
+use Rattle.monitor_model.specs.declared.record.Own.TheVariants as own
 use Rattle.monitor_model.specs.Cell.{boot_frame}
+use Rattle.monitor_model.specs.Launcher.{begun}
 use Rattle.cell_locks.specs.Row.{CellsSeen}
-use Rattle.launch_crew.specs.Crews.{running_at}
+use Rattle.launch_crew.specs.Crews.{CrewIs, running_at}
 use Rattle.launch_crew.specs.Finished.{EndsAt, IsFront, is_end_of, runs_as}
 
 -- The words of a service's program, none where there is no such service.
@@ -32,16 +38,35 @@ pub record IsStart (C : Config) (e : ChildStart) : Type 0 where
 abbrev pub is_start_of : ℕ → ℕ → ChildStart → Bool
 is_start_of s k e = (e.service == s) && (e.incarnation == k)
 
--- The child was finished: it was given what its incarnation heard, as far as was seen of its service's cell; or a front of its Boot frame at most. The second is what a child has of a start that failed; it doesn't say that the incarnation was never booted.
-abbrev pub IsEnd : Config → List ℕ → CellsSeen → ChildEnd → Type 0
-IsEnd C seed watch e = EndsAt C seed watch e ⊎ IsFront (server_spelling (boot_frame C seed e.service e.incarnation)) e.given
+-- The item is the Boot of incarnation k of s.
+abbrev pub is_boot : ℕ → ℕ → Own → Bool
+is_boot s k (own.Boot t j) = (t == s) && (j == k)
+is_boot s k _ = false
 
--- Since `first` was told of them, children of the site were started and finished: of each incarnation as many as were started were finished so or run.
-pub record AreKin (C : Config) (seed : List ℕ) (first : Family) (watch : CellsSeen) (running : List (Option Life)) (now : Family) : Type 0 where
+-- The child was given a front of its Boot frame at most, over its own link, nothing was taken that came from it, and its incarnation was not booted, by these items.
+pub record IsVain (C : Config) (seed : List ℕ) (items : List Own) (e : ChildEnd) : Type 0 where
+  pub given : IsFront (server_spelling (boot_frame C seed e.service e.incarnation)) e.given
+  pub whose : e.whose ≡ Some (child_named e.service e.incarnation)
+  pub untaken : Consumes e.came e.left []
+  pub unbooted : list_any (is_boot e.service e.incarnation) items ≡ false
+
+-- The child was finished: it was given what its incarnation heard, and what that said was taken of what came from it, as far as was seen of its service's cell; or its start failed, and it was given a front of its Boot frame at most, and then the launcher has no Boot of it.
+abbrev pub IsEnd : Config → List ℕ → CellsSeen → List Own → ChildEnd → Type 0
+IsEnd C seed watch items e = EndsAt C seed watch e ⊎ IsVain C seed items e
+
+-- No child was started as incarnation k of s since `first` was told of them.
+abbrev pub Unstarted : ℕ → ℕ → Family → Family → Type 0
+Unstarted s k first now = count_by (is_start_of s k) now.started ≡ count_by (is_start_of s k) first.started
+
+-- Since `first` was told of them, children of the site were started and finished: one at most of each incarnation, which was begun by the launcher's journal J, and one of each that the launcher booted; of each incarnation as many as were started were finished so or run.
+pub record AreKin (C : Config) (seed : List ℕ) (first : Family) (J : List (Entry LauncherEvent)) (c : CrewIs) : Type 0 where
   pub starts : List ChildStart
-  pub started_is : now.started ≡ starts ++ first.started
+  pub started_is : c.family.started ≡ starts ++ first.started
   pub starts_are : Each (IsStart C) starts
   pub ends : List ChildEnd
-  pub finished_is : now.finished ≡ ends ++ first.finished
-  pub ends_are : Each (IsEnd C seed watch) ends
-  pub all : (s k : ℕ) → count_by (is_start_of s k) starts ≡ count_by (is_end_of s k) ends + runs_as (running_at running s) k
+  pub finished_is : c.family.finished ≡ ends ++ first.finished
+  pub ends_are : Each (IsEnd C seed c.watch c.own) ends
+  pub all : (s k : ℕ) → count_by (is_start_of s k) starts ≡ count_by (is_end_of s k) ends + runs_as (running_at c.running s) k
+  pub once : (s k : ℕ) → count_by (is_start_of s k) starts ≤ 1
+  pub begun_are : (s k : ℕ) → begun J s < k → count_by (is_start_of s k) starts ≡ 0
+  pub booted : (s k : ℕ) → IsTrue (list_any (is_boot s k) c.own) → 0 < count_by (is_start_of s k) starts

@@ -1,5 +1,5 @@
 -- The launcher as contracts see it.
-use Rattle.std.specs.Prelude.{◌≡◌, ◌<◌, ◌≤◌, ℕ, List, [], ◌∷◌, None, false, length, slice_index}
+use Rattle.std.specs.Prelude.{◌≡◌, ◌<◌, ◌≤◌, ℕ, List, ◌∷◌, None, false, length, slice_index}
 use Rattle.okws_base.specs.declared.journal.Entry.{Entry}
 use Rattle.okws_base.specs.declared.limit.TheConstants.{MOST_PROXIES}
 use Rattle.okws_plan.specs.declared.configuration.Config.{Config}
@@ -12,7 +12,7 @@ use Rattle.launch_crew.specs.Coming.{came_up}
 use Rattle.launch_crew.specs.Crews.{CrewIs, Below, IsUp, NoneStands, up_of}
 use Rattle.launch_crew.specs.Ended.{Attended}
 use Rattle.okld_launch.specs.Causing.{Caused, MayFollow}
-use Rattle.okld_launch.specs.Failures.{FailuresAreTold}
+use Rattle.okld_launch.specs.Failures.{FailuresAreTold, FaultsAreTold}
 use Rattle.okld_launch.specs.Kin.{AreKin}
 
 -- Its journal, its crew, and the incarnation of each service that is up, 0 for none.
@@ -53,7 +53,7 @@ pub record IsLauncher (C : Config) (l : LauncherIs) : Type 0 where
   pub spare : length C.services ≤ l.crew.room
   pub each : (s : ℕ) → IsKept C l s
 
--- It is the launcher of a run with this site and this seed, which began when `first` was told of its children: for each Failed of its journal a fault was told since. What was begun was begun for a cause. Each child that runs has its link at its service's cell; each that was finished was given what it heard.
+-- It is the launcher of a run with this site and this seed, which began when `first` was told of its children: for each Failed of its journal, and for each dialog that ended by a fault of a link that is out, a fault was told since. What was begun was begun for a cause. Each child that runs has its link at its service's cell; each that was finished was given what it heard.
 pub record IsPlaced (C : Config) (run_seed : List ℕ) (first : Family) (l : LauncherIs) (site : Config) (seed : List ℕ) : Type 0 where
   pub site_is : site ≡ C
   pub seed_is : seed ≡ run_seed
@@ -62,20 +62,15 @@ pub record IsPlaced (C : Config) (run_seed : List ℕ) (first : Family) (l : Lau
   pub failed : FailuresAreTold first l.journal.past l.crew.family
   pub caused : AreCaused l
   pub attended : Attended l.crew
-  pub kin : AreKin C run_seed first l.crew.watch l.crew.running l.crew.family
+  pub kin : AreKin C run_seed first l.journal.past l.crew
+  pub faults : FaultsAreTold first l.journal.past l.crew
 
 -- It may be entered that incarnation k of s failed: a fault was told for it too.
-abbrev pub MayFail : Family → ℕ → ℕ → LauncherIs → Type 0
-MayFail first s k l = FailuresAreTold first (record { worker = l.journal.holder; event = event.Failed s k } ∷ l.journal.past) l.crew.family
+pub record MayFail (first : Family) (s k : ℕ) (l : LauncherIs) : Type 0 where
+  pub failed : FailuresAreTold first (record { worker = l.journal.holder; event = event.Failed s k } ∷ l.journal.past) l.crew.family
+  pub faults : FaultsAreTold first (record { worker = l.journal.holder; event = event.Failed s k } ∷ l.journal.past) l.crew
 
 -- Nothing of s is up or stands at a column.
 pub record IsOut (C : Config) (s : ℕ) (l : LauncherIs) : Type 0 where
   pub down : up_in l s ≡ 0
   pub none : NoneStands C s l.crew.sat
-
--- What a launcher of this site and this seed takes, which did nothing yet.
-pub record ArePapers (C : Config) (seed : List ℕ) (journal : Launches) (site : Config) (own_seed : List ℕ) : Type 0 where
-  pub config_is : journal.config ≡ C
-  pub none : journal.past ≡ []
-  pub site_is : site ≡ C
-  pub seed_is : own_seed ≡ seed

@@ -2,13 +2,10 @@ pub mod Failures
 pub mod Causing
 pub mod Launchers
 pub mod Entering
-pub mod Deeds
+pub mod Ups
 pub mod States
 pub mod Going
-pub mod Turns
 pub mod Children
 pub mod Pieces
-pub mod Resting
-pub mod Standing
 pub mod Kin
 pub mod Heard

@@ -8,7 +8,9 @@ use Rattle.cell_locks.specs.Row.{seen_at}
 use Rattle.launch_crew.specs.Coming.{came_up}
 use Rattle.launch_crew.specs.Crews.{Under, IsQuiet, StandsAt, RunsAs, child_of}
 use Rattle.launch_crew.specs.Told.{TellsMore}
+use Rattle.okws_outer.specs.Families.{Family}
 use Rattle.okld_launch.specs.Causing.{BrokeOff}
+use Rattle.okld_launch.specs.Kin.{Unstarted}
 use Rattle.okld_launch.specs.Launchers.{LauncherIs, up_in}
 
 -- The launcher in a launch, the service, and its incarnation.
@@ -26,27 +28,30 @@ pub record IsBegun (C : Config) (items : ℕ) (a : LaunchIs) : Type 0 where
   pub entry : 0 < a.launcher.journal.room
   pub room : items + length C.services ≤ a.launcher.crew.room
 
--- Nothing was installed or booted of it, and it neither came up nor failed.
-pub record IsStill (C : Config) (a : LaunchIs) : Type 0 where
+-- Nothing was installed or booted of it, no child was started as it since `first` was told of them, and it neither came up nor failed.
+pub record IsStill (C : Config) (first : Family) (a : LaunchIs) : Type 0 where
   pub begins : IsBegun C (MOST_PROXIES + 4 + (MOST_PROXIES + 2 + (MOST_PROXIES + 4))) a
   pub under : Under a.service a.incarnation a.launcher.crew
   pub fresh : BrokeOff (came_up a.launcher.crew.sat) a.launcher.journal.past a.service a.incarnation
+  pub unstarted : Unstarted a.service a.incarnation first a.launcher.crew.family
 
 -- What was before it is ended everywhere.
-pub record IsRevoked (C : Config) (a : LaunchIs) : Type 0 where
+pub record IsRevoked (C : Config) (first : Family) (a : LaunchIs) : Type 0 where
   pub begins : IsBegun C (MOST_PROXIES + 2 + (MOST_PROXIES + 4)) a
   pub under : Under a.service a.incarnation a.launcher.crew
   pub quiet : IsQuiet C a.service a.launcher.crew
   pub down : up_in a.launcher a.service ≡ 0
+  pub unstarted : Unstarted a.service a.incarnation first a.launcher.crew.family
 
 -- It stands at each column of the service, whose cell is empty and of which no child runs.
-pub record IsInstalled (C : Config) (a : LaunchIs) : Type 0 where
+pub record IsInstalled (C : Config) (first : Family) (a : LaunchIs) : Type 0 where
   pub begins : IsBegun C (MOST_PROXIES + 4) a
   pub stands : StandsAt C a.service a.incarnation a.launcher.crew.sat
   pub empty : incarnation (seen_at a.launcher.crew.watch a.service) ≡ 0
   pub later : last_booted (seen_at a.launcher.crew.watch a.service) < a.incarnation
   pub child : child_of a.launcher.crew a.service ≡ None
   pub down : up_in a.launcher a.service ≡ 0
+  pub unstarted : Unstarted a.service a.incarnation first a.launcher.crew.family
 
 -- Its child was started, and its cell was booted.
 pub record IsBooted (C : Config) (a : LaunchIs) : Type 0 where

@@ -1,7 +1,7 @@
 //! What the launcher's calls answer.
 
 ghost use Rattle.std.specs.Prelude.{◌≡◌};
-ghost use Rattle.okld_launch.specs.Deeds.{crash_up, launch_up, tend_up};
+ghost use Rattle.okld_launch.specs.Ups.{crash_up, launch_up, tend_up};
 
 /// What `launch` and `relaunch` answer.
 #[derive(Clone, Copy, Debug, PartialEq, Eq)]

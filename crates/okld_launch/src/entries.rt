@@ -8,6 +8,8 @@ ghost use Rattle.monitor_model.specs.Launcher.{LauncherLaw, begun, may_give_up, 
 ghost use Rattle.launch_journal.specs.Launches.{Allows, entered, given_up};
 ghost use Rattle.launch_journal.specs.declared.next.Next.TheVariants as next;
 ghost use Rattle.launch_crew.specs.Listed.{AreCounted, CellsGo};
+ghost use Rattle.launch_crew.specs.Recorded.{AreOwn};
+ghost use Rattle.cell_locks.specs.Row.{seen_at};
 ghost use Rattle.okld_launch.specs.Children.{StaysAttended};
 ghost use Rattle.okld_launch.specs.Launchers.{AreCaused, IsLauncher, MayFail, up_in};
 ghost use Rattle.okld_launch.specs.Going.{AsksUp, with_entry};
@@ -24,7 +26,9 @@ use okws_outer::children::Children;
 use okws_outer::keeper::Keeper;
 use okws_outer::stream::Sink;
 use okws_plan::event::LauncherEvent;
+use site_locks::locks::Locks;
 use site_locks::named::Site;
+use site_locks::note::OkdNote;
 use std::alloc::AllocError;
 
 // Items of the launcher's list that one attempt at a launch makes at most: what stood is ended, the
@@ -174,7 +178,7 @@ impl<N: Staffed, J: Site, C: CellNames, K: Keeper, S: Sink, F: Children> Launche
     }
 
     /// What a launcher's type tells of it.
-    pub(crate) fn keeps(&self)
+    pub fn keeps(&self)
         ensures is { IsLauncher N.site self.now }
         ensures caused { AreCaused self.now }
         ensures law { LauncherLaw N.site self.now.journal.past }
@@ -184,7 +188,7 @@ impl<N: Staffed, J: Site, C: CellNames, K: Keeper, S: Sink, F: Children> Launche
     }
 
     /// Takes in what another number has seen at a cell: what was booted there was begun.
-    pub(crate) fn meet(&mut self, cells: &CellLocks<N, C, F::Link>, note: CellNote<N, C, F::Link>)
+    pub fn meet(&mut self, cells: &CellLocks<N, C, F::Link>, note: CellNote<N, C, F::Link>)
         ensures begun { last_booted note.seen ≤ begun self.new.journal.past note.service }
         ensures same { self.new ≡ record self.old { crew = record self.old.crew { watch = self.new.crew.watch } } }
         ensures behind { CellsGo self.old.crew.watch self.new.crew.watch }
@@ -193,5 +197,30 @@ impl<N: Staffed, J: Site, C: CellNames, K: Keeper, S: Sink, F: Children> Launche
     {
         self.crew.recorder.keeps();
         self.crew.recorder.meet(cells, note);
+    }
+
+    /// A note of what was seen at okd.
+    pub fn note_okd(&mut self, locks: &Locks<N, J, K, S>) -> OkdNote<N, J>
+        ensures note { result ≡ self.old.crew.sat.okd }
+        ensures own { AreOwn N.launcher self.old.crew.sat self.old.crew.watch self.old.crew.own }
+        ensures same { self.new ≡ self.old }
+    {
+        self.crew.recorder.keeps();
+        self.crew.recorder.note_okd(locks)
+    }
+
+    /// A note of what was seen at the cell of a service.
+    pub fn note_cell(
+        &mut self,
+        cells: &CellLocks<N, C, F::Link>,
+        service: u16,
+    ) -> CellNote<N, C, F::Link>
+        requires { service < length N.site.services }
+        ensures note { result ≡ record { service = service; seen = seen_at self.old.crew.watch service } }
+        ensures own { AreOwn N.launcher self.old.crew.sat self.old.crew.watch self.old.crew.own }
+        ensures same { self.new ≡ self.old }
+    {
+        self.crew.recorder.keeps();
+        self.crew.recorder.note_cell(cells, service)
     }
 }

@@ -9,7 +9,7 @@ ghost use Rattle.launch_crew.specs.Crews.{Below, crew_of};
 ghost use Rattle.launch_crew.specs.Ended.{Attended};
 ghost use Rattle.launch_crew.specs.Recorded.{IsUnused};
 ghost use Rattle.okld_launch.specs.Causing.{AllCaused};
-ghost use Rattle.okld_launch.specs.Failures.{FailuresAreTold};
+ghost use Rattle.okld_launch.specs.Failures.{FailuresAreTold, FaultsAreTold};
 ghost use Rattle.okld_launch.specs.Kin.{AreKin};
 ghost use Rattle.okld_launch.specs.Pieces.{IsClosed, IsWhole};
 
@@ -32,7 +32,8 @@ use turn_lock::Journaled;
 
 /// The launcher of a site: its journal, its crew, and which incarnation of each service is up. By its type
 /// the journal keeps the launcher's law, nothing was launched that was not begun, what is up stands, and for
-/// each Failed that was entered a fault of the children was counted, and what was begun has its cause.
+/// each Failed that was entered, and for each dialog that a fault of its link ended, a fault of the children
+/// was counted once that link was out, and what was begun has its cause.
 #[derive(Drop)]
 pub struct Launcher<N: Staffed, J: Site, C: CellNames, K: Keeper, S: Sink, F: Children> {
     pub(crate) alloc: Global,
@@ -110,13 +111,15 @@ impl<N: Staffed, J: Site, C: CellNames, K: Keeper, S: Sink, F: Children> Launche
     F,
 > {
     /// What was entered, which keeps the launcher's law, and the crew, by which nothing was launched that
-    /// was not begun, and of whose children a fault was told for each Failed. What was begun has its cause.
-    pub(crate) fn close(self) -> (Past<Entry<LauncherEvent>>, Crew<N, J, C, K, S, F>)
+    /// was not begun, and of whose children a fault was told for each Failed and for each dialog that ended by
+    /// a fault of a link that is out. What was begun has its cause.
+    pub fn close(self) -> (Past<Entry<LauncherEvent>>, Crew<N, J, C, K, S, F>)
         ensures past { result.0 ≡ self.journal.past }
         ensures law { LauncherLaw N.site result.0 }
         ensures crew { crew_of result.1.recorder result.1.staff ≡ self.crew }
         ensures failed { FailuresAreTold N.children result.0 result.1.staff.family }
-        ensures kin { AreKin N.site N.run_seed N.children result.1.recorder.watch result.1.staff.running result.1.staff.family }
+        ensures kin { AreKin N.site N.run_seed N.children result.0 (crew_of result.1.recorder result.1.staff) }
+        ensures faults { FaultsAreTold N.children result.0 (crew_of result.1.recorder result.1.staff) }
         ensures caused { AllCaused (came_up result.1.recorder.sat) result.0 result.0 }
         ensures below { (s : ℕ) → Below s (begun result.0 s) result.1.recorder.sat result.1.recorder.watch }
         ensures shown { (s : ℕ) → s < length N.site.services → slice_index result.1.recorder.sat.board s ≡ begun result.0 s }
@@ -135,9 +138,16 @@ impl<N: Staffed, J: Site, C: CellNames, K: Keeper, S: Sink, F: Children> Launche
     }
 
     /// Names the number under which is entered from now on.
-    pub(crate) fn hold(&mut self, number: u16)
+    pub fn hold(&mut self, number: u16)
         ensures { self.new ≡ record self.old { journal = record self.old.journal { holder = number } } }
     {
         self.journal.hold(number);
+    }
+
+    /// The number under which is entered.
+    pub fn holder(&self) -> u16
+        ensures { result ≡ self.now.journal.holder }
+    {
+        self.journal.holder()
     }
 }

@@ -1,18 +1,16 @@
 //! How the launcher launches.
 
-ghost use Rattle.std.specs.Prelude.{◌≡◌, ◌≢◌, ◌<◌, ◌≤◌, ◌++◌, ℕ, Bool, true, false, List, Some, None, is_some, length, option_to_list};
+ghost use Rattle.std.specs.Prelude.{◌≡◌, ◌≢◌, ◌<◌, ◌≤◌, ℕ, Bool, true, false, List, Some, None, is_some, length, option_to_list};
 ghost use Rattle.okws_base.specs.declared.journal.Entry.{Entry};
 ghost use Rattle.okws_plan.specs.declared.event.LauncherEvent.{LauncherEvent};
 ghost use Rattle.okws_plan.specs.declared.event.LauncherEvent.TheVariants as event;
-ghost use Rattle.okws_base.specs.Turns.{AddsBy};
 ghost use Rattle.monitor_model.specs.Causes.{is_crashed_of};
 ghost use Rattle.monitor_model.specs.Launcher.{begun, fell};
-ghost use Rattle.named_columns.specs.Launched.{by_entry};
 ghost use Rattle.launch_journal.specs.Launches.{Allows, given_up};
 ghost use Rattle.launch_journal.specs.declared.next.Next.TheVariants as next;
 ghost use Rattle.okld_launch.specs.Launchers.{MayLaunch, up_in};
-ghost use Rattle.okld_launch.specs.Entering.{Enters, entries_of, most_entered};
-ghost use Rattle.okld_launch.specs.Deeds.{crash_up, is_one, launch_up, oldest, ups_after};
+ghost use Rattle.okld_launch.specs.Entering.{Enters, most_entered};
+ghost use Rattle.okld_launch.specs.Ups.{crash_up, is_one, launch_up, oldest, ups_after};
 ghost use Rattle.okld_launch.specs.Pieces.{HasBegun, HasBooted, HasCleared, HasInstalled, IsClosed, attempt_ups};
 ghost use Rattle.okld_launch.specs.Going.{Attempts, Closes, GivesUpAgain, Goes, GoesAsked, GoesCrashed, Ends, crashed_as, tended_as};
 
@@ -26,7 +24,6 @@ use cell_locks::named::CellNames;
 use launch_crew::answer::Missed;
 use launch_journal::Next;
 use okws_base::limit::MOST_INCARNATIONS;
-use okws_outer::child::Ended;
 use okws_outer::children::Children;
 use okws_outer::gate::Gate;
 use okws_outer::keeper::Keeper;

@@ -1,8 +1,7 @@
 //! The states of a launch. Each owns the launcher, and the next step consumes it; a step that is refused
 //! hands back the state from which what was installed is revoked.
 
-ghost use Rattle.std.specs.Prelude.{◌≡◌, ◌<◌, ◌≤◌, ℕ, Bool, IfOk, IfErr, OnOk, OnErr, length};
-ghost use Rattle.okws_base.specs.declared.limit.TheConstants.{MOST_INCARNATIONS};
+ghost use Rattle.std.specs.Prelude.{◌≡◌, ◌<◌, ℕ, Bool, IfOk, IfErr};
 ghost use Rattle.okws_plan.specs.declared.event.LauncherEvent.TheVariants as event;
 ghost use Rattle.launch_journal.specs.Launches.{entered};
 ghost use Rattle.launch_crew.specs.Told.{FailsBy};
@@ -38,7 +37,7 @@ impl<N: Staffed, J: Site, C: CellNames, K: Keeper, S: Sink, F: Children> Model
 
     ghost view = { λ a. record { launcher = a.launcher; service = a.service; incarnation = a.incarnation } };
 
-    ghost invariant = { λ a. IsStill N.site (record { launcher = a.launcher; service = a.service; incarnation = a.incarnation }) };
+    ghost invariant = { λ a. IsStill N.site N.children (record { launcher = a.launcher; service = a.service; incarnation = a.incarnation }) };
 }
 
 /// What was there before the incarnation is ended everywhere.
@@ -56,7 +55,7 @@ impl<N: Staffed, J: Site, C: CellNames, K: Keeper, S: Sink, F: Children> Model
 
     ghost view = { λ a. record { launcher = a.launcher; service = a.service; incarnation = a.incarnation } };
 
-    ghost invariant = { λ a. IsRevoked N.site (record { launcher = a.launcher; service = a.service; incarnation = a.incarnation }) };
+    ghost invariant = { λ a. IsRevoked N.site N.children (record { launcher = a.launcher; service = a.service; incarnation = a.incarnation }) };
 }
 
 /// The incarnation stands at each column of the service.
@@ -74,7 +73,7 @@ impl<N: Staffed, J: Site, C: CellNames, K: Keeper, S: Sink, F: Children> Model
 
     ghost view = { λ a. record { launcher = a.launcher; service = a.service; incarnation = a.incarnation } };
 
-    ghost invariant = { λ a. IsInstalled N.site (record { launcher = a.launcher; service = a.service; incarnation = a.incarnation }) };
+    ghost invariant = { λ a. IsInstalled N.site N.children (record { launcher = a.launcher; service = a.service; incarnation = a.incarnation }) };
 }
 
 /// The child of the incarnation was started, and its cell was booted.

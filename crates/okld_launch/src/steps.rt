@@ -20,6 +20,7 @@ ghost use Rattle.launch_crew.specs.Steps.{SameHands};
 ghost use Rattle.launch_crew.specs.Told.{FailsBy, TellsMore};
 ghost use Rattle.okld_launch.specs.Causing.{BrokeOff};
 ghost use Rattle.okld_launch.specs.Children.{StaysAttended};
+ghost use Rattle.okld_launch.specs.Kin.{Unstarted};
 ghost use Rattle.okld_launch.specs.Launchers.{MayFail, MayLaunch, up_in};
 
 use crate::launcher::Launcher;
@@ -63,6 +64,7 @@ impl<N: Staffed, J: Site, C: CellNames, K: Keeper, S: Sink, F: Children> Launche
         ensures under { Under service result self.new.crew }
         ensures fresh { BrokeOff (came_up self.new.crew.sat) self.new.journal.past service result }
         ensures family { self.new.crew.family ≡ self.old.crew.family }
+        ensures unstarted { Unstarted service result N.children self.new.crew.family }
         ensures list { (self.new.crew.own ≡ self.old.crew.own) × (self.new.crew.watch ≡ self.old.crew.watch) }
         ensures running { self.new.crew.running ≡ self.old.crew.running }
         ensures room { self.new.crew.room ≡ self.old.crew.room }
@@ -89,6 +91,7 @@ impl<N: Staffed, J: Site, C: CellNames, K: Keeper, S: Sink, F: Children> Launche
         ensures down { up_in self.new service ≡ 0 }
         ensures under { (k : ℕ) → Under service k self.old.crew → Under service k self.new.crew }
         ensures told { TellsMore self.old.crew.family self.new.crew.family }
+        ensures started { self.new.crew.family.started ≡ self.old.crew.family.started }
         ensures stays { StaysAttended self.old.crew self.new.crew }
         ensures own { self.new.crew.own ≡ with_cleared N.site (of_cells self.new.crew.watch.cells) service self.old.crew.own }
         ensures behind { CellsGo self.old.crew.watch self.new.crew.watch }
@@ -174,6 +177,7 @@ impl<N: Staffed, J: Site, C: CellNames, K: Keeper, S: Sink, F: Children> Launche
         requires later { last_booted (seen_at self.old.crew.watch service) < incarnation }
         requires down { up_in self.old service ≡ 0 }
         requires child { child_of self.old.crew service ≡ None }
+        requires unstarted { Unstarted service incarnation N.children self.old.crew.family }
         requires room { 1 + length N.site.services ≤ self.old.crew.room }
         ensures journal { self.new.journal ≡ self.old.journal }
         ensures ups { self.new.ups ≡ self.old.ups }

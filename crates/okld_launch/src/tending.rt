@@ -1,12 +1,12 @@
 //! How the launcher looks after a service.
 
 ghost use Rattle.std.specs.Prelude.{◌≡◌, ◌<◌, ◌≤◌, ℕ, Bool, true, length};
-ghost use Rattle.okld_launch.specs.Going.{GoesTended};
-ghost use Rattle.okld_launch.specs.Deeds.{ends_after, tend_up, ups_after};
+ghost use Rattle.okld_launch.specs.Going.{GoesIf, GoesTended};
+ghost use Rattle.okld_launch.specs.Ups.{ends_after, launch_up_if, tend_up, ups_after};
 ghost use Rattle.okld_launch.specs.Pieces.{IsClosed};
 ghost use Rattle.okld_launch.specs.Entering.{Enters, most_entered};
 
-use crate::answer::Tended;
+use crate::answer::{Launched, Tended};
 use crate::entered::Entered;
 use crate::launcher::Launcher;
 use crate::launching::tended_as;
@@ -18,7 +18,6 @@ use okws_outer::children::Children;
 use okws_outer::gate::Gate;
 use okws_outer::keeper::Keeper;
 use okws_outer::stream::Sink;
-use okws_plan::event::LauncherEvent;
 use site_locks::locks::Locks;
 use site_locks::named::Site;
 use std::sync::Wait;
@@ -80,5 +79,30 @@ impl<N: Staffed, J: Site, C: CellNames, K: Keeper, S: Sink, F: Children> Launche
             Some(crash),
         );
         (launcher, tended_as(launched), entered)
+    }
+
+    /// Launches a service, unless it is up already.
+    pub fn launch_if_down<R: Wait, G: Gate>(
+        self,
+        rt: &R,
+        gate: &G,
+        locks: &Locks<N, J, K, S>,
+        cells: &CellLocks<N, C, F::Link>,
+        service: u16,
+    ) -> (Self, Option<Launched>, Entered)
+        requires { service < length N.site.services }
+        ensures goes { GoesIf N.site self.journal.holder service self result.1 result.0 }
+        ensures enters { Enters self.journal.holder result.2 self.journal.past result.0.journal.past }
+        ensures few { length result.2 ≤ most_entered N.site }
+        ensures whole { (up ended : ℕ → ℕ → Bool) → IsClosed N.site N.run_seed up ended self → IsClosed N.site N.run_seed (ups_after (launch_up_if result.1) result.2 up) ended result.0 }
+        ensures holder { result.0.journal.holder ≡ self.journal.holder }
+    {
+        match self.up_now(service) {
+            Some(_) => (self, None, Entered::nothing(service)),
+            None => {
+                let (launcher, answer, entered) = self.launch(rt, gate, locks, cells, service);
+                (launcher, Some(answer), entered)
+            }
+        }
     }
 }

@@ -8,7 +8,7 @@ use Rattle.monitor_model.specs.declared.record.Own.TheVariants as own
 use Rattle.monitor_model.specs.Causes.{is_launcher_item}
 use Rattle.monitor_model.specs.Launcher.{begun}
 use Rattle.monitor_model.specs.Worker.{Piece, Launched, Wants}
-use Rattle.okld_launch.specs.Deeds.{entries}
+use Rattle.launch_turns.specs.Deeds.{entries}
 use Rattle.site_worker.specs.Lives.{Life, StarvesWhere}
 use Rattle.worker_lives.specs.Going.{entries_by}
 use Rattle.worker_lives.specs.Listing.{first_item}

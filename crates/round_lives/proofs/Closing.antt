@@ -10,11 +10,10 @@ use Rattle.okws_outer.specs.Families.{Family}
 use Rattle.monitor_model.specs.declared.record.Own.{Own}
 use Rattle.monitor_model.specs.declared.record.Own.TheVariants as own
 use Rattle.monitor_model.specs.Launcher.{begun}
-use Rattle.okld_launch.specs.Deeds.{crash_up, launch_up, launch_up_if, tend_up, ups_after}
+use Rattle.okld_launch.specs.Ups.{crash_up, launch_up, launch_up_if, tend_up, ups_after}
 use Rattle.okld_launch.specs.Entering.{entries_of}
-use Rattle.okld_launch.specs.Going.{Ends, Fell, Goes, GoesAsked, GoesCrashed, GoesTended, Tends, with_entry, with_failed}
+use Rattle.okld_launch.specs.Going.{Ends, Fell, Goes, GoesAsked, GoesCrashed, GoesTended, Tends, with_entry, with_failed, GoesIf}
 use Rattle.okld_launch.specs.Launchers.{LauncherIs, up_in}
-use Rattle.okld_launch.specs.Turns.{GoesIf}
 use Rattle.okld_launch.specs.declared.answer.Launched.{Launched}
 use Rattle.okld_launch.specs.declared.answer.Launched.TheVariants as launched
 use Rattle.okld_launch.specs.declared.answer.Crashed.{Crashed}

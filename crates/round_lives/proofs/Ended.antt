@@ -15,12 +15,13 @@ use Rattle.monitor_model.specs.Causes.{is_crashed_of, is_launcher_item}
 use Rattle.monitor_model.specs.Worker.{Piece, Accepted, Published, Launched, Wants}
 use Rattle.named_columns.specs.Launched.{by_entry}
 use Rattle.turn_lock.specs.Seats.{SeatIs}
-use Rattle.okld_launch.specs.Deeds.{ended_in, ends_after, entries, is_one, oldest, up_in, ups_after}
+use Rattle.launch_turns.specs.Deeds.{ended_in, entries, up_in}
+use Rattle.okld_launch.specs.Ups.{ends_after, is_one, oldest, ups_after}
 use Rattle.okld_launch.specs.Entering.{entries_of}
 use Rattle.okld_launch.specs.Launchers.{LauncherIs}
-use Rattle.okld_launch.specs.Turns.{InTurn}
-use Rattle.okld_launch.specs.declared.deed.Deed.{Deed}
-use Rattle.okld_launch.proofs.Deeds.{ended_stays, entries_grow, up_stays}
+use Rattle.launch_turns.specs.Turns.{InTurn}
+use Rattle.launch_turns.specs.declared.deed.Deed.{Deed}
+use Rattle.launch_turns.proofs.Deeds.{ended_stays, entries_grow, up_stays}
 use Rattle.worker_lives.specs.Ending.{crashes_came, ends_crashed, event_came, event_ends, item_ends, launches_end, piece_came, says_end}
 use Rattle.worker_lives.specs.Listing.{first_item}
 use Rattle.round_lives.specs.Living.{EndsWell}

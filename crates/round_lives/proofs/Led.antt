@@ -12,9 +12,8 @@ use Rattle.monitor_model.specs.Launcher.{begun, is_dead, tries}
 use Rattle.launch_journal.specs.Launches.{Allows, given_up}
 use Rattle.launch_journal.specs.declared.next.Next.TheVariants as next
 use Rattle.okld_launch.specs.Entering.{entries_of}
-use Rattle.okld_launch.specs.Going.{Ends, Fell, Goes, GoesAsked, GoesCrashed, GoesTended, Tends, with_entry, with_failed}
+use Rattle.okld_launch.specs.Going.{Ends, Fell, Goes, GoesAsked, GoesCrashed, GoesIf, GoesTended, Tends, with_entry, with_failed}
 use Rattle.okld_launch.specs.Launchers.{LauncherIs, up_in}
-use Rattle.okld_launch.specs.Turns.{GoesIf}
 use Rattle.okld_launch.specs.declared.answer.Launched.{Launched}
 use Rattle.okld_launch.specs.declared.answer.Launched.TheVariants as launched
 use Rattle.okld_launch.specs.declared.answer.Crashed.{Crashed}

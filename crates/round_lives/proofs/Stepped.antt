@@ -25,7 +25,7 @@ use Rattle.service_cell.specs.declared.answer.Spoken.{Spoken}
 use Rattle.site_cell.specs.Held.{by_event}
 use Rattle.cell_locks.specs.Row.{CellsSeen, seen_at}
 use Rattle.door_worker.specs.Asking.{Asked}
-use Rattle.okld_launch.specs.Deeds.{entries}
+use Rattle.launch_turns.specs.Deeds.{entries}
 use Rattle.okld_launch.specs.declared.answer.Launched.{Launched as Launch}
 use Rattle.site_worker.specs.Handling.{Accepts, Talks, asker_of}
 use Rattle.site_worker.specs.Launching.{Asks, OnlyLauncher, launch_starved, with_launches}

@@ -20,8 +20,8 @@ use Rattle.monitor_model.specs.Tied.{piece_visits}
 use Rattle.monitor_model.specs.Worker.{Outcome, Spoke, Piece, Accepted, Launched, Wants}
 use Rattle.cell_locks.specs.Row.{CellsSeen, seen_at}
 use Rattle.door_worker.specs.Asking.{Asked}
-use Rattle.okld_launch.specs.Deeds.{entries}
-use Rattle.okld_launch.specs.Turns.{TendsBy}
+use Rattle.launch_turns.specs.Deeds.{entries}
+use Rattle.launch_turns.specs.Turns.{TendsBy}
 use Rattle.okld_launch.specs.declared.answer.Crashed.{Crashed}
 use Rattle.site_worker.specs.Handling.{Accepts}
 use Rattle.site_worker.specs.Launching.{Reports, Tends, crash_starved, tend_starved}

@@ -9,9 +9,9 @@ use Rattle.worker_lives.specs.Ending.{crashes_came, launches_end}
 use Rattle.worker_lives.specs.Going.{Sights, GoesOn}
 use Rattle.worker_lives.specs.Listing.{are_told, first_item}
 use Rattle.worker_lives.specs.Waiting.{LeadsSo}
-use Rattle.okld_launch.specs.Deeds.{ended_in, entries, up_in}
+use Rattle.launch_turns.specs.Deeds.{ended_in, entries, up_in}
 use Rattle.okld_launch.specs.declared.answer.Launched.{Launched}
-use Rattle.okld_launch.specs.declared.deed.Deed.{Deed}
+use Rattle.launch_turns.specs.declared.deed.Deed.{Deed}
 use Rattle.site_worker.specs.Launching.{launch_starved}
 use Rattle.site_worker.specs.Lives.{Life, number_of}
 

@@ -6,6 +6,5 @@ pub mod Sitting
 pub mod Dealing
 pub mod Closes
 pub mod Boards
-pub mod Asking
 pub mod Placing
 pub mod Marks

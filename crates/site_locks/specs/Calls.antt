@@ -1,6 +1,5 @@
 -- What a call and a publication are answered in a turn.
-use Rattle.std.specs.Prelude.{◌≡◌, ℕ, Bool, true, List, Some, None}
-use Rattle.okws_base.specs.Turns.{Behind}
+use Rattle.std.specs.Prelude.{◌≡◌, ℕ, Bool, true, List, None}
 use Rattle.okws_base.specs.declared.journal.Entry.{Entry}
 use Rattle.okws_plan.specs.declared.configuration.Config.{Config}
 use Rattle.okws_plan.specs.declared.event.Call.{Call}
@@ -9,8 +8,6 @@ use Rattle.okws_plan.specs.declared.event.Mark.TheVariants.{Done, Fault}
 use Rattle.okws_plan.specs.declared.event.ProxyEvent.{ProxyEvent}
 use Rattle.okws_plan.specs.declared.statement.Answer.{Answer}
 use Rattle.monitor_model.specs.Proxy.{call_answer, call_verdict, call_denial}
-use Rattle.monitor_model.specs.Pubd.{publish_at}
-use Rattle.monitor_model.specs.Seen.{AtPubd}
 use Rattle.monitor_model.specs.declared.verdict.Verdict.{Verdict}
 use Rattle.okws_plan.specs.declared.event.PubdEvent.{PubdEvent}
 use Rattle.okws_plan.specs.declared.event.PubdEvent.TheVariants.{Publish}
@@ -20,7 +17,7 @@ use Rattle.started_call.specs.declared.started.Started.{Started}
 use Rattle.started_call.specs.declared.started.Started.TheVariants.{Ready, Changed, Duplicate, Denied, Failed}
 use Rattle.turn_lock.specs.Seats.{SeatIs}
 use Rattle.named_columns.specs.Held.{Held, entered}
-use Rattle.site_locks.specs.Sat.{Sat, seen_of}
+use Rattle.site_locks.specs.Sat.{Sat}
 use Rattle.site_locks.specs.Steps.{NotesPubd, SeesPubd}
 use Rattle.site_locks.specs.Turns.{Enters, Sees}
 
@@ -60,22 +57,3 @@ Publishes t content (Edition n) before s now = NotesPubd (Publish t content) bef
 Publishes t content NoSuchTemplate before s now = SeesPubd before s now
 Publishes t content TooLong before s now = SeesPubd before s now
 Publishes t content EditionsSpent before s now = SeesPubd before s now
-
--- A publication of template t by what the number has seen: an edition is entered, on what it had seen at its own last entry there and what others entered since; where there is none, that is said of all that it then has seen of pubd, and nothing is entered.
-abbrev pub PublishesAt : ℕ → List ℕ → Published → Sat → Sat → Type 0
-PublishesAt t content (Edition n) s now =
-    (before : List (Entry PubdEvent)) × (Edition n ≡ publish_at before (Some t) content) × AtPubd s.number (Publish t content) (seen_of s) before (seen_of now)
-PublishesAt t content NoSuchTemplate s now = (NoSuchTemplate ≡ publish_at now.pubd (Some t) content) × (seen_of now ≡ seen_of s)
-PublishesAt t content TooLong s now = (TooLong ≡ publish_at now.pubd (Some t) content) × (seen_of now ≡ seen_of s)
-PublishesAt t content EditionsSpent s now = (EditionsSpent ≡ publish_at now.pubd (Some t) content) × (seen_of now ≡ seen_of s)
-
--- The number is the same, what it has seen and drawn on the board, and how many items it may note without memory.
-pub record SameBoard (s now : Sat) : Type 0 where
-  pub number_is : now.number ≡ s.number
-  pub board_is : now.board ≡ s.board
-  pub drawn_is : now.drawn ≡ s.drawn
-  pub spare_is : now.spare ≡ s.spare
-
--- Each past of a journal is a past of it still: nothing went away.
-abbrev pub KeepsPasts : {E : Type 0} → List E → List E → Type 0
-KeepsPasts {E} old new = (past : List E) → Behind past old → Behind past new

@@ -9,7 +9,6 @@ mod at_okd;
 mod at_proxies;
 mod at_pubd;
 pub mod closing;
-pub mod hands;
 pub mod locks;
 mod log_turn;
 pub mod making;

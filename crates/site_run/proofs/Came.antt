@@ -26,9 +26,9 @@ use Rattle.monitor_model.specs.Merged.{log_item, okd_item, proxy_item, pubd_item
 use Rattle.monitor_model.specs.Standing.{okd_grant, proxy_grant, pubd_grant, log_grant}
 use Rattle.named_columns.specs.Launched.{LaunchedBy}
 use Rattle.launch_crew.specs.Listed.{of_cells}
-use Rattle.okld_launch.specs.Deeds.{entries, up_in}
+use Rattle.launch_turns.specs.Deeds.{entries, up_in}
 use Rattle.okld_launch.specs.Pieces.{AreTold, is_of}
-use Rattle.okld_launch.specs.declared.deed.Deed.{Deed}
+use Rattle.launch_turns.specs.declared.deed.Deed.{Deed}
 use Rattle.site_run.specs.Pieced.{EndsWhole}
 use Rattle.site_run.specs.Tied.{has_begun}
 use Rattle.site_run.proofs.Caused.{ups_own}

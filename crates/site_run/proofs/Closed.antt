@@ -23,7 +23,7 @@ use Rattle.cell_locks.specs.Row.{CellsSeen}
 use Rattle.site_locks.specs.Closing.{SomeIs}
 use Rattle.site_locks.specs.Sat.{Sat}
 use Rattle.turn_lock.specs.Seats.{TurnIs, SeatIs, AllRest, SomeHas}
-use Rattle.okld_launch.specs.declared.deed.Deed.{Deed}
+use Rattle.launch_turns.specs.declared.deed.Deed.{Deed}
 use Rattle.site_run.specs.Rows.{ChairsAre, AreChairs}
 use Rattle.site_run.specs.Places.{PlacesAre}
 use Rattle.site_run.specs.Closing.{WritesLog}

@@ -20,8 +20,8 @@ use Rattle.worker_lives.proofs.Waiting.{leads_blank}
 use Rattle.site_run.specs.Places.{AllIdle}
 use Rattle.site_run.specs.Rooms.{AreOffered}
 use Rattle.site_worker.specs.declared.worker.TheConstants.{TURN_ITEMS}
-use Rattle.okld_launch.specs.Deeds.{by_deed}
-use Rattle.okld_launch.specs.declared.deed.Deed.{Deed}
+use Rattle.launch_turns.specs.Deeds.{by_deed}
+use Rattle.launch_turns.specs.declared.deed.Deed.{Deed}
 use Rattle.site_run.specs.Rows.{AreChairs, spare_first}
 use Rattle.site_run.specs.Opening.{items_first, seen_first}
 use Rattle.site_run.specs.Tied.{AreUnused, OnlyLaunches}

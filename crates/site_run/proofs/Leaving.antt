@@ -37,9 +37,9 @@ use Rattle.site_locks.specs.Closing.{AllGrown, AllSaw, RowGrown, RowsGrown}
 use Rattle.site_locks.specs.Sat.{Sat, seen_of}
 use Rattle.launch_crew.specs.Recorded.{AreOwn}
 use Rattle.site_worker.specs.Lives.{Life}
-use Rattle.okld_launch.specs.Deeds.{by_deed, ended_in, entries, up_in}
-use Rattle.okld_launch.specs.declared.deed.Deed.{Deed}
-use Rattle.okld_launch.proofs.Deeds.{ended_stays, entries_grow}
+use Rattle.launch_turns.specs.Deeds.{by_deed, ended_in, entries, up_in}
+use Rattle.launch_turns.specs.declared.deed.Deed.{Deed}
+use Rattle.launch_turns.proofs.Deeds.{ended_stays, entries_grow}
 use Rattle.site_run.proofs.Once.{ups_same}
 use Rattle.site_run.proofs.Seating.{push_length}
 use Rattle.site_run.proofs.Telling.{none_behind}

@@ -25,3 +25,4 @@ pub mod Pieced
 pub mod Remaining
 pub mod Taken
 pub mod Waiting
+pub mod Faulted

@@ -14,13 +14,15 @@ use Rattle.monitor_model.specs.declared.record.Own.TheVariants as own
 use Rattle.monitor_model.specs.Launcher.{begun}
 use Rattle.monitor_model.specs.Merged.{launcher_item}
 use Rattle.named_columns.specs.Launched.{by_entry}
-use Rattle.okld_launch.specs.Deeds.{entries, launch_up_if, up_in, ups_after}
+use Rattle.launch_turns.specs.Deeds.{entries, up_in}
+use Rattle.okld_launch.specs.Ups.{launch_up_if, ups_after}
 use Rattle.okld_launch.specs.Entering.{entries_of}
 use Rattle.okld_launch.specs.Launchers.{LauncherIs}
-use Rattle.okld_launch.specs.Turns.{GoesIf, InTurn}
+use Rattle.launch_turns.specs.Turns.{InTurn}
+use Rattle.okld_launch.specs.Going.{GoesIf}
 use Rattle.okld_launch.specs.declared.answer.Launched.{Launched}
-use Rattle.okld_launch.specs.declared.deed.Deed.{Deed}
-use Rattle.okld_launch.proofs.Deeds.{up_stays}
+use Rattle.launch_turns.specs.declared.deed.Deed.{Deed}
+use Rattle.launch_turns.proofs.Deeds.{up_stays}
 use Rattle.worker_lives.specs.Ending.{launches_end}
 use Rattle.worker_lives.specs.Waiting.{LeadsSo, owes, turn_leads}
 use Rattle.worker_lives.proofs.Others.{foreign_of}

@@ -12,10 +12,11 @@ use Rattle.okws_plan.specs.declared.event.LauncherEvent.{LauncherEvent}
 use Rattle.okws_plan.specs.declared.event.LauncherEvent.TheVariants as event
 use Rattle.monitor_model.specs.Launcher.{LauncherLaw, begun, is_dead, may_enter, tries}
 use Rattle.monitor_model.specs.Launches.{is_begun_of}
-use Rattle.okld_launch.specs.Deeds.{entries, is_one, newest, up_in}
+use Rattle.launch_turns.specs.Deeds.{entries, up_in}
+use Rattle.okld_launch.specs.Ups.{is_one, newest}
 use Rattle.okld_launch.specs.Entering.{entries_of}
-use Rattle.okld_launch.specs.declared.deed.Deed.{Deed}
-use Rattle.okld_launch.proofs.Deeds.{entries_both}
+use Rattle.launch_turns.specs.declared.deed.Deed.{Deed}
+use Rattle.launch_turns.proofs.Deeds.{entries_both}
 use Rattle.site_run.specs.Tied.{has_begun}
 
 none_begun : {A : Type 0} → false ≡ true → A

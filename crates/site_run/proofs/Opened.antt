@@ -15,13 +15,13 @@ use Rattle.monitor_model.specs.declared.record.Own.TheVariants as own
 use Rattle.monitor_model.specs.Launcher.{begun}
 use Rattle.monitor_model.specs.Launches.{is_begun_of}
 use Rattle.launch_journal.specs.Launches.{given_up}
-use Rattle.okld_launch.specs.Deeds.{by_deed, entries, is_one, launch_up, launch_up_if, newest, up_in}
-use Rattle.okld_launch.specs.declared.deed.Deed.{Deed}
+use Rattle.launch_turns.specs.Deeds.{by_deed, entries, up_in}
+use Rattle.okld_launch.specs.Ups.{is_one, launch_up, launch_up_if, newest}
+use Rattle.launch_turns.specs.declared.deed.Deed.{Deed}
 use Rattle.okld_launch.specs.Entering.{Enters, entries_of, failed_from}
-use Rattle.okld_launch.specs.Going.{Ends, Fell, Goes, with_begun, with_entry}
-use Rattle.okld_launch.specs.Launchers.{LauncherIs, TriedAreBegun}
-use Rattle.okld_launch.specs.Launchers.{up_in as up_now}
-use Rattle.okld_launch.specs.Turns.{GoesIf, InTurn}
+use Rattle.okld_launch.specs.Going.{Ends, Fell, Goes, with_begun, with_entry, GoesIf}
+use Rattle.okld_launch.specs.Launchers.{LauncherIs, TriedAreBegun, up_in as up_now}
+use Rattle.launch_turns.specs.Turns.{InTurn}
 use Rattle.okld_launch.specs.declared.answer.Launched.{Launched}
 use Rattle.okld_launch.specs.declared.answer.Launched.TheVariants as launched
 use Rattle.okld_launch.proofs.Counting.{fell_begun, fell_enters, fell_few}

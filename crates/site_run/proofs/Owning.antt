@@ -47,8 +47,8 @@ use Rattle.site_worker.specs.Lives.{Life, Sees, Starves, number_of}
 use Rattle.site_worker.specs.Steering.{Publishes}
 use Rattle.named_columns.specs.Launched.{by_entry}
 use Rattle.turn_lock.specs.Seats.{SeatIs}
-use Rattle.okld_launch.specs.Deeds.{entries}
-use Rattle.okld_launch.specs.declared.deed.Deed.{Deed}
+use Rattle.launch_turns.specs.Deeds.{entries}
+use Rattle.launch_turns.specs.declared.deed.Deed.{Deed}
 use Rattle.site_run.proofs.Beside.{beside, okd_beside, pubd_beside, dialog_beside}
 use Rattle.site_run.proofs.Launched.{none_taken, none_held, rest_taken, rest_held, launches_taken, entries_own}
 use Rattle.site_run.proofs.Leaving.{cell_at, cell_went, went}

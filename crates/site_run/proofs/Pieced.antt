@@ -1,34 +1,38 @@
 -- What the launcher made of what it had seen of the cells is what it made by the record's cells.
-use Rattle.std.proofs.Common.{◌≡◌, ◌≢◌, ◌∙◌, ⊎_elim, ℕ, zero, suc, ◌+◌, ◌<◌, ◌≤◌, Bool, List, [], ◌∷◌, ◌++◌, length, refl, sym, ap, subst, arith}
-use Rattle.std.specs.Prelude.{count_by, slice_index_or, IsTrue}
-use Rattle.std.specs.List.{list_all}
-use Rattle.std.proofs.lemmas.Bool.{cases_eq}
+use Rattle.std.proofs.Common.{◌≡◌, ◌≢◌, ◌∙◌, ⊎_elim, ℕ, zero, suc, ◌+◌, ◌<◌, ◌≤◌, Bool, true, false, List, [], ◌∷◌, ◌++◌, length, refl, sym, ap, subst, arith}
+use Rattle.std.specs.Prelude.{◌||◌, None, count_by, filter, slice_index_or, IsTrue}
+use Rattle.std.specs.List.{list_all, list_any}
+use Rattle.std.proofs.lemmas.Bool.{and_parts, cases_eq, false≢true}
 use Rattle.okws_base.specs.Turns.{Behind}
 use Rattle.okws_outer.specs.Families.{Family}
 use Rattle.okws_plan.specs.declared.configuration.Config.{Config}
 use Rattle.monitor_model.specs.declared.record.CellEvent.{CellEvent}
 use Rattle.monitor_model.specs.declared.record.Own.{Own}
+use Rattle.monitor_model.specs.declared.record.Own.TheVariants as own
 use Rattle.monitor_model.specs.declared.record.Record.{Record}
 use Rattle.monitor_model.specs.declared.sent.Sent.{Sent}
 use Rattle.monitor_model.specs.Cell.{CellLaw}
 use Rattle.monitor_model.specs.Causes.{has_up}
 use Rattle.monitor_model.specs.Launches.{IsEnding, all_pieces, attempts, found_at, is_launch_at, is_launch_event, is_retired, retires, retired_due}
-use Rattle.monitor_model.specs.Merged.{cell_past}
+use Rattle.monitor_model.specs.Merged.{cell_past, is_at_cell}
 use Rattle.monitor_model.specs.Placed.{EachFrom}
 use Rattle.cell_locks.specs.Closing.{AllCellsGrow, CellsGrow}
 use Rattle.cell_locks.specs.Row.{CellsSeen, seen_at}
 use Rattle.site_locks.specs.Sat.{Sat}
-use Rattle.launch_crew.specs.Listed.{of_cells}
+use Rattle.launch_crew.specs.Crews.{CrewIs, running_at}
+use Rattle.launch_crew.specs.Listed.{EndsPieces, of_cells}
 use Rattle.launch_crew.specs.Recorded.{AreOwn}
 use Rattle.launch_crew.proofs.Ending.{all_retired, each_from}
 use Rattle.launch_crew.proofs.Found.{Goes, Within, counted_append, found_none, found_same, launches_counted, pieces_stay}
 use Rattle.okld_launch.specs.Heard.{ChildrenAreTold}
-use Rattle.okld_launch.specs.Kin.{AreKin}
+use Rattle.okld_launch.specs.Kin.{AreKin, is_boot}
 use Rattle.okld_launch.specs.Pieces.{AreTold}
-use Rattle.okld_launch.proofs.Heard.{children_told}
+use Rattle.okld_launch.proofs.Boots.{BootsSame}
+use Rattle.okld_launch.proofs.Heard.{boots_are, children_told}
 use Rattle.site_run.proofs.Leaving.{cell_at, cells_pop}
 use Rattle.site_run.specs.Journals.{AllCells}
 use Rattle.site_run.specs.Pieced.{EndsWhole, LaunchesAreWhole}
+use Rattle.site_run.specs.Tied.{LaunchesAreOwn}
 
 -- what holds of a place holds there
 each_at : {A : Type 0} (Q : ℕ → Type 0) (n : ℕ) (xs : List A) → EachFrom (λ s x. Q s) n xs → (m : ℕ) → m < length xs → Q (n + m)
@@ -130,15 +134,38 @@ launches_whole C seed n R up s cs every c ups is here i o h =
 
 -- ---- what the children were given
 
-cell_law : (C : Config) (seed : List ℕ) (m : ℕ) (Js : List (List CellEvent)) (xs : List (List Sent)) → AllCells C seed m Js xs → (s : ℕ) → CellLaw (slice_index_or Js s [])
+pub cell_law : (C : Config) (seed : List ℕ) (m : ℕ) (Js : List (List CellEvent)) (xs : List (List Sent)) → AllCells C seed m Js xs → (s : ℕ) → CellLaw (slice_index_or Js s [])
 cell_law C seed m [] xs h s = tt
 cell_law C seed m (J ∷ Js) [] h s = absurd h
 cell_law C seed m (J ∷ Js) (x ∷ xs) h zero = h.0
 cell_law C seed m (J ∷ Js) (x ∷ xs) h (suc s) = cell_law C seed (suc m) Js xs h.2 s
 
--- the launcher's seats saw each cell as it was when it was left empty at last
-pub children_heard : (C : Config) (seed : List ℕ) (first now : Family) (n : ℕ) (R : Record) (cs every : List CellsSeen) (c : CellsSeen) → every ≡ cs ++ c ∷ [] → c.number ≡ n → AllCellsGrow n every R.cells → AllCells C seed 0 R.cells R.sents → AreKin C seed first c [] now
-    → ChildrenAreTold C seed R first now
-children_heard C seed first now n R cs every c is here i laws kin =
-    let cells = subst (λ k. CellsGrow n k c.cells R.cells) here (cells_pop n cs c R.cells (subst (λ xs. AllCellsGrow n xs R.cells) is i)).1 in
-    children_told C seed first now c [] R (λ s. refl) (λ s. cell_law C seed 0 R.cells R.sents laws s) (λ u. let g = cell_at n n c.cells R.cells cells u in (g.0, g.2)) kin
+-- what retires the cells at last boots nothing
+retired_boots : (s k : ℕ) (item : Own) → is_retired item ≡ true → is_boot s k item ≡ false
+retired_boots s k (own.Retired t) h = refl
+retired_boots s k (own.Boot t j) h = absurd (false≢true h)
+retired_boots s k (own.Okd e) h = absurd (false≢true h)
+retired_boots s k (own.Proxy p e) h = absurd (false≢true h)
+retired_boots s k (own.Pubd e) h = absurd (false≢true h)
+retired_boots s k (own.Oklogd e) h = absurd (false≢true h)
+retired_boots s k (own.Launcher e) h = absurd (false≢true h)
+retired_boots s k (own.Dialog t) h = absurd (false≢true h)
+retired_boots s k (own.Missed t wanted is) h = absurd (false≢true h)
+retired_boots s k own.NoMemory h = absurd (false≢true h)
+
+front_boots : (s k : ℕ) (ending old : List Own) → list_all is_retired ending ≡ true → list_any (is_boot s k) (ending ++ old) ≡ list_any (is_boot s k) old
+front_boots s k [] old h = refl
+front_boots s k (item ∷ ending) old h =
+    let both = and_parts (is_retired item) (list_all is_retired ending) h in
+    ap (λ (b : Bool). b || list_any (is_boot s k) (ending ++ old)) (retired_boots s k item both.0) ∙ front_boots s k ending old both.1
+
+pub ending_same : (cells : List (List CellEvent)) (old new : List Own) → EndsPieces cells old new → BootsSame old new
+ending_same cells old new h s k = ap (list_any (is_boot s k)) h.own_is ∙ front_boots s k h.ending old h.ends.retireds
+
+-- the launcher's seats saw each cell as it was when it was left empty at last, and its list has just the Boots of the cells
+pub children_heard : (C : Config) (seed : List ℕ) (first : Family) (n : ℕ) (R : Record) (cs every : List CellsSeen) (c : CrewIs) → ((s : ℕ) → running_at c.running s ≡ None) → c.own ≡ R.launches → every ≡ cs ++ c.watch ∷ [] → c.watch.number ≡ n
+    → AllCellsGrow n every R.cells → AllCells C seed 0 R.cells R.sents → LaunchesAreOwn n R → AreKin C seed first R.launcher c → ChildrenAreTold C seed R first c.family
+children_heard C seed first n R cs every c none own_is is here i laws launched kin =
+    let cells = subst (λ k. CellsGrow n k c.watch.cells R.cells) here (cells_pop n cs c.watch R.cells (subst (λ xs. AllCellsGrow n xs R.cells) is i)).1 in
+    children_told C seed first c R none (λ s. cell_law C seed 0 R.cells R.sents laws s) (λ u. let g = cell_at n n c.watch.cells R.cells cells u in (g.0, g.2))
+    (λ s k. boots_are n s k R c.own (launched.own.cells s ∙ ap (filter (is_at_cell s)) (sym own_is))) kin

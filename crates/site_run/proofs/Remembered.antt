@@ -26,14 +26,14 @@ use Rattle.door_worker.specs.Asking.{Asked}
 use Rattle.admin_console.specs.declared.controls.Publishing.{Publishing}
 use Rattle.admin_console.specs.declared.controls.Publishing.TheVariants as publishing
 use Rattle.monitor_model.specs.Causes.{has_up}
-use Rattle.okld_launch.specs.Deeds.{entries, up_in}
-use Rattle.okld_launch.proofs.Deeds.{entries_behind, entries_both}
+use Rattle.launch_turns.specs.Deeds.{entries, up_in}
+use Rattle.launch_turns.proofs.Deeds.{entries_behind, entries_both}
 use Rattle.site_worker.specs.Handling.{Accepts, Talks, asker_of}
 use Rattle.site_worker.specs.Launching.{TakesTurn}
 use Rattle.site_worker.specs.Lives.{Life, Starves, number_of}
 use Rattle.site_worker.specs.Steering.{Publishes}
 use Rattle.turn_lock.specs.Seats.{SeatIs}
-use Rattle.okld_launch.specs.declared.deed.Deed.{Deed}
+use Rattle.launch_turns.specs.declared.deed.Deed.{Deed}
 use Rattle.site_run.proofs.Beside.{beside, dialog_beside}
 use Rattle.site_run.proofs.Once.{begun_later, ups_same}
 use Rattle.site_run.proofs.Owning.{Owns, owns_kept, owns_nothing}

@@ -25,11 +25,11 @@ use Rattle.admin_console.specs.declared.step.Stepped.{Stepped}
 use Rattle.admin_console.specs.declared.step.Stepped.TheVariants as stepped
 use Rattle.service_cell.specs.declared.answer.Spoken.{Spoken}
 use Rattle.service_cell.specs.declared.answer.Spoken.TheVariants as spoken
-use Rattle.okld_launch.specs.Deeds.{entries}
+use Rattle.launch_turns.specs.Deeds.{entries}
 use Rattle.okld_launch.specs.Launchers.{LauncherIs}
-use Rattle.okld_launch.specs.Turns.{InTurn}
+use Rattle.launch_turns.specs.Turns.{InTurn}
 use Rattle.okld_launch.specs.declared.answer.Launched.{Launched}
-use Rattle.okld_launch.proofs.Deeds.{entries_grow}
+use Rattle.launch_turns.proofs.Deeds.{entries_grow}
 use Rattle.site_worker.specs.Commands.{Commands, Oversees, StepsAt}
 use Rattle.site_worker.specs.Handling.{Accepts, Follows, Goes, Handles, Talks}
 use Rattle.site_worker.specs.Launching.{Asks, OnlyLauncher, Reports, TakesTurn, Tends}

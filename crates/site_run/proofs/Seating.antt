@@ -7,7 +7,7 @@ use Rattle.turn_lock.specs.Seats.{TurnIs, SeatIs}
 use Rattle.cell_locks.specs.Row.{CellsSeen}
 use Rattle.site_locks.specs.Sat.{Sat}
 use Rattle.site_worker.specs.Lives.{Life}
-use Rattle.okld_launch.specs.declared.deed.Deed.{Deed}
+use Rattle.launch_turns.specs.declared.deed.Deed.{Deed}
 use Rattle.site_run.specs.Rows.{ChairsAre, IsChair, AreChairs, Seated, WorksAs}
 
 -- a list with one more item at its end is one longer

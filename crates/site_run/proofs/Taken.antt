@@ -24,10 +24,10 @@ use Rattle.launch_crew.specs.Recorded.{AreOwn}
 use Rattle.launch_crew.proofs.Owns.{sees}
 use Rattle.site_locks.specs.Closing.{AllGrown}
 use Rattle.site_locks.specs.Sat.{Sat}
-use Rattle.okld_launch.specs.Deeds.{by_deed, up_in}
-use Rattle.okld_launch.specs.Standing.{BootsStand}
-use Rattle.okld_launch.specs.declared.deed.Deed.{Deed}
-use Rattle.okld_launch.proofs.Deeds.{up_stays}
+use Rattle.launch_turns.specs.Deeds.{by_deed, up_in}
+use Rattle.launch_turns.specs.Standing.{BootsStand}
+use Rattle.launch_turns.specs.declared.deed.Deed.{Deed}
+use Rattle.launch_turns.proofs.Deeds.{up_stays}
 use Rattle.site_run.specs.Meeting.{AllBooted, AllGo, MeetsCell, SeesCells}
 use Rattle.site_run.proofs.Leaving.{went}
 

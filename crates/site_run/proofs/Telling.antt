@@ -7,8 +7,8 @@ use Rattle.turn_lock.specs.Rows.{RestsAt}
 use Rattle.turn_lock.specs.Seats.{TurnIs, SeatIs}
 use Rattle.turn_lock.proofs.Grows.{grows_on, of-grows}
 use Rattle.turn_lock.proofs.Views.{of-append}
-use Rattle.okld_launch.specs.Deeds.{by_deed}
-use Rattle.okld_launch.specs.declared.deed.Deed.{Deed}
+use Rattle.launch_turns.specs.Deeds.{by_deed}
+use Rattle.launch_turns.specs.declared.deed.Deed.{Deed}
 use Rattle.site_run.specs.Opening.{AllSeeMore, AreQuiet, AreTurns, SeesMore, seen_first}
 
 abbrev Turns : Type 0

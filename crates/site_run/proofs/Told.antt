@@ -14,9 +14,9 @@ use Rattle.worker_lives.proofs.Waiting.{leads_beside}
 use Rattle.round_lives.proofs.Ended.{ends_both}
 use Rattle.cell_locks.specs.Row.{CellsSeen}
 use Rattle.site_locks.specs.Sat.{Sat}
-use Rattle.okld_launch.specs.Deeds.{by_deed, entries, up_in}
-use Rattle.okld_launch.specs.declared.deed.Deed.{Deed}
-use Rattle.okld_launch.proofs.Deeds.{entries_grow, up_stays}
+use Rattle.launch_turns.specs.Deeds.{by_deed, entries, up_in}
+use Rattle.launch_turns.specs.declared.deed.Deed.{Deed}
+use Rattle.launch_turns.proofs.Deeds.{entries_grow, up_stays}
 use Rattle.site_run.specs.Opening.{AllSeeMore, AreQuiet, AreTurns, IsAlone, IsOpened, Opening, Opens, items_first, seen_first}
 use Rattle.site_run.specs.Rows.{AreChairs}
 use Rattle.site_run.specs.Tied.{AreUnused, OnlyLaunches}

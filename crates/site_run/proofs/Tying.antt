@@ -17,7 +17,7 @@ use Rattle.cell_locks.specs.Row.{CellsSeen}
 use Rattle.site_locks.specs.Made.{fresh}
 use Rattle.site_locks.specs.Sat.{Sat, seen_of}
 use Rattle.site_worker.specs.Lives.{Life, life_of}
-use Rattle.okld_launch.specs.declared.deed.Deed.{Deed}
+use Rattle.launch_turns.specs.declared.deed.Deed.{Deed}
 use Rattle.site_run.specs.Rows.{ChairsAre}
 use Rattle.site_run.specs.Tied.{IsSilent, IsWaitingChair, OnlyLaunches, AreUnused, AreWaiting, IsChairOf, AreChairsOf, SeatsOf, MoreOf, LifeBegins, AllBegin, LifeEnds, AllEnd}
 

@@ -17,9 +17,9 @@ use Rattle.cell_locks.specs.Row.{CellsSeen, seen_at}
 use Rattle.cell_locks.proofs.Onlys.{new_at}
 use Rattle.site_locks.specs.Made.{fresh}
 use Rattle.site_locks.specs.Sat.{Sat}
-use Rattle.okld_launch.specs.Deeds.{by_deed}
-use Rattle.okld_launch.specs.Standing.{UpsStand}
-use Rattle.okld_launch.specs.declared.deed.Deed.{Deed}
+use Rattle.launch_turns.specs.Deeds.{by_deed}
+use Rattle.launch_turns.specs.Standing.{UpsStand}
+use Rattle.launch_turns.specs.declared.deed.Deed.{Deed}
 use Rattle.site_run.specs.Meeting.{AllBooted, AllGo, IsShown, MeetsOkd, SeesCells}
 use Rattle.site_run.specs.Opening.{IsAlone, items_first, seen_first}
 use Rattle.site_run.specs.Rows.{AreChairs, ChairsAre}

@@ -10,9 +10,9 @@ use Rattle.named_columns.specs.Launched.{by_entry}
 use Rattle.site_cell.specs.Held.{by_event}
 use Rattle.cell_locks.specs.Row.{CellsSeen, OnlyAt, seen_at}
 use Rattle.site_locks.specs.Sat.{Sat}
-use Rattle.okld_launch.specs.Deeds.{by_deed}
-use Rattle.okld_launch.specs.Standing.{BootsStand, UpsStand}
-use Rattle.okld_launch.specs.declared.deed.Deed.{Deed}
+use Rattle.launch_turns.specs.Deeds.{by_deed}
+use Rattle.launch_turns.specs.Standing.{BootsStand, UpsStand}
+use Rattle.launch_turns.specs.declared.deed.Deed.{Deed}
 use Rattle.site_run.specs.Opening.{seen_first}
 use Rattle.site_run.specs.Rows.{ChairsAre}
 

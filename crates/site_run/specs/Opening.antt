@@ -9,11 +9,11 @@ use Rattle.monitor_model.specs.declared.record.Own.TheVariants as own
 use Rattle.turn_lock.specs.Rows.{RestsAt}
 use Rattle.turn_lock.specs.Seats.{TurnIs, SeatIs}
 use Rattle.site_locks.specs.Sat.{Sat}
-use Rattle.okld_launch.specs.Deeds.{by_deed, entries, up_in}
+use Rattle.launch_turns.specs.Deeds.{by_deed, entries, up_in}
 use Rattle.okld_launch.specs.Entering.{entries_of, failed_from}
 use Rattle.okld_launch.specs.declared.answer.Launched.{Launched}
 use Rattle.okld_launch.specs.declared.answer.Launched.TheVariants as launched
-use Rattle.okld_launch.specs.declared.deed.Deed.{Deed}
+use Rattle.launch_turns.specs.declared.deed.Deed.{Deed}
 use Rattle.site_run.specs.Rows.{ChairsAre}
 
 -- Memory was refused to a launch.

@@ -1,5 +1,5 @@
 -- That the launcher's list of a run is made of whole pieces.
-use Rattle.std.specs.Prelude.{◌≡◌, ℕ, Bool, List, ◌++◌}
+use Rattle.std.specs.Prelude.{◌≡◌, ℕ, Bool, List, [], ◌++◌}
 use Rattle.std.specs.List.{list_any}
 use Rattle.okws_base.specs.declared.journal.Entry.{Entry}
 use Rattle.okws_plan.specs.declared.configuration.Config.{Config}
@@ -9,10 +9,18 @@ use Rattle.monitor_model.specs.declared.record.Own.{Own}
 use Rattle.monitor_model.specs.declared.record.Record.{Record}
 use Rattle.monitor_model.specs.Causes.{has_up}
 use Rattle.monitor_model.specs.Launches.{Fate, IsEnding, all_pieces, attempts}
+use Rattle.okws_outer.specs.Families.{Family}
 use Rattle.okws_outer.specs.declared.children.ChildEnd.{ChildEnd}
+use Rattle.cell_locks.specs.Row.{CellsSeen}
+use Rattle.launch_crew.specs.Crews.{CrewIs}
 use Rattle.launch_crew.specs.Ended.{ended_at}
 use Rattle.launch_crew.specs.Listed.{EndsPieces}
+use Rattle.site_locks.specs.Sat.{Sat}
 use Rattle.okld_launch.specs.Pieces.{AreTold, IsWhole}
+
+-- A crew that was ended, of which no child runs.
+abbrev pub ended_crew : Sat → CellsSeen → Family → List Own → CrewIs
+ended_crew sat watch family items = record { sat = sat; watch = watch; running = []; family = family; own = items; room = 0 }
 
 -- A launcher, of whose journal these are the entries, and whose number has seen this of the cells, made whole pieces, and then one Retired for each cell that had an incarnation.
 pub record EndsWhole (C : Config) (seed : List ℕ) (up : ℕ → ℕ → Bool) (J : List (Entry LauncherEvent)) (cells : List (List CellEvent)) (items : List Own) : Type 0 where

@@ -4,7 +4,7 @@ use Rattle.okws_plan.specs.declared.configuration.Config.{Config}
 use Rattle.launch_journal.specs.Launches.{Launches}
 use Rattle.live_board.specs.Seats.{BoardIs, AreRising}
 use Rattle.live_board.specs.Seats.{SeatIs as Place}
-use Rattle.okld_launch.specs.Launchers.{ArePapers}
+use Rattle.launch_turns.specs.Papers.{ArePapers}
 
 -- An empty vector, of this length and this capacity, has room for n items.
 pub record HasRoom (n len capacity : ℕ) : Type 0 where

@@ -5,7 +5,7 @@ use Rattle.turn_lock.specs.Seats.{TurnIs, SeatIs}
 use Rattle.cell_locks.specs.Row.{CellsSeen}
 use Rattle.site_locks.specs.Sat.{Sat}
 use Rattle.site_worker.specs.Lives.{Life, number_of}
-use Rattle.okld_launch.specs.declared.deed.Deed.{Deed}
+use Rattle.launch_turns.specs.declared.deed.Deed.{Deed}
 
 -- The seats of numbers in a row, and for how many there is room.
 pub record ChairsAre : Type 0 where

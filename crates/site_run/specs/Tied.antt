@@ -32,8 +32,8 @@ use Rattle.site_locks.specs.Sat.{Sat, seen_of}
 use Rattle.site_worker.specs.Lives.{Life, number_of}
 use Rattle.worker_lives.specs.Ending.{launches_end}
 use Rattle.worker_lives.specs.Waiting.{LeadsSo}
-use Rattle.okld_launch.specs.Deeds.{by_deed, ended_in, entries, up_in}
-use Rattle.okld_launch.specs.declared.deed.Deed.{Deed}
+use Rattle.launch_turns.specs.Deeds.{by_deed, ended_in, entries, up_in}
+use Rattle.launch_turns.specs.declared.deed.Deed.{Deed}
 use Rattle.site_run.specs.Rows.{ChairsAre}
 
 -- The event begins a launch, or tells how one ended.

@@ -1,13 +1,15 @@
 //! Closing the locks of a run's columns, cells and launcher.
 
 ghost use Rattle.std.specs.List.{list_any};
-ghost use Rattle.std.specs.Prelude.{◌≡◌, ◌≤◌, ◌<◌, ◌+◌, ℕ, IsTrue, List, [], length, map, reverse, slice_index, vec_len, vec_capacity};
+ghost use Rattle.std.specs.Prelude.{◌≡◌, ◌≤◌, ◌<◌, ◌+◌, ℕ, IsTrue, List, [], false, length, map, reverse, slice_index, vec_len, vec_capacity};
 ghost use Rattle.okws_base.specs.Turns.{of, Behind};
 ghost use Rattle.cell_locks.specs.Closing.{AllCellsGrow, HasNumber};
+ghost use Rattle.cell_locks.specs.Row.{link_at, seen_at};
 ghost use Rattle.launch_crew.specs.Coming.{came_up};
 ghost use Rattle.launch_crew.specs.Ended.{ended_at};
 ghost use Rattle.launch_crew.specs.Recorded.{AreOwn};
 ghost use Rattle.log_daemon.specs.Stopped.{is_stopped};
+ghost use Rattle.monitor_model.specs.Cell.{incarnation};
 ghost use Rattle.monitor_model.specs.Columns.{OkdLaw, PubdLaw, LogLaw};
 ghost use Rattle.monitor_model.specs.Launcher.{LauncherLaw, begun};
 ghost use Rattle.monitor_model.specs.Standing.{okd_grant, pubd_grant, log_grant};
@@ -15,10 +17,10 @@ ghost use Rattle.named_columns.specs.Counts.{capped, accepts, ups, publications,
 ghost use Rattle.named_columns.specs.Held.{HeldProxy};
 ghost use Rattle.named_columns.specs.Launched.{by_entry, LaunchedBy};
 ghost use Rattle.okld_launch.specs.Causing.{AllCaused};
-ghost use Rattle.okld_launch.specs.Deeds.{by_deed, ended_in, entries, up_in};
-ghost use Rattle.okld_launch.specs.Failures.{FailuresAreTold};
+ghost use Rattle.launch_turns.specs.Deeds.{by_deed, ended_in, entries, up_in};
+ghost use Rattle.okld_launch.specs.Failures.{FailuresAreTold, FaultsAreTold};
 ghost use Rattle.okld_launch.specs.Kin.{AreKin};
-ghost use Rattle.site_run.specs.Pieced.{EndsWhole};
+ghost use Rattle.site_run.specs.Pieced.{EndsWhole, ended_crew};
 ghost use Rattle.site_cell.specs.Held.{by_event};
 ghost use Rattle.site_locks.specs.Closing.{AllSaw, SomeIs};
 ghost use Rattle.site_locks.specs.Sat.{RiseFrom};
@@ -35,6 +37,8 @@ use cell_locks::locks::CellLocks;
 use cell_locks::named::CellNames;
 use cell_locks::seats::CellSeats;
 use launch_crew::crew::Stopped;
+use launch_turns::deed::Deed;
+use launch_turns::resting::Resting;
 use log_daemon::WriteOut;
 use monitor_model::record::{CellEvent, Own};
 use monitor_model::sent::Sents;
@@ -43,9 +47,7 @@ use named_columns::named::Backed;
 use named_columns::okd::SiteOkd;
 use named_columns::proxy::SiteProxy;
 use named_columns::pubd::SitePubd;
-use okld_launch::deed::Deed;
 use okld_launch::named::Staffed;
-use okld_launch::resting::Resting;
 use okws_base::journal::{Entry, Past};
 use okws_base::told::Told;
 use okws_outer::children::Children;
@@ -310,8 +312,9 @@ pub(crate) struct LauncherEnd<N: Staffed, J: Site, C: CellNames, K: Keeper, S: S
 }
 
 /// Ends the launcher's lock by the workers' seats at it, and stops and finishes all children, of which a fault
-/// was told for each Failed of the launcher's journal. The launcher's list is whole pieces, and then what
-/// retired the cells. Its seat at okd takes in this note.
+/// was told for each Failed of the launcher's journal and for each dialog that a fault of its link ended: no
+/// link is in. The launcher's list is whole pieces, and then what retired the cells. Its seat at okd takes in
+/// this note.
 pub(crate) fn end_launcher<
     R: Wait,
     N: Staffed,
@@ -342,7 +345,9 @@ pub(crate) fn end_launcher<
     ensures whole { EndsWhole N.site N.run_seed (up_in result.deeds.past) result.past result.stopped.cells.cells result.stopped.own }
     ensures ended { (s k : ℕ) → IsTrue (ended_in result.deeds.past s k) → IsTrue (list_any (ended_at s k) (F.family result.stopped.children).finished) }
     ensures failed { FailuresAreTold N.children result.past (F.family result.stopped.children) }
-    ensures kin { AreKin N.site N.run_seed N.children result.stopped.cells [] (F.family result.stopped.children) }
+    ensures kin { AreKin N.site N.run_seed N.children result.past (ended_crew result.stopped.seats result.stopped.cells (F.family result.stopped.children) result.stopped.own) }
+    ensures faults { FaultsAreTold N.children result.past (ended_crew result.stopped.seats result.stopped.cells (F.family result.stopped.children) result.stopped.own) }
+    ensures empty { (s : ℕ) → s < length N.site.services → (link_at result.stopped.cells s ≡ false) × (incarnation (seen_at result.stopped.cells s) ≡ 0) }
     ensures caused { AllCaused (came_up result.stopped.seats) result.past result.past }
 {
     let launcher = turn.close(turns);

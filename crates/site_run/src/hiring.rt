@@ -6,13 +6,13 @@ ghost use Rattle.okws_base.specs.declared.limit.TheConstants.{MOST_PROXIES, MOST
 ghost use Rattle.cell_locks.specs.Row.{IsNew};
 ghost use Rattle.site_locks.specs.Made.{fresh};
 ghost use Rattle.turn_lock.specs.Seats.{AreFresh};
-ghost use Rattle.okld_launch.specs.Launchers.{ArePapers};
+ghost use Rattle.launch_turns.specs.Papers.{ArePapers};
 
 use cell_locks::named::CellNames;
 use cell_locks::seats::CellSeats;
+use launch_turns::papers::Papers;
+use launch_turns::resting::Resting;
 use okld_launch::named::Staffed;
-use okld_launch::papers::Papers;
-use okld_launch::resting::Resting;
 use okws_outer::children::Children;
 use okws_outer::keeper::Keeper;
 use okws_outer::stream::Sink;

@@ -4,7 +4,7 @@ ghost use Rattle.std.specs.Prelude.{◌≡◌, ◌<◌, ◌≤◌, ℕ, length, 
 ghost use Rattle.okws_base.specs.Turns.{GrowsBy};
 ghost use Rattle.okws_base.specs.declared.limit.TheConstants.{MOST_SERVICES};
 ghost use Rattle.turn_lock.specs.Rows.{RestsAt};
-ghost use Rattle.okld_launch.specs.Deeds.{by_deed};
+ghost use Rattle.launch_turns.specs.Deeds.{by_deed};
 ghost use Rattle.site_run.specs.Meeting.{AllBooted, AllGo, MeetsCell, MeetsOkd, SeesCells};
 
 use crate::row::Ground;
@@ -12,10 +12,10 @@ use cell_locks::locks::CellLocks;
 use cell_locks::named::CellNames;
 use cell_locks::note::CellNote;
 use cell_locks::seats::CellSeats;
+use launch_turns::notes::cell_by;
+use launch_turns::resting::Resting;
 use named_columns::named::Backed;
 use okld_launch::named::Staffed;
-use okld_launch::notes::cell_by;
-use okld_launch::resting::Resting;
 use okws_outer::children::Children;
 use okws_outer::gate::Gate;
 use okws_outer::keeper::Keeper;

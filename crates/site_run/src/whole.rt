@@ -8,7 +8,9 @@ ghost use Rattle.turn_lock.specs.Rows.{AllCount};
 ghost use Rattle.live_board.specs.Seats.{AllAt};
 ghost use Rattle.site_locks.specs.Sat.{ids_of};
 ghost use Rattle.monitor_model.specs.Causes.{all_were_caused};
-ghost use Rattle.okld_launch.specs.Failures.{FailuresAreTold};
+ghost use Rattle.monitor_model.specs.Columns.{WithinCount};
+ghost use Rattle.monitor_model.specs.Launches.{failures};
+ghost use Rattle.okld_launch.specs.Failures.{FailuresAreTold, children_rise};
 ghost use Rattle.okld_launch.specs.Heard.{ChildrenAreTold};
 ghost use Rattle.site_run.specs.Pieced.{LaunchesAreWhole, ended_among};
 ghost use Rattle.site_worker.specs.Lives.{Life};
@@ -16,7 +18,7 @@ ghost use Rattle.site_run.specs.Closing.{WritesLog, AllKept};
 ghost use Rattle.site_run.specs.Journals.{KeepLaws, NameNumbers, AreCounts};
 ghost use Rattle.site_making.specs.Keepers.{keeper_of};
 ghost use Rattle.site_run.specs.Places.{AllIdle};
-ghost use Rattle.okld_launch.specs.Launchers.{ArePapers};
+ghost use Rattle.launch_turns.specs.Papers.{ArePapers};
 ghost use Rattle.site_run.specs.Rooms.{HasRoom, AreOffered};
 ghost use Rattle.site_run.specs.Tied.{AllEnd, LaunchesAreOwn, SeatsOf};
 ghost use Rattle.site_run.specs.Whole.{AreNamed, IsHeld, IsReady, AllDrawn};
@@ -31,11 +33,11 @@ use cell_locks::locks::CellLocks;
 use cell_locks::making::{NewCells, name_cells};
 use cell_locks::named::CellNames;
 use cell_locks::seats::CellSeats;
+use launch_turns::papers::Papers;
+use launch_turns::resting::Resting;
 use live_board::{Board, Seat as Place};
 use named_columns::named::Backed;
 use okld_launch::named::Staffed;
-use okld_launch::papers::Papers;
-use okld_launch::resting::Resting;
 use okws_outer::children::Children;
 use okws_outer::door::Door;
 use okws_outer::keeper::Keeper;
@@ -196,8 +198,9 @@ impl<N: Staffed, J: Site, C: CellNames, K: Keeper, S: Sink, F: Children, D: Door
     D,
 > {
     /// Stops and finishes all children, and ends all locks. So many connections were served. The launcher's
-    /// list is whole pieces; for each Failed of its journal a fault was told of the children, and what was
-    /// begun has its cause. What a note of okd tells was entered there before all else.
+    /// list is whole pieces; for each Failed of its journal, and for each dialog that a fault of its link
+    /// ended, a fault was told of the children, and what was begun has its cause. What a note of okd tells was
+    /// entered there before all else.
     pub fn end<R: Wait>(
         self,
         rt: &R,
@@ -217,6 +220,7 @@ impl<N: Staffed, J: Site, C: CellNames, K: Keeper, S: Sink, F: Children, D: Door
         ensures launched { LaunchesAreOwn N.launcher result.record }
         ensures failed { FailuresAreTold N.children result.record.launcher (F.family result.children) }
         ensures children { ChildrenAreTold N.site N.run_seed result.record N.children (F.family result.children) }
+        ensures failures { WithinCount (children_rise N.children (F.family result.children)) (failures result.record) }
         ensures caused { IsTrue (all_were_caused result.record result.record.launcher) }
         ensures first { Behind okd result.record.okd }
         ensures counts { AreCounts N.site result.record result.counts }

@@ -9,10 +9,10 @@ use Rattle.monitor_model.specs.Okd.{accept_verdict}
 use Rattle.monitor_model.specs.Seen.{AtOkd}
 use Rattle.monitor_model.specs.declared.verdict.Way.{Way}
 use Rattle.cell_locks.specs.Row.{CellsSeen}
-use Rattle.site_locks.specs.Calls.{KeepsPasts, SameBoard}
+use Rattle.site_worker.specs.Asking.{KeepsPasts, SameBoard}
 use Rattle.site_locks.specs.Sat.{Sat, seen_of}
 use Rattle.turn_lock.specs.Seats.{SeatIs}
-use Rattle.okld_launch.specs.declared.deed.Deed.{Deed}
+use Rattle.launch_turns.specs.declared.deed.Deed.{Deed}
 use Rattle.site_worker.specs.Lives.{life_of}
 use Rattle.site_worker.specs.Handling.{Accepts}
 

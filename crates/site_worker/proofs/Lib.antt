@@ -1,3 +1,4 @@
+mod Asking
 mod Accepting
 mod Booted
 mod Lives

@@ -28,7 +28,7 @@ use Rattle.admin_console.specs.declared.order.Order.{Order}
 use Rattle.admin_console.specs.declared.order.Order.TheVariants as order
 use Rattle.admin_console.specs.declared.step.Stepped.{Stepped}
 use Rattle.admin_console.specs.declared.step.Stepped.TheVariants as stepped
-use Rattle.okld_launch.specs.declared.deed.Deed.{Deed}
+use Rattle.launch_turns.specs.declared.deed.Deed.{Deed}
 use Rattle.site_worker.specs.Lives.{Life, number_of, Sees, Starves, StarvesWhere, SameWorker}
 use Rattle.site_worker.specs.Launching.{OnlyLauncher, Reports, Tends}
 use Rattle.site_worker.specs.Handling.{Talks, Follows, Goes, Handles}

@@ -2,12 +2,12 @@
 use Rattle.std.proofs.Common.{◌≡◌, ℕ, Bool, List, ap, sym, ◌∙◌, subst}
 use Rattle.okws_plan.specs.declared.configuration.Config.{Config}
 use Rattle.okws_plan.specs.declared.event.LauncherEvent.{LauncherEvent}
-use Rattle.okld_launch.specs.Turns.{RelaunchesBy, ReportsBy, TendsBy}
+use Rattle.launch_turns.specs.Turns.{RelaunchesBy, ReportsBy, TendsBy}
 use Rattle.okld_launch.specs.declared.answer.Launched.{Launched}
 use Rattle.okld_launch.specs.declared.answer.Crashed.{Crashed}
 use Rattle.okld_launch.specs.declared.answer.Tended.{Tended}
 use Rattle.turn_lock.specs.Seats.{SeatIs}
-use Rattle.okld_launch.specs.declared.deed.Deed.{Deed}
+use Rattle.launch_turns.specs.declared.deed.Deed.{Deed}
 use Rattle.site_worker.specs.Lives.{Life, StarvesWhere}
 use Rattle.site_worker.specs.Launching.{launch_starved, crash_starved, tend_starved, with_launches, OnlyLauncher, Reports, Tends, Asks}
 

@@ -8,10 +8,10 @@ use Rattle.monitor_model.specs.declared.record.Own.{Own}
 use Rattle.monitor_model.specs.declared.record.Own.TheVariants as own
 use Rattle.monitor_model.specs.Seen.{Seen}
 use Rattle.named_columns.specs.Launched.{by_entry}
-use Rattle.okld_launch.specs.Deeds.{by_deed, entries}
+use Rattle.launch_turns.specs.Deeds.{by_deed, entries}
 use Rattle.okld_launch.specs.Entering.{Enters}
-use Rattle.okld_launch.specs.Turns.{RelaunchesBy, ReportsBy, TendsBy}
-use Rattle.okld_launch.specs.declared.deed.Deed.{Deed}
+use Rattle.launch_turns.specs.Turns.{RelaunchesBy, ReportsBy, TendsBy}
+use Rattle.launch_turns.specs.declared.deed.Deed.{Deed}
 use Rattle.okld_launch.specs.declared.answer.Launched.{Launched}
 use Rattle.okld_launch.specs.declared.answer.Launched.TheVariants as launched
 use Rattle.okld_launch.specs.declared.answer.Crashed.{Crashed}

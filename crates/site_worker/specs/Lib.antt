@@ -1,3 +1,4 @@
+pub mod Asking
 pub mod Lives
 pub mod Launching
 pub mod Handling

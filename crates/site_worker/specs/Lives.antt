@@ -9,9 +9,9 @@ use Rattle.monitor_model.specs.Seen.{Seen, noted}
 use Rattle.turn_lock.specs.Seats.{TurnIs, SeatIs}
 use Rattle.turn_lock.specs.Rows.{RestsAt}
 use Rattle.cell_locks.specs.Row.{CellsSeen}
-use Rattle.site_locks.specs.Calls.{KeepsPasts}
+use Rattle.site_worker.specs.Asking.{KeepsPasts}
 use Rattle.site_locks.specs.Sat.{Sat, seen_of}
-use Rattle.okld_launch.specs.declared.deed.Deed.{Deed}
+use Rattle.launch_turns.specs.declared.deed.Deed.{Deed}
 
 -- What it has seen of each column at its own last entry there, with its own items; what it has seen of each cell, of each service on the board, and of pubd in all, also where it entered nothing; and its seat at the launcher's lock.
 pub record Life : Type 0 where

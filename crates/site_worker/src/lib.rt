@@ -7,5 +7,6 @@ pub mod console;
 pub mod controls;
 pub mod door;
 pub mod handling;
+pub mod hands;
 mod launching;
 pub mod worker;

@@ -7,14 +7,17 @@ use Rattle.turn_lock.specs.Seats.{AllClosed}
 use Rattle.launch_crew.specs.Coming.{came_up}
 use Rattle.launch_crew.specs.Crews.{crew_of}
 use Rattle.okld_launch.specs.Causing.{AllCaused}
-use Rattle.okld_launch.specs.Deeds.{by_deed, ended_in, entries, up_in}
-use Rattle.okld_launch.specs.declared.deed.Deed.{Deed}
+use Rattle.launch_turns.specs.Deeds.{by_deed, ended_in, entries, up_in}
+use Rattle.launch_turns.specs.declared.deed.Deed.{Deed}
 use Rattle.launch_crew.proofs.Children.{more_finished}
 use Rattle.okld_launch.proofs.Failing.{told_more}
 use Rattle.okld_launch.proofs.Kin.{kin_ended}
+use Rattle.okld_launch.proofs.Faults.{faults_ended}
 use Rattle.okld_launch.specs.Pieces.{IsWhole}
 use Rattle.launch_crew.proofs.Retiring.{counted_of}
 use Rattle.okld_launch.proofs.Pieces.{whole_goes}
+use Rattle.site_run.specs.Pieced.{ended_crew}
+use Rattle.site_run.proofs.Pieced.{ending_same}
 use Rattle.site_run.proofs.Taken.{came_met, own_met}
 use Rattle.site_run.proofs.closing.end_launcher.Goals as goal
 
@@ -82,5 +85,19 @@ returns-clause-whole g c =
 
 pub returns-clause-kin : goal.returns-clause-kin
 returns-clause-kin g c =
-    kin_ended g.N.Numbered.site g.N.Numbered.run_seed g.N.Staffed.children c.stop_all-stopped.result.cells [] (crew_of c.close-past.result.1.recorder c.close-past.result.1.staff) (g.F.Children.family c.stop_all-stopped.result.children) c.stop_all-stopped.ensures.behind
-    (c.stop_all-stopped.ensures.all c.close-past.ensures.attended) (λ s. refl) c.close-past.ensures.kin
+    let r = c.close-past.result.1.recorder in
+    let stopped = c.stop_all-stopped in
+    let family = g.F.Children.family stopped.result.children in
+    kin_ended g.N.Numbered.site g.N.Numbered.run_seed g.N.Staffed.children c.close-past.result.0 (crew_of r c.close-past.result.1.staff) (ended_crew c.meet_okd.new.self stopped.result.cells family stopped.result.own) stopped.ensures.behind
+    (stopped.ensures.all c.close-past.ensures.attended) (λ s. refl) (ending_same stopped.result.cells.cells r.own stopped.result.own stopped.ensures.ends) c.close-past.ensures.kin
+
+pub returns-clause-faults : goal.returns-clause-faults
+returns-clause-faults g c =
+    let r = c.close-past.result.1.recorder in
+    let stopped = c.stop_all-stopped in
+    let family = g.F.Children.family stopped.result.children in
+    faults_ended g.N.Staffed.children g.N.Numbered.site g.N.Numbered.run_seed c.close-past.result.0 (crew_of r c.close-past.result.1.staff) (ended_crew c.meet_okd.new.self stopped.result.cells family stopped.result.own)
+    (stopped.ensures.all c.close-past.ensures.attended) c.close-past.ensures.faults
+
+pub returns-clause-empty : goal.returns-clause-empty
+returns-clause-empty g c = λ s within. ((c.stop_all-stopped.ensures.all c.close-past.ensures.attended).unlinked s, c.stop_all-stopped.ensures.cells s within)

@@ -4,7 +4,7 @@ use Rattle.std.specs.Prelude.{vec_capacity}
 use Rattle.okws_base.specs.declared.journal.Entry.{Entry}
 use Rattle.okws_plan.specs.declared.event.OkdEvent.{OkdEvent}
 use Rattle.site_locks.specs.Sat.{Sat}
-use Rattle.okld_launch.specs.Standing.{UpsStand}
+use Rattle.launch_turns.specs.Standing.{UpsStand}
 use Rattle.site_run.specs.Meeting.{AllBooted, IsShown, MeetsOkd}
 use Rattle.site_run.specs.Opening.{IsOpened, items_first, seen_first}
 use Rattle.site_run.specs.Rows.{ChairsAre, Seated}

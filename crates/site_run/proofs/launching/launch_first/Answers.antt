@@ -1,6 +1,6 @@
 use Rattle.std.proofs.Common.{◌≡◌, ◌∙◌, List, ap, subst, sym}
 use Rattle.turn_lock.specs.Seats.{SeatIs}
-use Rattle.okld_launch.specs.declared.deed.Deed.{Deed}
+use Rattle.launch_turns.specs.declared.deed.Deed.{Deed}
 use Rattle.site_run.specs.Meeting.{AllBooted}
 use Rattle.site_run.specs.Opening.{IsAlone, Opens}
 use Rattle.site_run.proofs.Told.{launches_told}

@@ -1,6 +1,6 @@
 use Rattle.std.proofs.Common.{Bool, false, ap, ◌∙◌, subst}
 use Rattle.site_locks.specs.Sat.{Sat}
-use Rattle.okld_launch.specs.Deeds.{launch_up_if}
+use Rattle.okld_launch.specs.Ups.{launch_up_if}
 use Rattle.site_run.specs.Tied.{IsNotedWhere}
 use Rattle.site_run.proofs.Noted.{launch_noted}
 use Rattle.site_run.proofs.Opened.{launch_opened, turn_behind}

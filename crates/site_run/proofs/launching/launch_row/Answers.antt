@@ -1,7 +1,7 @@
 use Rattle.std.proofs.Common.{rules, arith, ◌≡◌, ◌∙◌, ◌+◌, sym, ap, subst}
 use Rattle.turn_lock.specs.Seats.{SeatIs}
 use Rattle.site_locks.specs.Sat.{Sat}
-use Rattle.okld_launch.specs.declared.deed.Deed.{Deed}
+use Rattle.launch_turns.specs.declared.deed.Deed.{Deed}
 use Rattle.site_run.specs.Tied.{OnlyLaunches}
 use Rattle.site_run.proofs.Opened.{OpensTo, next_opened}
 use Rattle.site_run.proofs.launching.launch_row.Goals as goal

@@ -1,7 +1,7 @@
 use Rattle.std.proofs.Common.{rules, arith, ◌≡◌, ◌∙◌, ◌<◌, List, length, set, refl, sym, ap, subst}
 use Rattle.okws_base.specs.Turns.{Behind}
 use Rattle.turn_lock.specs.Seats.{NoteIs, SeatIs}
-use Rattle.okld_launch.specs.declared.deed.Deed.{Deed}
+use Rattle.launch_turns.specs.declared.deed.Deed.{Deed}
 use Rattle.site_run.proofs.Telling.{all_same, meets, tells, told_on}
 use Rattle.site_run.proofs.launching.tell_all.Goals as goal
 

@@ -1,7 +1,7 @@
 use Rattle.std.proofs.Common.{◌≡◌, ◌<◌, ℕ, []}
 use Rattle.std.specs.Prelude.{vec_capacity}
 use Rattle.okws_base.specs.Turns.{of}
-use Rattle.okld_launch.specs.Deeds.{by_deed}
+use Rattle.launch_turns.specs.Deeds.{by_deed}
 use Rattle.site_run.specs.Opening.{AllSeeMore, AreQuiet, seen_first}
 use Rattle.site_run.proofs.launching.tell_all.Given as goal
 

@@ -2,9 +2,9 @@ use Rattle.std.proofs.Common.{rules, arith, ◌≡◌, ◌∙◌, ◌<◌, ◌+�
 use Rattle.okws_base.specs.Turns.{GrowsBy}
 use Rattle.turn_lock.proofs.Grows.{grows_on, grows-same}
 use Rattle.turn_lock.specs.Seats.{SeatIs}
-use Rattle.okld_launch.specs.Deeds.{by_deed}
-use Rattle.okld_launch.specs.Standing.{BootsStand}
-use Rattle.okld_launch.specs.declared.deed.Deed.{Deed}
+use Rattle.launch_turns.specs.Deeds.{by_deed}
+use Rattle.launch_turns.specs.Standing.{BootsStand}
+use Rattle.launch_turns.specs.declared.deed.Deed.{Deed}
 use Rattle.site_run.specs.Meeting.{AllGo, MeetsCell}
 use Rattle.site_run.proofs.Taken.{all_same, booted_next, sees_on, stands_before}
 use Rattle.site_run.proofs.meeting.meet_cells.Goals as goal

@@ -1,7 +1,7 @@
 use Rattle.std.proofs.Common.{◌≡◌, ◌<◌, ℕ}
 use Rattle.std.specs.Prelude.{vec_capacity}
 use Rattle.okws_base.specs.Turns.{GrowsBy}
-use Rattle.okld_launch.specs.Deeds.{by_deed}
+use Rattle.launch_turns.specs.Deeds.{by_deed}
 use Rattle.site_run.specs.Meeting.{AllBooted, AllGo, SeesCells}
 use Rattle.site_run.proofs.meeting.meet_cells.Given as goal
 

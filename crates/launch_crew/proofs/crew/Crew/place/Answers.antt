@@ -50,4 +50,4 @@ pub returns-in-Ok-clause-told : goal.returns-in-Ok-clause-told
 returns-in-Ok-clause-told g c = ap (λ (t : StaffIs). t.family) c.keep.ensures.is
 
 pub returns-in-Err-clause-in_vain : goal.returns-in-Err-clause-in_vain
-returns-in-Err-clause-in_vain g c = (g.F.Link.Link.wire c.in-Err.link, ap (λ (t : StaffIs). t.family) c.finish.ensures, c.in-Err.ensures.front)
+returns-in-Err-clause-in_vain g c = (g.F.Link.Link.wire c.in-Err.link, ap (λ (t : StaffIs). t.family) c.finish.ensures, c.in-Err.ensures.front, c.in-Err.ensures.whose, c.in-Err.ensures.untaken)

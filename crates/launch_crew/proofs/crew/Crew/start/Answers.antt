@@ -65,5 +65,7 @@ returns-clause-in_vain g c =
       last = h.0;
       is = h.1 ∙ ap (with_end (new_life s k) h.0) c.in_ok-started.ensures.started;
       front = h.2;
+      whose = h.3;
+      untaken = h.4;
     }))
     c.place.ensures.in_vain

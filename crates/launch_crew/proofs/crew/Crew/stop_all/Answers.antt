@@ -89,4 +89,4 @@ returns-clause-all g c = λ h.
     let long : length crew.running ≤ c.loop-service.service = omega (arith, c.fits.ensures.running_are, c.services-service-end.ensures.is, c.loop-service-test.false) in
     subst (λ (f : Family). EndsAll C seed c.into_parts-seats.result.1 first f) (sym c.into_children.ensures)
     (subst (λ (w : CellsSeen). EndsAll C seed w first crew.family) (sym c.into_parts-seats.ensures.parts.1)
-    (all_ended C seed first crew (all_idle c.loop-service.service crew.running long c.loop-service.invariant.idle) (c.loop-service.invariant.all h)))
+    (all_ended C seed first crew (all_idle c.loop-service.service crew.running long c.loop-service.invariant.idle) (c.loop-service.invariant.attended h) (c.loop-service.invariant.all h)))

@@ -1,4 +1,5 @@
-use Rattle.std.proofs.Common.{◌≡◌, ◌∙◌, ℕ, ◌≤◌, false, refl, ap, subst, sym}
+use Rattle.std.proofs.Common.{◌≡◌, ◌∙◌, ℕ, ◌≤◌, Some, false, refl, ap, subst, sym}
+use Rattle.okws_outer.specs.Families.{child_named}
 use Rattle.frame_codec.specs.Spelling.{server_spelling}
 use Rattle.frame_codec.specs.declared.frame.ServerFrame.{ServerFrame}
 use Rattle.frame_codec.specs.declared.frame.ServerFrame.TheVariants as frame
@@ -6,7 +7,7 @@ use Rattle.site_cell.specs.Held.{has_booted}
 use Rattle.monitor_model.specs.Cell.{incarnation}
 use Rattle.cell_locks.specs.Row.{link_at, seen_at}
 use Rattle.launch_crew.proofs.Counting.{all_booted, all_unbooted}
-use Rattle.launch_crew.proofs.Recording.{cell_booted, cell_seen, booted, booted_last, faulted, faulted_front, refused, refused_front}
+use Rattle.launch_crew.proofs.Recording.{cell_booted, cell_seen, booted, booted_last, faulted, faulted_front, faulted_untaken, faulted_whose, refused, refused_front, refused_untaken, refused_whose}
 use Rattle.monitor_model.specs.declared.record.CellEvent.TheVariants as cell
 use Rattle.launch_crew.specs.Finished.{IsFront, all_out}
 use Rattle.launch_crew.specs.Listed.{CellsGo}
@@ -72,6 +73,22 @@ pub returns-in-NoMemory-clause-front : goal.returns-in-NoMemory-clause-front
 returns-in-NoMemory-clause-front g c =
     subst (λ (x : ServerFrame). IsFront (server_spelling x) (g.L.Link.wire c.in-NoMemory.link).given) c.requires.tokens
     (refused_front g.L.Link.wire g.N.Numbered.launcher c.args.service c.args.incarnation c.args.link (frame.Boot c.args.service c.args.incarnation c.args.tokens) (seen_at c.self.inside.cells c.args.service) (seen_at c.boot-booting.new.self c.args.service) c.boot-booting.result c.boot-booting.ensures.launched c.requires.link.given c.in-NoMemory.link c.in-NoMemory.is)
+
+pub returns-in-LinkFault-clause-whose : goal.returns-in-LinkFault-clause-whose
+returns-in-LinkFault-clause-whose g c =
+    faulted_whose g.L.Link.wire g.N.Numbered.launcher c.args.service c.args.incarnation c.args.link (frame.Boot c.args.service c.args.incarnation c.args.tokens) (seen_at c.self.inside.cells c.args.service) (seen_at c.boot-booting.new.self c.args.service) c.boot-booting.result c.boot-booting.ensures.launched (Some (child_named c.args.service c.args.incarnation)) c.requires.link.whose c.in-LinkFault.link c.in-LinkFault.is
+
+pub returns-in-NoMemory-clause-whose : goal.returns-in-NoMemory-clause-whose
+returns-in-NoMemory-clause-whose g c =
+    refused_whose g.L.Link.wire g.N.Numbered.launcher c.args.service c.args.incarnation c.args.link (frame.Boot c.args.service c.args.incarnation c.args.tokens) (seen_at c.self.inside.cells c.args.service) (seen_at c.boot-booting.new.self c.args.service) c.boot-booting.result c.boot-booting.ensures.launched (Some (child_named c.args.service c.args.incarnation)) c.requires.link.whose c.in-NoMemory.link c.in-NoMemory.is
+
+pub returns-in-LinkFault-clause-untaken : goal.returns-in-LinkFault-clause-untaken
+returns-in-LinkFault-clause-untaken g c =
+    faulted_untaken g.L.Link.wire g.N.Numbered.launcher c.args.service c.args.incarnation c.args.link (frame.Boot c.args.service c.args.incarnation c.args.tokens) (seen_at c.self.inside.cells c.args.service) (seen_at c.boot-booting.new.self c.args.service) c.boot-booting.result c.boot-booting.ensures.launched c.requires.link.came c.in-LinkFault.link c.in-LinkFault.is
+
+pub returns-in-NoMemory-clause-untaken : goal.returns-in-NoMemory-clause-untaken
+returns-in-NoMemory-clause-untaken g c =
+    refused_untaken g.L.Link.wire g.N.Numbered.launcher c.args.service c.args.incarnation c.args.link (frame.Boot c.args.service c.args.incarnation c.args.tokens) (seen_at c.self.inside.cells c.args.service) (seen_at c.boot-booting.new.self c.args.service) c.boot-booting.result c.boot-booting.ensures.launched c.requires.link.came c.in-NoMemory.link c.in-NoMemory.is
 
 pub returns-in-LinkFault-clause-unlinked : goal.returns-in-LinkFault-clause-unlinked
 returns-in-LinkFault-clause-unlinked g c = c.boot-booting.ensures.link ∙ ap has_booted c.in-LinkFault.is

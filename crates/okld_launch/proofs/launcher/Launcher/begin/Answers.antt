@@ -9,7 +9,9 @@ use Rattle.launch_crew.specs.Coming.{came_up}
 use Rattle.okld_launch.specs.Launchers.{LauncherIs, MayLaunch}
 use Rattle.okld_launch.proofs.Caused.{begun_caused, begun_fresh}
 use Rattle.launch_crew.proofs.Ended.{attended_same}
-use Rattle.okld_launch.proofs.Kin.{kin_watch}
+use Rattle.okld_launch.proofs.Kept.{kin_begun, kin_moved, unstarted_begun}
+use Rattle.okld_launch.proofs.Boots.{boots_kept}
+use Rattle.okld_launch.proofs.Faults.{faults_entered, faults_kept}
 use Rattle.okld_launch.proofs.launcher.Launcher.begin.Goals as goal
 
 pub invariant_of-self : goal.invariant_of-self
@@ -22,7 +24,8 @@ invariant_of-self g c = record {
       (λ i. record { journal = c.begin-incarnation.ensures.entered i; crew = crew_of (c.raise.ensures.is i) c.self.inside.crew.staff; ups = c.self.inside.ups.items }) c.begin-incarnation.ensures.next c.raise.ensures.shown c.self.invariant.keeps;
   caused = begun_caused c.args.service c.begin-incarnation.result (launcher_of c.self.inside.journal c.self.inside.crew.recorder c.self.inside.crew.staff c.self.inside.ups.items) (launcher_of c.begin-incarnation.new.self c.raise.new.self c.self.inside.crew.staff c.self.inside.ups.items) c.begin-incarnation.ensures.entered (λ s k. ap (λ (r : Recorded). came_up r.sat s k) c.raise.ensures.is) refl c.begin-incarnation.ensures.next (subst (λ (x : LauncherIs). MayLaunch c.args.service x) (sym c.self.view_is) c.requires.cause) c.self.invariant.caused;
   attended = attended_same (crew_of c.self.inside.crew.recorder c.self.inside.crew.staff) (crew_of c.raise.new.self c.self.inside.crew.staff) (ap (λ (r : Recorded). r.watch) c.raise.ensures.is) refl c.self.invariant.attended;
-  kin = kin_watch g.N.Numbered.site g.N.Numbered.run_seed g.N.Staffed.children c.self.inside.crew.recorder.watch c.raise.new.self.watch c.self.inside.crew.staff.running c.self.inside.crew.staff.family (ap (λ (r : Recorded). r.watch) c.raise.ensures.is) c.self.invariant.kin;
+  kin = kin_moved g.N.Numbered.site g.N.Numbered.run_seed g.N.Staffed.children c.begin-incarnation.new.self.past (crew_of c.self.inside.crew.recorder c.self.inside.crew.staff) (crew_of c.raise.new.self c.self.inside.crew.staff) refl refl (ap (λ (r : Recorded). r.watch) c.raise.ensures.is) (boots_kept c.self.inside.crew.recorder.own c.raise.new.self.own (ap (λ (r : Recorded). r.own) c.raise.ensures.is)) (kin_begun g.N.Numbered.site g.N.Numbered.run_seed g.N.Staffed.children c.args.service c.begin-incarnation.result c.self.inside.journal c.begin-incarnation.new.self (crew_of c.self.inside.crew.recorder c.self.inside.crew.staff) c.begin-incarnation.ensures.entered c.self.invariant.kin);
+  faults = faults_kept g.N.Staffed.children c.begin-incarnation.new.self.past (crew_of c.self.inside.crew.recorder c.self.inside.crew.staff) (crew_of c.raise.new.self c.self.inside.crew.staff) refl (ap (λ (r : Recorded). r.watch) c.raise.ensures.is) (faults_entered g.N.Staffed.children (event.Begun c.args.service c.begin-incarnation.result) c.self.inside.journal c.begin-incarnation.new.self (crew_of c.self.inside.crew.recorder c.self.inside.crew.staff) refl c.begin-incarnation.ensures.entered c.self.invariant.faults);
 }
 
 pub raise-requires-clause-above : goal.raise-requires-clause-above
@@ -35,3 +38,6 @@ returns-clause-under g c = subst (λ (r : Recorded). Under c.args.service c.begi
 pub returns-clause-fresh : goal.returns-clause-fresh
 returns-clause-fresh g c = begun_fresh c.args.service c.begin-incarnation.result (launcher_of c.self.inside.journal c.self.inside.crew.recorder c.self.inside.crew.staff c.self.inside.ups.items) (launcher_of c.begin-incarnation.new.self c.raise.new.self c.self.inside.crew.staff c.self.inside.ups.items) c.begin-incarnation.ensures.entered
     (λ s k. ap (λ (r : Recorded). came_up r.sat s k) c.raise.ensures.is) c.begin-incarnation.ensures.next c.self.invariant.caused
+
+pub returns-clause-unstarted : goal.returns-clause-unstarted
+returns-clause-unstarted g c = unstarted_begun g.N.Numbered.site g.N.Numbered.run_seed g.N.Staffed.children c.args.service c.begin-incarnation.result c.self.inside.journal (crew_of c.self.inside.crew.recorder c.self.inside.crew.staff) c.begin-incarnation.ensures.next c.self.invariant.kin

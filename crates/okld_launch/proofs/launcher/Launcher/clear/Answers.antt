@@ -1,6 +1,6 @@
 use Rattle.std.proofs.Common.{◌≡◌, ◌∙◌, refl, sym, ap, subst, arith}
 use Rattle.std.specs.Prelude.{slice_set}
-use Rattle.launch_crew.specs.Crews.{Under, crew_of}
+use Rattle.launch_crew.specs.Crews.{Under, child_of, crew_of}
 use Rattle.okld_launch.specs.Launchers.{LauncherIs, MayLaunch}
 use Rattle.okld_launch.proofs.Begins.{launcher_of}
 use Rattle.okld_launch.proofs.Placing.{cleared, quiet_clears, under_clears}
@@ -15,7 +15,10 @@ use Rattle.launch_crew.proofs.Retiring.{counted_of}
 use Rattle.okld_launch.specs.Children.{StaysAttended}
 use Rattle.okld_launch.proofs.Children.{stays_emptied, stays_on, stays_same}
 use Rattle.launch_crew.proofs.Ended.{attended_emptied, attended_same}
-use Rattle.okld_launch.proofs.Kin.{kin_emptied, kin_watch, named_at}
+use Rattle.okld_launch.proofs.Kin.{kin_emptied, named_at}
+use Rattle.okld_launch.proofs.Kept.{kin_moved, started_emptied}
+use Rattle.okld_launch.proofs.Boots.{cleared_boots}
+use Rattle.okld_launch.proofs.Faults.{faults_emptied, faults_kept}
 use Rattle.okld_launch.proofs.launcher.Launcher.clear.Goals as goal
 
 pub invariant_of-self : goal.invariant_of-self
@@ -44,8 +47,10 @@ invariant_of-self g c = record {
       }))
       (subst (λ (x : LauncherIs). MayLaunch c.args.service x) (sym c.self.view_is) c.requires.cause) c.self.invariant.caused;
   attended = attended_emptied c.args.service (crew_of c.revoke.new.self c.self.inside.crew.staff) (crew_of c.empty.new.self.recorder c.empty.new.self.staff) c.empty.ensures.empties (attended_same (crew_of c.self.inside.crew.recorder c.self.inside.crew.staff) (crew_of c.revoke.new.self c.self.inside.crew.staff) (c.revoke.ensures.cells ∙ c.down.ensures.cells) refl c.self.invariant.attended);
-  kin = kin_emptied g.N.Numbered.site g.N.Numbered.run_seed g.N.Staffed.children c.args.service (crew_of c.revoke.new.self c.self.inside.crew.staff) (crew_of c.empty.new.self.recorder c.empty.new.self.staff) (named_at (crew_of c.revoke.new.self c.self.inside.crew.staff) c.args.service (attended_same (crew_of c.self.inside.crew.recorder c.self.inside.crew.staff) (crew_of c.revoke.new.self c.self.inside.crew.staff) (c.revoke.ensures.cells ∙ c.down.ensures.cells) refl c.self.invariant.attended)) c.empty.ensures.empties (c.empty.ensures.ended (attended_same (crew_of c.self.inside.crew.recorder c.self.inside.crew.staff) (crew_of c.revoke.new.self c.self.inside.crew.staff) (c.revoke.ensures.cells ∙ c.down.ensures.cells) refl c.self.invariant.attended))
-      (kin_watch g.N.Numbered.site g.N.Numbered.run_seed g.N.Staffed.children c.self.inside.crew.recorder.watch c.revoke.new.self.watch c.self.inside.crew.staff.running c.self.inside.crew.staff.family (c.revoke.ensures.cells ∙ c.down.ensures.cells) c.self.invariant.kin);
+  kin = kin_emptied g.N.Numbered.site g.N.Numbered.run_seed g.N.Staffed.children c.self.inside.journal.past c.args.service (crew_of c.revoke.new.self c.self.inside.crew.staff) (crew_of c.empty.new.self.recorder c.empty.new.self.staff) (named_at (crew_of c.revoke.new.self c.self.inside.crew.staff) c.args.service (attended_same (crew_of c.self.inside.crew.recorder c.self.inside.crew.staff) (crew_of c.revoke.new.self c.self.inside.crew.staff) (c.revoke.ensures.cells ∙ c.down.ensures.cells) refl c.self.invariant.attended)) c.empty.ensures.empties (c.empty.ensures.ended (attended_same (crew_of c.self.inside.crew.recorder c.self.inside.crew.staff) (crew_of c.revoke.new.self c.self.inside.crew.staff) (c.revoke.ensures.cells ∙ c.down.ensures.cells) refl c.self.invariant.attended))
+      (kin_moved g.N.Numbered.site g.N.Numbered.run_seed g.N.Staffed.children c.self.inside.journal.past (crew_of c.self.inside.crew.recorder c.self.inside.crew.staff) (crew_of c.revoke.new.self c.self.inside.crew.staff) refl refl (c.revoke.ensures.cells ∙ c.down.ensures.cells) (cleared_boots g.N.Numbered.site c.args.service c.self.inside.crew.recorder.own c.down.new.self.own c.revoke.new.self.own c.down.ensures.own c.revoke.ensures.own) c.self.invariant.kin);
+  faults = faults_emptied g.N.Staffed.children g.N.Numbered.site g.N.Numbered.run_seed c.self.inside.journal.past (crew_of c.revoke.new.self c.self.inside.crew.staff) (crew_of c.empty.new.self.recorder c.empty.new.self.staff) (child_of (crew_of c.revoke.new.self c.self.inside.crew.staff) c.args.service)
+      (c.empty.ensures.ended (attended_same (crew_of c.self.inside.crew.recorder c.self.inside.crew.staff) (crew_of c.revoke.new.self c.self.inside.crew.staff) (c.revoke.ensures.cells ∙ c.down.ensures.cells) refl c.self.invariant.attended)) (faults_kept g.N.Staffed.children c.self.inside.journal.past (crew_of c.self.inside.crew.recorder c.self.inside.crew.staff) (crew_of c.revoke.new.self c.self.inside.crew.staff) refl (c.revoke.ensures.cells ∙ c.down.ensures.cells) c.self.invariant.faults);
 }
 
 pub returns-clause-quiet : goal.returns-clause-quiet
@@ -93,3 +98,6 @@ returns-clause-stays g c =
     let after = crew_of c.empty.new.self.recorder c.empty.new.self.staff in
     subst (λ (x : LauncherIs). StaysAttended x.crew after) c.self.view_is
     (stays_on before mid after (stays_same before mid refl (c.revoke.ensures.cells ∙ c.down.ensures.cells) refl) (stays_emptied c.args.service mid after c.empty.ensures.empties))
+
+pub returns-clause-started : goal.returns-clause-started
+returns-clause-started g c = subst (λ (x : LauncherIs). c.empty.new.self.staff.family.started ≡ x.crew.family.started) c.self.view_is (started_emptied c.args.service (crew_of c.revoke.new.self c.self.inside.crew.staff) (crew_of c.empty.new.self.recorder c.empty.new.self.staff) c.empty.ensures.empties)

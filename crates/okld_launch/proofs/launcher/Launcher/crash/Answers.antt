@@ -1,4 +1,4 @@
-use Rattle.std.proofs.Common.{refl}
+use Rattle.std.proofs.Common.{refl, arith}
 use Rattle.okws_plan.specs.declared.event.LauncherEvent.TheVariants as event
 use Rattle.okld_launch.proofs.Begins.{launcher_of, entered_other}
 use Rattle.okld_launch.proofs.Trying.{crashed_begun}
@@ -7,6 +7,9 @@ use Rattle.launch_crew.specs.Coming.{came_up}
 use Rattle.std.specs.Prelude.{slice_index}
 use Rattle.okld_launch.proofs.Caused.{entered_caused}
 use Rattle.okld_launch.proofs.Causing.{caused_crashed}
+use Rattle.launch_crew.specs.Crews.{crew_of}
+use Rattle.okld_launch.proofs.Kept.{kin_noted}
+use Rattle.okld_launch.proofs.Faults.{faults_entered}
 use Rattle.okld_launch.proofs.launcher.Launcher.crash.Goals as goal
 
 pub invariant_of-self : goal.invariant_of-self
@@ -18,5 +21,6 @@ invariant_of-self g c = record {
   keeps = entered_other g.N.Numbered.site (launcher_of c.self.inside.journal c.self.inside.crew.recorder c.self.inside.crew.staff c.self.inside.ups.items) c.crashed.new.self (event.Crashed c.args.service c.args.incarnation) (λ t. refl) (crashed_begun c.self.inside.journal.past c.args.service c.args.incarnation) c.crashed.ensures c.self.invariant.keeps;
   caused = entered_caused (launcher_of c.self.inside.journal c.self.inside.crew.recorder c.self.inside.crew.staff c.self.inside.ups.items) c.crashed.new.self (event.Crashed c.args.service c.args.incarnation) c.crashed.ensures (caused_crashed (came_up c.self.inside.crew.recorder.sat) (λ s. slice_index c.self.inside.ups.items s) c.self.inside.journal.past c.self.inside.journal.holder c.args.service c.self.invariant.caused c.args.incarnation);
   attended = c.self.invariant.attended;
-  kin = c.self.invariant.kin;
+  kin = kin_noted g.N.Numbered.site g.N.Numbered.run_seed g.N.Staffed.children c.self.inside.journal c.crashed.new.self (event.Crashed c.args.service c.args.incarnation) (crew_of c.self.inside.crew.recorder c.self.inside.crew.staff) (λ t. omega arith) c.crashed.ensures c.self.invariant.kin;
+  faults = faults_entered g.N.Staffed.children (event.Crashed c.args.service c.args.incarnation) c.self.inside.journal c.crashed.new.self (crew_of c.self.inside.crew.recorder c.self.inside.crew.staff) refl c.crashed.ensures c.self.invariant.faults;
 }

@@ -14,7 +14,7 @@ use Rattle.okld_launch.proofs.Opened.{CrashOpens, crash_opens, greatest_here}
 use Rattle.okld_launch.proofs.Told.{crashed_of}
 use Rattle.okld_launch.proofs.Opening.{opens}
 use Rattle.okld_launch.proofs.OnWay.{closed_entered, closed_roomy}
-use Rattle.okld_launch.specs.Deeds.{crash_up, ups_after}
+use Rattle.okld_launch.specs.Ups.{crash_up, ups_after}
 use Rattle.okld_launch.specs.Pieces.{IsClosed}
 use Rattle.okld_launch.proofs.Turning.{again_down, crash_as}
 use Rattle.okld_launch.proofs.launcher.Launcher.crashed.Goals as goal

@@ -7,6 +7,7 @@ use Rattle.okld_launch.specs.Launchers.{LauncherIs}
 use Rattle.okld_launch.proofs.Children.{stays_asked}
 use Rattle.launch_crew.proofs.Ended.{attended_asked}
 use Rattle.okld_launch.proofs.Kin.{kin_asked}
+use Rattle.okld_launch.proofs.Faults.{faults_asked}
 use Rattle.okld_launch.proofs.launcher.Launcher.ended.Goals as goal
 
 pub invariant_of-self : goal.invariant_of-self
@@ -18,7 +19,8 @@ invariant_of-self g c = record {
   keeps = same_crew g.N.Numbered.site (launcher_of c.self.inside.journal c.self.inside.crew.recorder c.self.inside.crew.staff c.self.inside.ups.items) (crew_of c.self.inside.crew.recorder c.ended.new.self) (asked c.args.service c.in-Some.answer c.self.inside.crew.recorder c.self.inside.crew.staff c.ended.new.self c.in-Some.ensures) c.self.invariant.keeps;
   caused = c.self.invariant.caused;
   attended = attended_asked c.args.service c.self.inside.crew.recorder c.self.inside.crew.staff c.in-Some.answer c.ended.new.self c.in-Some.ensures c.self.invariant.attended;
-  kin = kin_asked g.N.Numbered.site g.N.Numbered.run_seed g.N.Staffed.children c.self.inside.crew.recorder.watch c.args.service c.self.inside.crew.staff c.in-Some.answer c.ended.new.self c.in-Some.ensures c.self.invariant.kin;
+  kin = kin_asked g.N.Numbered.site g.N.Numbered.run_seed g.N.Staffed.children c.self.inside.journal.past c.args.service c.self.inside.crew.recorder c.self.inside.crew.staff c.in-Some.answer c.ended.new.self c.in-Some.ensures c.self.invariant.kin;
+  faults = faults_asked g.N.Staffed.children c.self.inside.journal.past c.args.service c.self.inside.crew.recorder c.self.inside.crew.staff c.in-Some.answer c.ended.new.self c.in-Some.ensures c.self.invariant.faults;
 }
 
 pub returns-clause-stays : goal.returns-clause-stays

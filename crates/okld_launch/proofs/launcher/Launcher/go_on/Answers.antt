@@ -6,7 +6,6 @@ use Rattle.okws_plan.specs.declared.event.LauncherEvent.TheVariants as event
 use Rattle.monitor_model.specs.Launcher.{begun}
 use Rattle.launch_journal.specs.Launches.{Allows}
 use Rattle.launch_journal.specs.declared.next.Next.{Next}
-use Rattle.launch_journal.specs.declared.next.Next.TheVariants as next
 use Rattle.okld_launch.specs.Going.{Attempts}
 use Rattle.okld_launch.specs.Entering.{Enters}
 use Rattle.okld_launch.specs.declared.answer.Attempt.{Attempt}
@@ -14,7 +13,7 @@ use Rattle.okld_launch.proofs.Caused.{failed_may}
 use Rattle.okld_launch.proofs.Told.{fell_next, goes_refused, goes_up, nearer}
 use Rattle.okld_launch.proofs.Counting.{fell_begun, up_told, refused_told, told_as, few_as}
 use Rattle.monitor_model.specs.Causes.{is_crashed_of}
-use Rattle.okld_launch.specs.Deeds.{is_one, oldest, ups_after}
+use Rattle.okld_launch.specs.Ups.{is_one, oldest, ups_after}
 use Rattle.okld_launch.specs.Pieces.{IsClosed, attempt_ups}
 use Rattle.okld_launch.proofs.Turning.{begun_no_crash, oldest_of}
 use Rattle.okld_launch.proofs.launcher.Launcher.go_on.Goals as goal

@@ -3,6 +3,9 @@ use Rattle.launch_journal.specs.Launches.{Launches}
 use Rattle.okld_launch.proofs.Begins.{launcher_of, same_entries}
 use Rattle.okld_launch.proofs.Caused.{kept_caused}
 use Rattle.okld_launch.specs.Failures.{FailuresAreTold}
+use Rattle.launch_crew.specs.Crews.{crew_of}
+use Rattle.okld_launch.proofs.Kept.{kin_past}
+use Rattle.okld_launch.proofs.Faults.{faults_past}
 use Rattle.okld_launch.proofs.launcher.Launcher.hold.Goals as goal
 
 pub invariant_of-self : goal.invariant_of-self
@@ -14,5 +17,6 @@ invariant_of-self g c = record {
   keeps = same_entries g.N.Numbered.site (launcher_of c.self.inside.journal c.self.inside.crew.recorder c.self.inside.crew.staff c.self.inside.ups.items) c.hold.new.self (ap (λ (x : Launches). x.config) c.hold.ensures.all) (ap (λ (x : Launches). x.past) c.hold.ensures.all) c.self.invariant.keeps;
   caused = kept_caused (launcher_of c.self.inside.journal c.self.inside.crew.recorder c.self.inside.crew.staff c.self.inside.ups.items) (launcher_of c.hold.new.self c.self.inside.crew.recorder c.self.inside.crew.staff c.self.inside.ups.items) (ap (λ (x : Launches). x.past) c.hold.ensures.all) (λ s k. refl) refl c.self.invariant.caused;
   attended = c.self.invariant.attended;
-  kin = c.self.invariant.kin;
+  kin = kin_past g.N.Numbered.site g.N.Numbered.run_seed g.N.Staffed.children c.self.inside.journal.past c.hold.new.self.past (crew_of c.self.inside.crew.recorder c.self.inside.crew.staff) (ap (λ (x : Launches). x.past) c.hold.ensures.all) c.self.invariant.kin;
+  faults = faults_past g.N.Staffed.children c.self.inside.journal.past c.hold.new.self.past (crew_of c.self.inside.crew.recorder c.self.inside.crew.staff) (ap (λ (x : Launches). x.past) c.hold.ensures.all) c.self.invariant.faults;
 }

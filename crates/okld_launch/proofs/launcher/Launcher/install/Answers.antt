@@ -10,8 +10,10 @@ use Rattle.okws_plan.specs.Configuration.{cols}
 use Rattle.okws_plan.specs.declared.script.Place.{Place}
 use Rattle.launch_crew.specs.Listed.{InstallsFirst}
 use Rattle.launch_crew.proofs.Ended.{attended_same}
-use Rattle.okld_launch.proofs.Kin.{kin_watch}
 use Rattle.launch_crew.specs.Crews.{crew_of}
+use Rattle.okld_launch.proofs.Kept.{kin_moved}
+use Rattle.okld_launch.proofs.Boots.{installed_boots}
+use Rattle.okld_launch.proofs.Faults.{faults_kept}
 use Rattle.okld_launch.proofs.launcher.Launcher.install.Goals as goal
 
 pub invariant_of-self : goal.invariant_of-self
@@ -25,7 +27,8 @@ invariant_of-self g c = record {
       (omega (arith, ap (λ (x : LauncherIs). x.crew.room) c.self.view_is, c.requires.room, c.install.ensures.room));
   caused = kept_caused (launcher_of c.self.inside.journal c.self.inside.crew.recorder c.self.inside.crew.staff c.self.inside.ups.items) (launcher_of c.self.inside.journal c.install.new.self c.self.inside.crew.staff c.self.inside.ups.items) refl (none_columns c.self.inside.crew.recorder.sat c.install.new.self.sat c.install.ensures.installs.only) refl c.self.invariant.caused;
   attended = attended_same (crew_of c.self.inside.crew.recorder c.self.inside.crew.staff) (crew_of c.install.new.self c.self.inside.crew.staff) (c.install.ensures.cells) refl c.self.invariant.attended;
-  kin = kin_watch g.N.Numbered.site g.N.Numbered.run_seed g.N.Staffed.children c.self.inside.crew.recorder.watch c.install.new.self.watch c.self.inside.crew.staff.running c.self.inside.crew.staff.family (c.install.ensures.cells) c.self.invariant.kin;
+  kin = kin_moved g.N.Numbered.site g.N.Numbered.run_seed g.N.Staffed.children c.self.inside.journal.past (crew_of c.self.inside.crew.recorder c.self.inside.crew.staff) (crew_of c.install.new.self c.self.inside.crew.staff) refl refl c.install.ensures.cells (installed_boots c.install.result g.N.Numbered.run_seed c.args.service c.args.incarnation (cols g.N.Numbered.site c.args.service) c.self.inside.crew.recorder.own c.install.new.self.own c.install.ensures.added c.install.ensures.front) c.self.invariant.kin;
+  faults = faults_kept g.N.Staffed.children c.self.inside.journal.past (crew_of c.self.inside.crew.recorder c.self.inside.crew.staff) (crew_of c.install.new.self c.self.inside.crew.staff) refl c.install.ensures.cells c.self.invariant.faults;
 }
 
 pub returns-clause-front : goal.returns-clause-front

@@ -9,7 +9,9 @@ use Rattle.okld_launch.specs.Launchers.{LauncherIs}
 use Rattle.okld_launch.specs.Children.{StaysAttended}
 use Rattle.okld_launch.proofs.Children.{stays_met}
 use Rattle.launch_crew.proofs.Ended.{attended_met}
-use Rattle.okld_launch.proofs.Kin.{kin_seen}
+use Rattle.okld_launch.proofs.Kin.{kin_stays}
+use Rattle.okld_launch.proofs.Boots.{boots_kept}
+use Rattle.okld_launch.proofs.Faults.{faults_seen}
 use Rattle.okld_launch.proofs.launcher.Launcher.meet.Goals as goal
 
 pub invariant_of-self : goal.invariant_of-self
@@ -21,7 +23,8 @@ invariant_of-self g c = record {
   keeps = same_crew g.N.Numbered.site (launcher_of c.self.inside.journal c.self.inside.crew.recorder c.self.inside.crew.staff c.self.inside.ups.items) (crew_of c.meet.new.self c.self.inside.crew.staff) (met c.args.note.service (crew_of c.self.inside.crew.recorder c.self.inside.crew.staff) (crew_of c.meet.new.self c.self.inside.crew.staff) c.meet.ensures.columns c.meet.ensures.only c.meet.ensures.last refl c.meet.ensures.room) c.self.invariant.keeps;
   caused = kept_caused (launcher_of c.self.inside.journal c.self.inside.crew.recorder c.self.inside.crew.staff c.self.inside.ups.items) (launcher_of c.self.inside.journal c.meet.new.self c.self.inside.crew.staff c.self.inside.ups.items) refl (none_same c.self.inside.crew.recorder.sat c.meet.new.self.sat c.meet.ensures.columns) refl c.self.invariant.caused;
   attended = attended_met c.args.note.service (crew_of c.self.inside.crew.recorder c.self.inside.crew.staff) (crew_of c.meet.new.self c.self.inside.crew.staff) c.meet.ensures.only c.meet.ensures.link c.meet.ensures.last refl c.self.invariant.attended;
-  kin = kin_seen g.N.Numbered.site g.N.Numbered.run_seed g.N.Staffed.children c.self.inside.crew.recorder.watch c.meet.new.self.watch c.self.inside.crew.staff.running c.self.inside.crew.staff.family c.meet.ensures.behind c.self.invariant.kin;
+  kin = kin_stays g.N.Numbered.site g.N.Numbered.run_seed g.N.Staffed.children c.self.inside.journal.past (crew_of c.self.inside.crew.recorder c.self.inside.crew.staff) (crew_of c.meet.new.self c.self.inside.crew.staff) refl refl c.meet.ensures.behind (boots_kept c.self.inside.crew.recorder.own c.meet.new.self.own c.meet.ensures.own) c.self.invariant.kin;
+  faults = faults_seen g.N.Staffed.children c.self.inside.journal.past (crew_of c.self.inside.crew.recorder c.self.inside.crew.staff) (crew_of c.meet.new.self c.self.inside.crew.staff) refl c.meet.ensures.out c.self.invariant.faults;
 }
 
 pub returns-clause-counted : goal.returns-clause-counted

@@ -1,4 +1,4 @@
-use Rattle.std.proofs.Common.{◌∙◌, refl, ap, false}
+use Rattle.std.proofs.Common.{◌∙◌, length, refl, ap, false}
 use Rattle.std.specs.Prelude.{replicate}
 use Rattle.okld_launch.proofs.Begins.{launcher_of, unused_kept}
 use Rattle.okld_launch.proofs.Failing.{none_failed}
@@ -7,6 +7,7 @@ use Rattle.okld_launch.proofs.Caused.{unused_caused}
 use Rattle.okld_launch.proofs.Pieces.{whole_none}
 use Rattle.std.proofs.lemmas.Bool.{false≢true}
 use Rattle.launch_crew.specs.Crews.{crew_of}
+use Rattle.okld_launch.proofs.Faults.{no_faults}
 use Rattle.okld_launch.proofs.launcher.Launcher.new.Goals as goal
 
 pub invariant_of-result : goal.invariant_of-result
@@ -19,7 +20,8 @@ invariant_of-result g c = record {
       c.requires.config c.requires.none refl c.requires.unused c.requires.spare (c.in-Ok.ensures.items_if_clones_equal (λ y h. h) ∙ ap (λ n. replicate n 0) c.services-services.ensures.is);
   caused = unused_caused g.N.Numbered.site g.N.Numbered.launcher (launcher_of c.args.journal c.args.crew.recorder c.args.crew.staff c.in-Ok.ups.items) c.args.crew.recorder c.requires.none refl c.requires.unused (c.in-Ok.ensures.items_if_clones_equal (λ y h. h) ∙ ap (λ n. replicate n 0) c.services-services.ensures.is);
   attended = c.requires.attended;
-  kin = kin_none g.N.Numbered.site g.N.Numbered.run_seed g.N.Staffed.children c.args.crew.staff.family c.args.crew.recorder.watch c.args.crew.staff.running c.requires.children (idle_of (crew_of c.args.crew.recorder c.args.crew.staff) c.requires.unused.watch_is.unlinked c.requires.attended);
+  kin = kin_none g.N.Numbered.site g.N.Numbered.run_seed g.N.Staffed.children c.args.journal.past (crew_of c.args.crew.recorder c.args.crew.staff) c.requires.none c.requires.children (idle_of (crew_of c.args.crew.recorder c.args.crew.staff) c.requires.unused.watch_is.unlinked c.requires.attended) c.requires.unused.none;
+  faults = no_faults g.N.Staffed.children c.args.journal.past (length g.N.Numbered.site.services) g.N.Numbered.launcher (crew_of c.args.crew.recorder c.args.crew.staff) c.requires.none c.requires.children c.requires.unused.watch_is;
 }
 
 pub returns-clause-closed : goal.returns-clause-closed

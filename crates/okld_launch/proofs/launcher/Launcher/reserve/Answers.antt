@@ -7,7 +7,9 @@ use Rattle.okld_launch.specs.Failures.{FailuresAreTold}
 use Rattle.okld_launch.proofs.Caused.{kept_caused}
 use Rattle.launch_crew.proofs.Coming.{none_same}
 use Rattle.launch_crew.proofs.Ended.{attended_same}
-use Rattle.okld_launch.proofs.Kin.{kin_watch}
+use Rattle.okld_launch.proofs.Kept.{kin_moved, kin_past}
+use Rattle.okld_launch.proofs.Boots.{boots_kept}
+use Rattle.okld_launch.proofs.Faults.{faults_kept, faults_past}
 use Rattle.okld_launch.proofs.launcher.Launcher.reserve.Goals as goal
 
 pub invariant_of-self : goal.invariant_of-self
@@ -19,7 +21,8 @@ invariant_of-self g c = record {
   keeps = same_entries g.N.Numbered.site (launcher_of c.self.inside.journal c.self.inside.crew.recorder c.self.inside.crew.staff c.self.inside.ups.items) c.make_room.new.self (ap (λ (x : Launches). x.config) c.make_room.ensures.same) (ap (λ (x : Launches). x.past) c.make_room.ensures.same) c.self.invariant.keeps;
   caused = kept_caused (launcher_of c.self.inside.journal c.self.inside.crew.recorder c.self.inside.crew.staff c.self.inside.ups.items) (launcher_of c.make_room.new.self c.self.inside.crew.recorder c.self.inside.crew.staff c.self.inside.ups.items) (ap (λ (x : Launches). x.past) c.make_room.ensures.same) (λ s k. refl) refl c.self.invariant.caused;
   attended = c.self.invariant.attended;
-  kin = c.self.invariant.kin;
+  kin = kin_past g.N.Numbered.site g.N.Numbered.run_seed g.N.Staffed.children c.self.inside.journal.past c.make_room.new.self.past (crew_of c.self.inside.crew.recorder c.self.inside.crew.staff) (ap (λ (x : Launches). x.past) c.make_room.ensures.same) c.self.invariant.kin;
+  faults = faults_past g.N.Staffed.children c.self.inside.journal.past c.make_room.new.self.past (crew_of c.self.inside.crew.recorder c.self.inside.crew.staff) (ap (λ (x : Launches). x.past) c.make_room.ensures.same) c.self.invariant.faults;
 }
 
 pub invariant_of-self-2 : goal.invariant_of-self-2
@@ -33,5 +36,6 @@ invariant_of-self-2 g c = record {
       (same_entries g.N.Numbered.site (launcher_of c.self.inside.journal c.self.inside.crew.recorder c.self.inside.crew.staff c.self.inside.ups.items) c.make_room.new.self (ap (λ (x : Launches). x.config) c.make_room.ensures.same) (ap (λ (x : Launches). x.past) c.make_room.ensures.same) c.self.invariant.keeps);
   caused = kept_caused (launcher_of c.self.inside.journal c.self.inside.crew.recorder c.self.inside.crew.staff c.self.inside.ups.items) (launcher_of c.make_room.new.self c.make_room-2.new.self c.self.inside.crew.staff c.self.inside.ups.items) (ap (λ (x : Launches). x.past) c.make_room.ensures.same) (none_same c.self.inside.crew.recorder.sat c.make_room-2.new.self.sat (ap (λ (r : Recorded). r.sat) c.make_room-2.ensures.same)) refl c.self.invariant.caused;
   attended = attended_same (crew_of c.self.inside.crew.recorder c.self.inside.crew.staff) (crew_of c.make_room-2.new.self c.self.inside.crew.staff) (ap (λ (r : Recorded). r.watch) c.make_room-2.ensures.same) refl c.self.invariant.attended;
-  kin = kin_watch g.N.Numbered.site g.N.Numbered.run_seed g.N.Staffed.children c.self.inside.crew.recorder.watch c.make_room-2.new.self.watch c.self.inside.crew.staff.running c.self.inside.crew.staff.family (ap (λ (r : Recorded). r.watch) c.make_room-2.ensures.same) c.self.invariant.kin;
+  kin = kin_moved g.N.Numbered.site g.N.Numbered.run_seed g.N.Staffed.children c.make_room.new.self.past (crew_of c.self.inside.crew.recorder c.self.inside.crew.staff) (crew_of c.make_room-2.new.self c.self.inside.crew.staff) refl refl (ap (λ (r : Recorded). r.watch) c.make_room-2.ensures.same) (boots_kept c.self.inside.crew.recorder.own c.make_room-2.new.self.own (ap (λ (r : Recorded). r.own) c.make_room-2.ensures.same)) (kin_past g.N.Numbered.site g.N.Numbered.run_seed g.N.Staffed.children c.self.inside.journal.past c.make_room.new.self.past (crew_of c.self.inside.crew.recorder c.self.inside.crew.staff) (ap (λ (x : Launches). x.past) c.make_room.ensures.same) c.self.invariant.kin);
+  faults = faults_kept g.N.Staffed.children c.make_room.new.self.past (crew_of c.self.inside.crew.recorder c.self.inside.crew.staff) (crew_of c.make_room-2.new.self c.self.inside.crew.staff) refl (ap (λ (r : Recorded). r.watch) c.make_room-2.ensures.same) (faults_past g.N.Staffed.children c.self.inside.journal.past c.make_room.new.self.past (crew_of c.self.inside.crew.recorder c.self.inside.crew.staff) (ap (λ (x : Launches). x.past) c.make_room.ensures.same) c.self.invariant.faults);
 }

@@ -5,8 +5,10 @@ use Rattle.okld_launch.proofs.Placing.{revoked_kept}
 use Rattle.okld_launch.proofs.Caused.{kept_caused}
 use Rattle.launch_crew.proofs.Coming.{none_columns}
 use Rattle.launch_crew.proofs.Ended.{attended_same}
-use Rattle.okld_launch.proofs.Kin.{kin_watch}
 use Rattle.launch_crew.specs.Crews.{crew_of}
+use Rattle.okld_launch.proofs.Kept.{kin_moved}
+use Rattle.okld_launch.proofs.Boots.{revoked_boots}
+use Rattle.okld_launch.proofs.Faults.{faults_kept}
 use Rattle.okld_launch.proofs.launcher.Launcher.revoke.Goals as goal
 
 pub invariant_of-self : goal.invariant_of-self
@@ -20,5 +22,6 @@ invariant_of-self g c = record {
       (omega (arith, ap (λ (x : LauncherIs). x.crew.room) c.self.view_is, c.requires.room, c.revoke.ensures.room));
   caused = kept_caused (launcher_of c.self.inside.journal c.self.inside.crew.recorder c.self.inside.crew.staff c.self.inside.ups.items) (launcher_of c.self.inside.journal c.revoke.new.self c.self.inside.crew.staff c.self.inside.ups.items) refl (none_columns c.self.inside.crew.recorder.sat c.revoke.new.self.sat c.revoke.ensures.revokes.thins.only) refl c.self.invariant.caused;
   attended = attended_same (crew_of c.self.inside.crew.recorder c.self.inside.crew.staff) (crew_of c.revoke.new.self c.self.inside.crew.staff) (c.revoke.ensures.cells) refl c.self.invariant.attended;
-  kin = kin_watch g.N.Numbered.site g.N.Numbered.run_seed g.N.Staffed.children c.self.inside.crew.recorder.watch c.revoke.new.self.watch c.self.inside.crew.staff.running c.self.inside.crew.staff.family (c.revoke.ensures.cells) c.self.invariant.kin;
+  kin = kin_moved g.N.Numbered.site g.N.Numbered.run_seed g.N.Staffed.children c.self.inside.journal.past (crew_of c.self.inside.crew.recorder c.self.inside.crew.staff) (crew_of c.revoke.new.self c.self.inside.crew.staff) refl refl c.revoke.ensures.cells (revoked_boots g.N.Numbered.site c.args.service c.self.inside.crew.recorder.own c.revoke.new.self.own c.revoke.ensures.own) c.self.invariant.kin;
+  faults = faults_kept g.N.Staffed.children c.self.inside.journal.past (crew_of c.self.inside.crew.recorder c.self.inside.crew.staff) (crew_of c.revoke.new.self c.self.inside.crew.staff) refl c.revoke.ensures.cells c.self.invariant.faults;
 }

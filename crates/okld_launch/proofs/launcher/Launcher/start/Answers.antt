@@ -1,25 +1,27 @@
-use Rattle.std.proofs.Common.{◌≡◌, ◌∙◌, ◌≤◌, ◌∷◌, refl, sym, ap, subst, arith, get_or, None}
+use Rattle.std.proofs.Common.{◌≡◌, ◌∙◌, ◌≤◌, ◌∷◌, refl, sym, ap, subst, arith, get_or, None, ◌<◌}
 use Rattle.monitor_model.specs.Launcher.{begun}
 use Rattle.launch_crew.specs.Crews.{RunsAs, child_of, crew_of}
 use Rattle.okld_launch.specs.Launchers.{LauncherIs, up_in}
 use Rattle.okld_launch.proofs.Begins.{launcher_of}
 use Rattle.okld_launch.proofs.Placing.{started_kept, tries_of, stays_tried}
-use Rattle.std.proofs.lemmas.Result.{on_ok_weaker}
-use Rattle.launch_crew.specs.Steps.{Starts}
+use Rattle.std.proofs.lemmas.Result.{on_ok_weaker, on_err_weaker}
+use Rattle.launch_crew.specs.Steps.{Starts, Misses}
 use Rattle.launch_crew.specs.Told.{TellsMore}
 use Rattle.okld_launch.proofs.Failing.{told_more, told_failed}
 use Rattle.launch_crew.proofs.Children.{more_same}
 use Rattle.okld_launch.proofs.Caused.{kept_caused}
 use Rattle.launch_crew.proofs.Coming.{none_same}
 use Rattle.launch_crew.specs.Listed.{AreCounted, CellsGo}
-use Rattle.launch_crew.specs.Steps.{Misses}
-use Rattle.std.proofs.lemmas.Result.{on_err_weaker}
 use Rattle.monitor_model.specs.declared.record.Own.TheVariants as own
 use Rattle.launch_crew.proofs.Retiring.{counted_of, go_same}
 use Rattle.okld_launch.specs.Children.{StaysAttended}
 use Rattle.okld_launch.proofs.Children.{stays_same}
 use Rattle.okws_plan.specs.declared.configuration.Config.{Config}
 use Rattle.okld_launch.proofs.Kin.{kin_tried, words_at}
+use Rattle.monitor_model.specs.Cell.{last_booted}
+use Rattle.cell_locks.specs.Row.{seen_at}
+use Rattle.okld_launch.specs.Kin.{Unstarted}
+use Rattle.okld_launch.proofs.Faults.{faults_failed, faults_tried, unlinked_at}
 use Rattle.okld_launch.proofs.launcher.Launcher.start.Goals as goal
 
 pub invariant_of-self : goal.invariant_of-self
@@ -32,9 +34,13 @@ invariant_of-self g c = record {
       (omega (arith, ap (λ (x : LauncherIs). x.crew.room) c.self.view_is, c.requires.room, (tries_of c.start.result c.args.service c.args.incarnation (crew_of c.self.inside.crew.recorder c.self.inside.crew.staff) (crew_of c.start.new.self.recorder c.start.new.self.staff) c.start.ensures.ok c.start.ensures.err).room));
   caused = kept_caused (launcher_of c.self.inside.journal c.self.inside.crew.recorder c.self.inside.crew.staff c.self.inside.ups.items) (launcher_of c.self.inside.journal c.start.new.self.recorder c.start.new.self.staff c.self.inside.ups.items) refl (none_same c.self.inside.crew.recorder.sat c.start.new.self.recorder.sat (tries_of c.start.result c.args.service c.args.incarnation (crew_of c.self.inside.crew.recorder c.self.inside.crew.staff) (crew_of c.start.new.self.recorder c.start.new.self.staff) c.start.ensures.ok c.start.ensures.err).sat_is) refl c.self.invariant.caused;
   attended = (stays_tried c.start.result c.args.service c.args.incarnation (crew_of c.self.inside.crew.recorder c.self.inside.crew.staff) (crew_of c.start.new.self.recorder c.start.new.self.staff) (subst (λ (x : LauncherIs). child_of x.crew c.args.service ≡ None) (sym c.self.view_is) c.requires.child) c.start.ensures.ok c.start.ensures.err).attended c.self.invariant.attended;
-  kin = kin_tried c.start.result g.N.Numbered.site g.N.Numbered.run_seed g.N.Staffed.children c.args.service c.args.incarnation c.as_slice-words.result.now (crew_of c.self.inside.crew.recorder c.self.inside.crew.staff) (crew_of c.start.new.self.recorder c.start.new.self.staff) c.requires.service c.requires.counted
+  kin = kin_tried c.start.result g.N.Numbered.site g.N.Numbered.run_seed g.N.Staffed.children c.self.inside.journal.past c.args.service c.args.incarnation c.as_slice-words.result.now (crew_of c.self.inside.crew.recorder c.self.inside.crew.staff) (crew_of c.start.new.self.recorder c.start.new.self.staff) g.N.Numbered.launcher c.requires.service c.requires.counted
+      (subst (λ (x : LauncherIs). c.args.incarnation ≤ begun x.journal.past c.args.service) (sym c.self.view_is) c.requires.begun)
       (words_at g.N.Numbered.site c.args.service c.as_slice.result.now (get_or c.as_slice.result.now c.args.service c.index-as_slice-service.result) c.index-as_slice-service.result c.as_slice-words.result.now c.requires.service (c.as_slice.ensures ∙ ap (λ (C : Config). C.services) (c.deref.ensures ∙ c.self.invariant.site_is)) refl c.as_slice-words.ensures)
-      (subst (λ (x : LauncherIs). child_of x.crew c.args.service ≡ None) (sym c.self.view_is) c.requires.child) c.start.ensures.ok c.start.ensures.err c.start.ensures.started c.start.ensures.in_vain c.self.invariant.kin;
+      (subst (λ (x : LauncherIs). child_of x.crew c.args.service ≡ None) (sym c.self.view_is) c.requires.child) (subst (λ (x : LauncherIs). Unstarted c.args.service c.args.incarnation g.N.Staffed.children x.crew.family) (sym c.self.view_is) c.requires.unstarted) c.keeps.ensures.own_is
+      (subst (λ (x : LauncherIs). last_booted (seen_at x.crew.watch c.args.service) < c.args.incarnation) (sym c.self.view_is) c.requires.later) c.start.ensures.ok c.start.ensures.err c.start.ensures.started c.start.ensures.in_vain c.self.invariant.kin;
+  faults = faults_tried g.N.Staffed.children c.self.inside.journal.past c.args.service c.args.incarnation (crew_of c.self.inside.crew.recorder c.self.inside.crew.staff) (crew_of c.start.new.self.recorder c.start.new.self.staff)
+      (unlinked_at (crew_of c.self.inside.crew.recorder c.self.inside.crew.staff) c.args.service (subst (λ (x : LauncherIs). child_of x.crew c.args.service ≡ None) (sym c.self.view_is) c.requires.child) c.self.invariant.attended) (tries_of c.start.result c.args.service c.args.incarnation (crew_of c.self.inside.crew.recorder c.self.inside.crew.staff) (crew_of c.start.new.self.recorder c.start.new.self.staff) c.start.ensures.ok c.start.ensures.err) c.self.invariant.faults;
 }
 
 pub returns-clause-child : goal.returns-clause-child
@@ -45,8 +51,12 @@ returns-clause-told g c = subst (λ (x : LauncherIs). TellsMore x.crew.family c.
     (tries_of c.start.result c.args.service c.args.incarnation (crew_of c.self.inside.crew.recorder c.self.inside.crew.staff) (crew_of c.start.new.self.recorder c.start.new.self.staff) c.start.ensures.ok c.start.ensures.err).told
 
 pub returns-clause-fault : goal.returns-clause-fault
-returns-clause-fault g c = λ failed. told_failed g.N.Staffed.children c.self.inside.crew.staff.family c.start.new.self.staff.family c.self.inside.journal.holder c.args.service c.args.incarnation c.self.inside.journal.past
-    (tries_of c.start.result c.args.service c.args.incarnation (crew_of c.self.inside.crew.recorder c.self.inside.crew.staff) (crew_of c.start.new.self.recorder c.start.new.self.staff) c.start.ensures.ok c.start.ensures.err).told (c.start.ensures.cause failed) c.self.invariant.failed
+returns-clause-fault g c = λ failed. record {
+  failed = told_failed g.N.Staffed.children c.self.inside.crew.staff.family c.start.new.self.staff.family c.self.inside.journal.holder c.args.service c.args.incarnation c.self.inside.journal.past
+      (tries_of c.start.result c.args.service c.args.incarnation (crew_of c.self.inside.crew.recorder c.self.inside.crew.staff) (crew_of c.start.new.self.recorder c.start.new.self.staff) c.start.ensures.ok c.start.ensures.err).told (c.start.ensures.cause failed) c.self.invariant.failed;
+  faults = faults_failed g.N.Staffed.children c.self.inside.journal.holder c.args.service c.args.incarnation c.self.inside.journal.past (crew_of c.self.inside.crew.recorder c.self.inside.crew.staff) (crew_of c.start.new.self.recorder c.start.new.self.staff)
+      (unlinked_at (crew_of c.self.inside.crew.recorder c.self.inside.crew.staff) c.args.service (subst (λ (x : LauncherIs). child_of x.crew c.args.service ≡ None) (sym c.self.view_is) c.requires.child) c.self.invariant.attended) (tries_of c.start.result c.args.service c.args.incarnation (crew_of c.self.inside.crew.recorder c.self.inside.crew.staff) (crew_of c.start.new.self.recorder c.start.new.self.staff) c.start.ensures.ok c.start.ensures.err) (c.start.ensures.cause failed) c.self.invariant.faults;
+}
 
 pub returns-in_default-clause-told : goal.returns-in_default-clause-told
 returns-in_default-clause-told g c = more_same _ _ refl

@@ -1,4 +1,4 @@
-use Rattle.std.proofs.Common.{◌∙◌, sym, ap, subst, ℕ, Bool, true, List}
+use Rattle.std.proofs.Common.{◌∙◌, sym, ap, subst, inl, ℕ, Bool, true, List}
 use Rattle.okws_plan.specs.declared.event.LauncherEvent.TheVariants as event
 use Rattle.monitor_model.specs.Causes.{is_crashed_of}
 use Rattle.launch_crew.specs.Coming.{came_up}
@@ -11,7 +11,7 @@ use Rattle.okld_launch.proofs.Opening.{opens}
 use Rattle.okld_launch.proofs.Told.{tended_of, tends_crashed}
 use Rattle.okld_launch.proofs.OnWay.{closed_asked, closed_ended, closed_entered, closed_roomy}
 use Rattle.okws_plan.specs.declared.event.LauncherEvent.{LauncherEvent}
-use Rattle.okld_launch.specs.Deeds.{ends_after, tend_up, ups_after, launch_up}
+use Rattle.okld_launch.specs.Ups.{ends_after, tend_up, ups_after, launch_up}
 use Rattle.okld_launch.specs.Pieces.{IsClosed, with_up}
 use Rattle.okld_launch.proofs.Turning.{ends_crashed, ends_none, tend_as}
 use Rattle.okld_launch.proofs.Attending.{told_yes}
@@ -26,6 +26,15 @@ returns-clause-goes g c =
     let new = c.go_on-launcher-2.result.0 in
     let tends = tends_crashed C s c.in-Some-up_now.incarnation old c.ended.new.self c.make_room.new.self c.crash-crash.new.self launched new c.in-Some-up_now.ensures.some.0 c.in-Some-up_now.ensures.some.1 (sym c.given_up.ensures ∙ c.in_default.is) c.in-Yes.ensures.asks c.ended.ensures.same c.make_room.ensures.same c.crash-crash.ensures.entered c.go_on-launcher-2.ensures.goes in
     subst (λ (t : Tended). GoesTended C old.journal.holder s old t new) (sym c.tended_as-2.ensures) (tended_of C old.journal.holder s old launched new tends)
+
+pub returns-in_default-up_now-clause-goes : goal.returns-in_default-up_now-clause-goes
+returns-in_default-up_now-clause-goes g c =
+    let C = g.N.Numbered.site in
+    let s = c.args.service in
+    let old = c.args.self in
+    let launched = c.go_on-launcher.result.1 in
+    let new = c.go_on-launcher.result.0 in
+    subst (λ (t : Tended). GoesTended C old.journal.holder s old t new) (sym c.tended_as.ensures) (tended_of C old.journal.holder s old launched new (inl (c.in_default-up_now.ensures.none, c.go_on-launcher.ensures.goes)))
 
 pub returns-clause-enters : goal.returns-clause-enters
 returns-clause-enters g c = opens (event.Crashed c.args.service c.in-Some-up_now.incarnation) c.crash-crash.result c.args.self.journal.holder c.args.self.journal.past c.make_room.new.self c.crash-crash.new.self c.go_on-launcher-2.result.2 c.go_on-launcher-2.result.0.journal.past

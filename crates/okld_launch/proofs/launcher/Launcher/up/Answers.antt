@@ -7,7 +7,9 @@ use Rattle.okld_launch.proofs.Begins.{launcher_of}
 use Rattle.okld_launch.proofs.Placing.{upped_kept, looked_kept}
 use Rattle.okld_launch.proofs.Caused.{at_most, kept_caused, upped_caused}
 use Rattle.launch_crew.proofs.Ended.{attended_same}
-use Rattle.okld_launch.proofs.Kin.{kin_watch}
+use Rattle.okld_launch.proofs.Kept.{kin_moved}
+use Rattle.okld_launch.proofs.Boots.{boots_kept, up_boots}
+use Rattle.okld_launch.proofs.Faults.{faults_kept}
 use Rattle.okld_launch.proofs.launcher.Launcher.up.Goals as goal
 
 pub invariant_of-self : goal.invariant_of-self
@@ -21,7 +23,8 @@ invariant_of-self g c = record {
       (omega (arith, ap (λ (x : LauncherIs). x.crew.room) c.self.view_is, c.requires.room, c.up.ensures.room));
   caused = kept_caused (launcher_of c.self.inside.journal c.self.inside.crew.recorder c.self.inside.crew.staff c.self.inside.ups.items) (launcher_of c.self.inside.journal c.up.new.self c.self.inside.crew.staff c.self.inside.ups.items) refl c.in_err-up.ensures.none refl c.self.invariant.caused;
   attended = attended_same (crew_of c.self.inside.crew.recorder c.self.inside.crew.staff) (crew_of c.up.new.self c.self.inside.crew.staff) (c.up.ensures.cells) refl c.self.invariant.attended;
-  kin = kin_watch g.N.Numbered.site g.N.Numbered.run_seed g.N.Staffed.children c.self.inside.crew.recorder.watch c.up.new.self.watch c.self.inside.crew.staff.running c.self.inside.crew.staff.family (c.up.ensures.cells) c.self.invariant.kin;
+  kin = kin_moved g.N.Numbered.site g.N.Numbered.run_seed g.N.Staffed.children c.self.inside.journal.past (crew_of c.self.inside.crew.recorder c.self.inside.crew.staff) (crew_of c.up.new.self c.self.inside.crew.staff) refl refl c.up.ensures.cells (boots_kept c.self.inside.crew.recorder.own c.up.new.self.own c.in_err-up.ensures.kept) c.self.invariant.kin;
+  faults = faults_kept g.N.Staffed.children c.self.inside.journal.past (crew_of c.self.inside.crew.recorder c.self.inside.crew.staff) (crew_of c.up.new.self c.self.inside.crew.staff) refl c.up.ensures.cells c.self.invariant.faults;
 }
 
 pub invariant_of-self-2 : goal.invariant_of-self-2
@@ -37,5 +40,6 @@ invariant_of-self-2 g c = record {
       (omega (arith, ap (λ (x : LauncherIs). x.crew.room) c.self.view_is, c.requires.room, c.up.ensures.room));
   caused = upped_caused c.args.service c.args.incarnation (launcher_of c.self.inside.journal c.self.inside.crew.recorder c.self.inside.crew.staff c.self.inside.ups.items) (launcher_of c.self.inside.journal c.up.new.self c.self.inside.crew.staff (slice_set c.self.inside.ups.items c.args.service c.args.incarnation)) refl refl (subst (λ n. c.args.service < n) (sym c.self.invariant.keeps.ups_are) c.requires.service) c.in_ok-up.ensures.came (subst (λ (x : LauncherIs). c.args.incarnation ≡ begun x.journal.past c.args.service) (sym c.self.view_is) c.requires.begun) c.self.invariant.caused;
   attended = attended_same (crew_of c.self.inside.crew.recorder c.self.inside.crew.staff) (crew_of c.up.new.self c.self.inside.crew.staff) (c.up.ensures.cells) refl c.self.invariant.attended;
-  kin = kin_watch g.N.Numbered.site g.N.Numbered.run_seed g.N.Staffed.children c.self.inside.crew.recorder.watch c.up.new.self.watch c.self.inside.crew.staff.running c.self.inside.crew.staff.family (c.up.ensures.cells) c.self.invariant.kin;
+  kin = kin_moved g.N.Numbered.site g.N.Numbered.run_seed g.N.Staffed.children c.self.inside.journal.past (crew_of c.self.inside.crew.recorder c.self.inside.crew.staff) (crew_of c.up.new.self c.self.inside.crew.staff) refl refl c.up.ensures.cells (up_boots c.args.service c.args.incarnation c.self.inside.crew.recorder.own c.up.new.self.own c.in_ok-up.ensures.added) c.self.invariant.kin;
+  faults = faults_kept g.N.Staffed.children c.self.inside.journal.past (crew_of c.self.inside.crew.recorder c.self.inside.crew.staff) (crew_of c.up.new.self c.self.inside.crew.staff) refl c.up.ensures.cells c.self.invariant.faults;
 }

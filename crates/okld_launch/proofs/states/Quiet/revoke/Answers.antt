@@ -5,6 +5,7 @@ use Rattle.okld_launch.proofs.Stating.{begins_on, launch_of, goes_on}
 use Rattle.okld_launch.specs.States.{LaunchIs, GoesOn}
 use Rattle.okld_launch.proofs.OnWay.{way_clears}
 use Rattle.okld_launch.specs.Pieces.{HasBegun}
+use Rattle.okld_launch.proofs.Kin.{unstarted_same}
 use Rattle.okld_launch.proofs.states.Quiet.revoke.Goals as goal
 
 pub invariant_of-result : goal.invariant_of-result
@@ -14,6 +15,7 @@ invariant_of-result g c = record {
   under = c.clear.ensures.under c.self.inside.incarnation c.self.invariant.under;
   quiet = c.clear.ensures.quiet;
   down = c.clear.ensures.down;
+  unstarted = unstarted_same c.self.inside.service c.self.inside.incarnation g.N.Staffed.children c.self.inside.launcher.crew.family c.clear.new.self.crew.family c.clear.ensures.started c.self.invariant.unstarted;
 }
 
 pub returns-clause-on : goal.returns-clause-on

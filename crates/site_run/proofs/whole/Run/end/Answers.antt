@@ -1,4 +1,4 @@
-use Rattle.std.proofs.Common.{rules, arith, ◌≡◌, ◌≤◌, ◌<◌, ◌+◌, ℕ, true, List, [], length, map, sym, ap, ◌∙◌, subst}
+use Rattle.std.proofs.Common.{rules, arith, ◌≡◌, ◌≤◌, ◌<◌, ◌+◌, ℕ, true, List, [], length, map, refl, sym, ap, ◌∙◌, subst}
 use Rattle.std.proofs.lemmas.List.{length-map}
 use Rattle.okws_base.specs.Turns.{Behind}
 use Rattle.okws_base.specs.declared.journal.Entry.{Entry}
@@ -9,8 +9,8 @@ use Rattle.monitor_model.specs.declared.record.Record.{Record}
 use Rattle.site_cell.specs.Held.{by_event}
 use Rattle.cell_locks.specs.Closing.{HasNumber}
 use Rattle.named_columns.specs.Launched.{by_entry}
-use Rattle.okld_launch.specs.Deeds.{up_in}
-use Rattle.okld_launch.specs.Failures.{FailuresAreTold}
+use Rattle.launch_turns.specs.Deeds.{up_in}
+use Rattle.okld_launch.specs.Failures.{FailuresAreTold, children_rise}
 use Rattle.okld_launch.specs.Heard.{ChildrenAreTold}
 use Rattle.site_locks.specs.Closing.{SomeIs}
 use Rattle.site_run.specs.Closing.{AllKept, WritesLog}
@@ -22,14 +22,17 @@ use Rattle.site_run.specs.Tied.{AllEnd, LaunchesAreOwn, SeatsOf}
 use Rattle.site_run.specs.Whole.{IsHeld}
 use Rattle.site_run.specs.declared.ended.Counts.{Counts}
 use Rattle.monitor_model.specs.Causes.{all_were_caused, has_up}
+use Rattle.monitor_model.specs.Columns.{WithinCount}
+use Rattle.monitor_model.specs.Launches.{failures}
 use Rattle.monitor_model.specs.Launcher.{LauncherLaw}
 use Rattle.launch_crew.specs.Coming.{came_up}
 use Rattle.site_run.proofs.Caused.{record_ups, were_caused}
 use Rattle.site_run.proofs.Closed.{are_seated}
 use Rattle.site_run.proofs.Leaving.{IsTold, launches_own, lives_end, none_entered, raised_all}
-use Rattle.site_run.specs.Pieced.{LaunchesAreWhole, ended_among}
+use Rattle.site_run.specs.Pieced.{LaunchesAreWhole, ended_among, ended_crew}
 use Rattle.site_run.proofs.Came.{came_as_told}
 use Rattle.site_run.proofs.Taken.{last_behind}
+use Rattle.site_run.proofs.Faulted.{faults_within}
 use Rattle.site_run.proofs.Pieced.{children_heard, launches_whole}
 use Rattle.site_run.proofs.whole.Run.end.Goals as goal
 
@@ -320,7 +323,37 @@ returns-clause-children g c =
       workers = columns.result.workers.items;
       launches = past.result.stopped.own;
     } in
+    let none = none_entered n c.args.self.hall.turn.count past.result.past past.result.deeds.past c.requires.held.turn_count past.ensures.entries past.ensures.none n (omega arith) in
+    let launched : LaunchesAreOwn n R = launches_own n R c.chairs.inside.seats.items c.push_reserved.new.self.items past.result.stopped.seats c.chairs.inside.cells.items c.push_reserved-2.new.self.items past.result.stopped.cells
+    c.push_reserved.ensures.items c.push_reserved-2.ensures.items past.ensures.numbers.0 past.ensures.numbers.1 columns.ensures.grown cells.ensures.grown none past.ensures.own in
     subst (λ (S : Record). ChildrenAreTold g.N.Numbered.site g.N.Numbered.run_seed S g.N.Staffed.children (g.F.Children.family c.told.result.children)) (sym c.told.ensures.journals)
     (subst (λ (f : Family). ChildrenAreTold g.N.Numbered.site g.N.Numbered.run_seed R g.N.Staffed.children f) (sym c.told.ensures.children)
-    (children_heard g.N.Numbered.site g.N.Numbered.run_seed g.N.Staffed.children (g.F.Children.family past.result.stopped.children) n R c.chairs.inside.cells.items c.push_reserved-2.new.self.items past.result.stopped.cells
-    c.push_reserved-2.ensures.items past.ensures.numbers.1 cells.ensures.grown cells.ensures.cells past.ensures.kin))
+    (children_heard g.N.Numbered.site g.N.Numbered.run_seed g.N.Staffed.children n R c.chairs.inside.cells.items c.push_reserved-2.new.self.items
+    (ended_crew past.result.stopped.seats past.result.stopped.cells (g.F.Children.family past.result.stopped.children) past.result.stopped.own) (λ s. refl) refl
+    c.push_reserved-2.ensures.items past.ensures.numbers.1 cells.ensures.grown cells.ensures.cells launched past.ensures.kin))
+
+pub returns-clause-failures : goal.returns-clause-failures
+returns-clause-failures g c =
+    let n = g.N.Numbered.launcher in
+    let first = g.N.Staffed.children in
+    let past = c.end_launcher-past in
+    let columns = c.end_columns-columns in
+    let cells = c.end_cells-cells in
+    let services : length cells.result.events.items ≡ length g.N.Numbered.site.services = (let q = cells.ensures.many in search rules) in
+    let R : Record = record {
+      okd = columns.result.okd.past;
+      proxies = columns.result.proxies.pasts.items;
+      pubd = columns.result.pubd.past;
+      oklogd = columns.result.oklogd.past;
+      launcher = past.result.past;
+      cells = cells.result.events.items;
+      sents = cells.result.sents.items;
+      doors = [];
+      workers = columns.result.workers.items;
+      launches = past.result.stopped.own;
+    } in
+    subst (λ (S : Record). WithinCount (children_rise first (g.F.Children.family c.told.result.children)) (failures S)) (sym c.told.ensures.journals)
+    (subst (λ (f : Family). WithinCount (children_rise first f) (failures R)) (sym c.told.ensures.children)
+    (faults_within g.N.Numbered.site g.N.Numbered.run_seed first n R c.chairs.inside.cells.items c.push_reserved-2.new.self.items
+    (ended_crew past.result.stopped.seats past.result.stopped.cells (g.F.Children.family past.result.stopped.children) past.result.stopped.own)
+    c.push_reserved-2.ensures.items past.ensures.numbers.1 cells.ensures.grown cells.ensures.cells (λ s less. past.ensures.empty s (subst (λ (m : ℕ). s < m) services less)) past.ensures.failed.more past.ensures.faults))

@@ -1,5 +1,5 @@
 use Rattle.std.proofs.Common.{◌≡◌, ap, subst}
-use Rattle.okld_launch.specs.Turns.{ReportsBy}
+use Rattle.launch_turns.specs.Turns.{ReportsBy}
 use Rattle.site_worker.specs.Lives.{Life, Working}
 use Rattle.site_worker.proofs.Turns.{reports_made}
 use Rattle.site_worker.proofs.worker.Worker.report.Goals as goal

@@ -1,0 +1,48 @@
+use Rattle.std.proofs.Common.{◌≡◌, ◌∙◌, ℕ, Bool, false, List, ◌∷◌, sym, ap, subst}
+use Rattle.okws_base.specs.Turns.{GrowsBy}
+use Rattle.turn_lock.specs.Seats.{SeatIs}
+use Rattle.launch_turns.specs.Deeds.{by_deed, ended_in, up_in}
+use Rattle.okld_launch.specs.Ups.{ups_after}
+use Rattle.okld_launch.specs.Entering.{Enters}
+use Rattle.okld_launch.specs.Going.{GoesIf}
+use Rattle.okld_launch.specs.Launchers.{LauncherIs}
+use Rattle.okld_launch.specs.Pieces.{IsClosed}
+use Rattle.launch_turns.specs.Resting.{RestingIs}
+use Rattle.launch_turns.specs.declared.deed.Deed.{Deed}
+use Rattle.launch_turns.proofs.Rests.{most_of, one_turn, rests_after}
+use Rattle.launch_turns.proofs.turns.launch_by.Goals as goal
+
+pub after-requires : goal.after-requires
+after-requires g c =
+    let d : Deed = record { worker = c.number.result; entered = c.launch_if_down-launcher.result.2; up = c.up_if.result; tended = false } in
+    rests_after g.N.Numbered.site g.N.Numbered.run_seed d c.into_parts-launcher.result.1.past c.into_parts-launcher.result.0 c.launch_if_down-launcher.result.0 c.into_parts-launcher.ensures.rests.entries_are
+    (subst (λ (n : ℕ). Enters n c.launch_if_down-launcher.result.2 c.into_parts-launcher.result.0.journal.past c.launch_if_down-launcher.result.0.journal.past) ((ap (λ (l : LauncherIs). l.journal.holder) c.into_parts-launcher.ensures.launcher ∙ c.take-resting.ensures.holder) ∙ sym (c.number.ensures ∙ ap (λ (a : SeatIs Deed). a.number) c.take-resting.ensures.seat)) c.launch_if_down-launcher.ensures.enters)
+    (subst (λ (b : Bool). IsClosed g.N.Numbered.site g.N.Numbered.run_seed (ups_after b c.launch_if_down-launcher.result.2 (up_in c.into_parts-launcher.result.1.past)) (ended_in c.into_parts-launcher.result.1.past) c.launch_if_down-launcher.result.0) (sym c.up_if.ensures) (c.launch_if_down-launcher.ensures.whole (up_in c.into_parts-launcher.result.1.past) (ended_in c.into_parts-launcher.result.1.past) c.into_parts-launcher.ensures.rests.closed))
+
+pub give-requires-clause-adds : goal.give-requires-clause-adds
+give-requires-clause-adds g c =
+    let d : Deed = record { worker = c.number.result; entered = c.launch_if_down-launcher.result.2; up = c.up_if.result; tended = false } in
+    one_turn c.args.seat.now c.take-resting.new.seat c.take-resting.result.deeds d c.after.result.deeds c.take-resting.ensures.seat (c.number.ensures ∙ ap (λ (a : SeatIs Deed). a.number) c.take-resting.ensures.seat)
+    (ap (λ (r : RestingIs). r.deeds) c.after.ensures ∙ ap (λ (deeds : List Deed). d ∷ deeds) c.into_parts-launcher.ensures.deeds)
+
+pub returns-clause-goes : goal.returns-clause-goes
+returns-clause-goes g c =
+    let n = c.args.seat.now.number in
+    let holder : c.into_parts-launcher.result.0.journal.holder ≡ n = (ap (λ (l : LauncherIs). l.journal.holder) c.into_parts-launcher.ensures.launcher ∙ c.take-resting.ensures.holder) in
+    let number : c.number.result ≡ n = c.number.ensures ∙ ap (λ (a : SeatIs Deed). a.number) c.take-resting.ensures.seat in
+    record {
+      before = c.into_parts-launcher.result.0;
+      after = c.launch_if_down-launcher.result.0;
+      turn = record {
+        found = c.keeps.ensures.is;
+        deeds = c.into_parts-launcher.result.1.past;
+        deeds_are = c.into_parts-launcher.ensures.rests.entries_are;
+        grows = subst (GrowsBy by_deed n c.args.seat.now.seen) (sym c.into_parts-launcher.ensures.deeds) c.take-resting.ensures.grows;
+        enters = subst (λ (m : ℕ). Enters m c.launch_if_down-launcher.result.2 c.into_parts-launcher.result.0.journal.past c.launch_if_down-launcher.result.0.journal.past) holder c.launch_if_down-launcher.ensures.enters;
+        few = c.launch_if_down-launcher.ensures.few;
+        most = most_of g.N.Numbered.site c.launch_if_down-launcher.result.2 c.launch_if_down-launcher.ensures.few;
+        leaves = c.keeps-2.ensures.is;
+        seen_is = ap (λ (a : SeatIs Deed). a.seen) c.give.ensures.seat ∙ (ap (λ (r : RestingIs). r.deeds) c.after.ensures ∙ (λ i. record { worker = number i; entered = c.launch_if_down-launcher.result.2; up = c.up_if.ensures i; tended = false } ∷ c.into_parts-launcher.result.1.past));
+      };
+      goes = subst (λ (n : ℕ). GoesIf g.N.Numbered.site n c.args.service c.into_parts-launcher.result.0 c.launch_if_down-launcher.result.1 c.launch_if_down-launcher.result.0) holder c.launch_if_down-launcher.ensures.goes;
+    }

@@ -1,0 +1,5 @@
+pub mod Deeds
+pub mod Resting
+pub mod Turns
+pub mod Papers
+pub mod Standing

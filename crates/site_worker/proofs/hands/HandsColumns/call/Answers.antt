@@ -1,0 +1,14 @@
+use Rattle.std.proofs.lemmas.Result.{IfOk-weaker, on_err_weaker}
+use Rattle.okws_plan.specs.declared.event.ProxyEvent.TheVariants as event
+use Rattle.site_worker.proofs.Asking.{enters_proxy, sees_proxy, keeps_same, of_result}
+use Rattle.site_locks.proofs.Seeing.{at_proxy, proxy_same}
+use Rattle.site_worker.proofs.hands.HandsColumns.call.Goals as goal
+
+pub returns-clause-ok : goal.returns-clause-ok
+returns-clause-ok g c = rw (← c.self.view_is) (IfOk-weaker c.start.result _ _ (λ v q. (q.0, q.1, q.2.means c.self.invariant, at_proxy c.self.inside.seats c.start.new.self c.args.proxy (event.Call c.args.call q.1) q.0 q.3)) c.start.ensures.ok)
+
+pub returns-clause-err : goal.returns-clause-err
+returns-clause-err g c = rw (← c.self.view_is) (on_err_weaker c.start.result (λ q. proxy_same c.self.inside.seats c.start.new.self c.args.proxy q.0 q.1) c.start.ensures.err)
+
+pub returns-clause-board : goal.returns-clause-board
+returns-clause-board g c = rw (← c.self.view_is) (keeps_same g.N.Numbered.site g.N.Numbered.run_seed c.self.inside.seats c.start.new.self (of_result c.start.result _ _ _ c.start.ensures.ok c.start.ensures.err (λ v q. enters_proxy c.args.proxy (event.Call c.args.call q.1) q.0 c.self.inside.seats c.start.new.self q.3) (λ q. sees_proxy c.args.proxy q.0 c.self.inside.seats c.start.new.self q.1)))

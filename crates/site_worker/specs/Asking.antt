@@ -1,0 +1,30 @@
+-- What a worker's hands answer, by what its number has seen.
+use Rattle.std.specs.Prelude.{◌≡◌, ℕ, List, Some}
+use Rattle.okws_base.specs.Turns.{Behind}
+use Rattle.okws_base.specs.declared.journal.Entry.{Entry}
+use Rattle.okws_plan.specs.declared.event.PubdEvent.{PubdEvent}
+use Rattle.okws_plan.specs.declared.event.PubdEvent.TheVariants.{Publish}
+use Rattle.monitor_model.specs.Pubd.{publish_at}
+use Rattle.monitor_model.specs.Seen.{AtPubd}
+use Rattle.monitor_model.specs.declared.verdict.Published.{Published}
+use Rattle.monitor_model.specs.declared.verdict.Published.TheVariants.{Edition, NoSuchTemplate, TooLong, EditionsSpent}
+use Rattle.site_locks.specs.Sat.{Sat, seen_of}
+
+-- A publication of template t by what the number has seen: an edition is entered, on what it had seen at its own last entry there and what others entered since; where there is none, that is said of all that it then has seen of pubd, and nothing is entered.
+abbrev pub PublishesAt : ℕ → List ℕ → Published → Sat → Sat → Type 0
+PublishesAt t content (Edition n) s now =
+    (before : List (Entry PubdEvent)) × (Edition n ≡ publish_at before (Some t) content) × AtPubd s.number (Publish t content) (seen_of s) before (seen_of now)
+PublishesAt t content NoSuchTemplate s now = (NoSuchTemplate ≡ publish_at now.pubd (Some t) content) × (seen_of now ≡ seen_of s)
+PublishesAt t content TooLong s now = (TooLong ≡ publish_at now.pubd (Some t) content) × (seen_of now ≡ seen_of s)
+PublishesAt t content EditionsSpent s now = (EditionsSpent ≡ publish_at now.pubd (Some t) content) × (seen_of now ≡ seen_of s)
+
+-- The number is the same, what it has seen and drawn on the board, and how many items it may note without memory.
+pub record SameBoard (s now : Sat) : Type 0 where
+  pub number_is : now.number ≡ s.number
+  pub board_is : now.board ≡ s.board
+  pub drawn_is : now.drawn ≡ s.drawn
+  pub spare_is : now.spare ≡ s.spare
+
+-- Each past of a journal is a past of it still: nothing went away.
+abbrev pub KeepsPasts : {E : Type 0} → List E → List E → Type 0
+KeepsPasts {E} old new = (past : List E) → Behind past old → Behind past new

@@ -1,6 +1,6 @@
 -- The connections of a run's doors were answered by their workers' pieces.
-use Rattle.std.proofs.Common.{◌≡◌, ◌≤◌, ◌<◌, ◌+◌, ◌-◌, ◌^◌, inl, ℕ, suc, Bool, true, false, cond, List, [], ◌∷◌, ◌++◌, length, map, refl, sym, ap, ◌∙◌, subst, arith, append-nil, filter_map, Option, Some, None}
-use Rattle.std.proofs.lemmas.Bool.{true≢false}
+use Rattle.std.proofs.Common.{◌≡◌, ◌≤◌, ◌<◌, ◌+◌, ◌-◌, ◌^◌, inl, ℕ, suc, Bool, true, false, cond, List, [], ◌∷◌, ◌++◌, length, map, refl, sym, ap, ◌∙◌, subst, arith, append-nil, eq-eqb, filter_map, Option, Some, None}
+use Rattle.std.proofs.lemmas.Bool.{ne_eqb, true≢false}
 use Rattle.std.proofs.lemmas.List.{get_or_append_left}
 use Rattle.std.specs.Prelude.{nat_le}
 use Rattle.std.specs.List.{list_all}
@@ -12,7 +12,7 @@ use Rattle.monitor_model.specs.declared.record.Connection.{Connection}
 use Rattle.monitor_model.specs.declared.record.Own.{Own}
 use Rattle.monitor_model.specs.declared.record.Record.{Record}
 use Rattle.monitor_model.specs.Columns.{WithinCount}
-use Rattle.monitor_model.specs.Connections.{AreVisits, DoorIsServed, Share, Visit, visits_to}
+use Rattle.monitor_model.specs.Connections.{AreVisits, ConnectionsAreServed, DoorIsServed, Share, Visit, visits_to}
 use Rattle.monitor_model.specs.Merged.{list_of}
 use Rattle.monitor_model.specs.Outside.{Outside}
 use Rattle.monitor_model.specs.Pieces.{worker_list}
@@ -27,7 +27,8 @@ use Rattle.round_lives.specs.Serving.{Finishes, ServesAll}
 use Rattle.round_lives.proofs.Rounded.{doors_are_served}
 use Rattle.site_worker.specs.declared.door.Attended.{Attended}
 use Rattle.site_run.specs.Tied.{is_launching}
-use Rattle.okws_serve.specs.Connected.{AllFinish, ServesConnections, TellsRises, rise}
+use Rattle.okws_serve.specs.Connected.{AllFinish, rise}
+use Rattle.okws_serve.specs.Told.{door_rise}
 use Rattle.okws_serve.specs.Doors.{AllAttend, AttendsAt}
 use Rattle.okws_serve.proofs.Pieces.{Listed, both_of, first_is, listed}
 
@@ -42,6 +43,34 @@ launched_had (Launched event ∷ pieces) h = launched_had pieces (both_of (is_la
 launched_had (Wants ∷ pieces) h = inl (launched_had pieces h)
 
 -- ---- the counts
+
+-- it is told of each door, the first of which has number w, how much its count rose
+abbrev pub TellsRises : (ℕ → Option ℕ) → ℕ → List Entrance → List Entrance → Type 0
+TellsRises told w [] [] = Unit {0}
+TellsRises told w [] (f ∷ fs) = ⊥
+TellsRises told w (e ∷ es) [] = ⊥
+TellsRises told w (e ∷ es) (f ∷ fs) = (told w ≡ rise e.faults f.faults) × TellsRises told (suc w) es fs
+
+-- connections are told of each door
+pub finish_all : {X : Type 0} (wire : X → ConnWire) (es fs : List Entrance) (cs : List (List Connection)) → AllFinish wire es fs cs → length cs ≡ length es
+finish_all wire [] [] [] a = refl
+finish_all wire [] [] (c ∷ cs) a = absurd a
+finish_all wire [] (f ∷ fs) cs a = absurd a
+finish_all wire (e ∷ es) [] cs a = absurd a
+finish_all wire (e ∷ es) (f ∷ fs) [] a = absurd a
+finish_all wire (e ∷ es) (f ∷ fs) (c ∷ cs) a = ap suc (finish_all wire es fs cs a.1)
+
+-- what is told of the doors by their numbers is told of each
+pub doors_told : {X : Type 0} (wire : X → ConnWire) (told : ℕ → Option ℕ) (n : ℕ) (es fs : List Entrance) (cs : List (List Connection)) → AllFinish wire es fs cs → ((w : ℕ) → n ≤ w → told w ≡ door_rise n es fs w) → TellsRises told n es fs
+doors_told wire told n [] [] cs a h = tt
+doors_told wire told n [] (f ∷ fs) cs a h = absurd a
+doors_told wire told n (e ∷ es) [] cs a h = absurd a
+doors_told wire told n (e ∷ es) (f ∷ fs) [] a h = absurd a
+doors_told wire told n (e ∷ es) (f ∷ fs) (c ∷ cs) a h =
+    (h n (omega arith) ∙ rw (eq-eqb n n refl) refl, doors_told wire told (suc n) es fs cs a.1 (λ w l. h w (omega arith) ∙ rw (ne_eqb w n (later w l)) refl))
+  where
+    later : (w : ℕ) → suc n ≤ w → w ≡ n → ⊥
+    later w l is = omega (arith, is, l)
 
 pub within_rise : (e f m : ℕ) → counted e m ≤ f → WithinCount (rise e f) m
 within_rise e f m l = by (nat_le (2 ^ 64 - 1) f) refl
@@ -92,6 +121,12 @@ module _ {X : Type 0} (wire : X → ConnWire) (C : Config) (n most : ℕ) (R : R
 
   -- ---- all doors
 
+  -- The connections that the doors of a run finished were served by its workers, as the record of the run says with these connections: each was answered by the piece of its worker's list that it had. At most as many were cut at a door as its count rose.
+  pub record ServesConnections (old new : List Entrance) : Type 0 where
+    pub connections : List (List Connection)
+    pub finish : AllFinish wire old new connections
+    pub served : (T : Outside) → TellsRises T.doors 0 old new → ConnectionsAreServed C T (record R { doors = connections })
+
   pub record AllConnect (w : ℕ) (es fs : List Entrance) : Type 0 where
     pub connections : List (List Connection)
     pub finish : AllFinish wire es fs connections
@@ -115,7 +150,7 @@ module _ {X : Type 0} (wire : X → ConnWire) (C : Config) (n most : ℕ) (R : R
         );
       }
 
-  pub connects_doors : (es fs : List Entrance) (as' : List Attended) → length es ≤ length R.workers → AllAttend wire C n most R ended 0 es fs as' → ServesConnections wire C R es fs
+  pub connects_doors : (es fs : List Entrance) (as' : List Attended) → length es ≤ length R.workers → AllAttend wire C n most R ended 0 es fs as' → ServesConnections es fs
   connects_doors es fs as' l h =
       let all : AllConnect 0 es fs = doors_connect 0 es fs as' (omega arith) h in
       record { connections = all.connections; finish = all.finish; served = all.served all.connections }

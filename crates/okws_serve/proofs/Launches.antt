@@ -1,5 +1,5 @@
 -- How the launches of a run went by its record, and that each launch and each crash has its cause and its consequence.
-use Rattle.std.proofs.Common.{◌≡◌, ◌∙◌, ⊎_elim, ◌<◌, ◌≤◌, ◌+◌, ℕ, Bool, true, false, cond, List, [], ◌∷◌, length, filter_map, refl, sym, ap, subst, arith, eq-eqb}
+use Rattle.std.proofs.Common.{◌≡◌, ◌∙◌, ⊎_elim, ◌<◌, ◌≤◌, ◌+◌, ℕ, Bool, true, false, cond, List, [], ◌∷◌, ◌++◌, length, filter_map, refl, sym, ap, subst, arith, eq-eqb}
 use Rattle.std.proofs.lemmas.Bool.{and_from, cases_lt, or_cases, or_left, or_right, true≢false}
 use Rattle.std.specs.Prelude.{◌⊎◌, ◌==◌, ◌&&◌, ◌||◌, None, filter, map}
 use Rattle.std.specs.List.{list_any}
@@ -15,7 +15,7 @@ use Rattle.monitor_model.specs.declared.record.Own.{Own}
 use Rattle.monitor_model.specs.declared.record.Own.TheVariants as own
 use Rattle.monitor_model.specs.declared.record.Record.{Record}
 use Rattle.monitor_model.specs.Causes.{LaunchesHaveCauses, all_lead_on, all_were_caused, crashes_are_told, crashes_were, has_up}
-use Rattle.monitor_model.specs.Launches.{AreFates, Attempt, Fate, CameUp, Failed, BrokeOff, IsFate, attempts, is_begun_item, is_begun_of, is_failed_of, is_want, item_after_begun}
+use Rattle.monitor_model.specs.Launches.{AreFates, Attempt, Fate, CameUp, Failed, BrokeOff, IsEnding, IsFate, all_pieces, attempts, is_begun_item, is_begun_of, is_failed_of, is_want, item_after_begun}
 use Rattle.monitor_model.specs.Merged.{launcher_item, list_of}
 use Rattle.monitor_model.specs.Outside.{Outside}
 use Rattle.monitor_model.specs.Pieces.{is_accept_item, is_ordered, worker_list}
@@ -25,7 +25,7 @@ use Rattle.worker_lives.specs.Ending.{is_failed_item, launches_end}
 use Rattle.worker_lives.proofs.Endings.{beguns_ended}
 use Rattle.site_run.proofs.Leaving.{none_of}
 use Rattle.site_run.specs.Pieced.{LaunchesAreWhole}
-use Rattle.okws_serve.specs.Lived.{LaunchesGoSo, ListIsPieces, TellsEnds}
+use Rattle.okws_serve.specs.Lived.{ListIsPieces, TellsEnds}
 use Rattle.okws_serve.proofs.Whole.{each_from, list_is}
 
 -- ---- events of a list
@@ -112,6 +112,14 @@ all_begun (e ∷ J) = by e.event (all_begun J)
     by (event.Asked s) rest = begun_more (record { worker = e.worker; event = event.Asked s }) J (attempts J) rest
 
 -- ---- how each launch went
+
+-- The launcher's list of a record has one piece for each Begun of its journal, in order, and ends with one Retired for each cell that has an incarnation. Each piece goes as its Failed stands or doesn't; it breaks off only where NoMemory is the next item of who began it.
+pub record LaunchesGoSo (C : Config) (seed : List ℕ) (R : Record) : Type 0 where
+  pub fates : List Fate
+  pub ending : List Own
+  pub are_fates : AreFates R (attempts R.launcher) fates
+  pub list_is : R.launches ≡ ending ++ all_pieces C seed R (attempts R.launcher) fates
+  pub ends : IsEnding R (all_pieces C seed R (attempts R.launcher) fates) ending
 
 module _ (n : ℕ) (R : Record) (many : length R.workers ≡ n) (none : (w : ℕ) → n ≤ w → of by_entry w R.launcher ≡ []) (made : (w : ℕ) → w < n → events_of w R.launcher ≡ filter_map launcher_item (list_of R w))
     (ends : (w : ℕ) → w < n → launches_end (has_up R) None (list_of R w) ≡ true) where

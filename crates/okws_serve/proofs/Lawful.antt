@@ -1,5 +1,6 @@
 -- A run's journals and cells are lawful, and each dialog fits the entries that its worker made in it.
-use Rattle.std.proofs.Common.{◌≡◌, ◌<◌, ℕ, suc, Bool, true, List, [], ◌∷◌, length, sym, subst, arith}
+use Rattle.std.proofs.Common.{◌≡◌, ◌∙◌, ◌<◌, ◌≤◌, ℕ, suc, Bool, true, List, [], ◌∷◌, length, refl, sym, subst, arith, eq-eqb}
+use Rattle.std.proofs.lemmas.Bool.{ne_eqb}
 use Rattle.std.specs.declared.option.Option.{Option}
 use mathlib.Core.Logic.{dite}
 use native.Mathlib.Decide.{ℕ_discrete}
@@ -20,9 +21,24 @@ use Rattle.site_run.specs.Closing.{AllKept}
 use Rattle.site_run.specs.Journals.{AllProxies, KeepLaws}
 use Rattle.site_making.specs.Keepers.{KeeperIs}
 use Rattle.okws_serve.specs.Lived.{ListIsPieces}
-use Rattle.okws_serve.specs.Told.{TellsFaults}
+use Rattle.okws_serve.specs.Connected.{rise}
+use Rattle.okws_serve.specs.Told.{keeper_rise}
 use Rattle.okws_serve.proofs.Connected.{within_rise}
 use Rattle.okws_serve.proofs.Whole.{each_from, list_is}
+
+-- it is told of each keeper, the first of which is that of proxy p, how much its count rose, by what the counts were when the run began
+abbrev pub TellsFaults : (ℕ → Option ℕ) → (ℕ → ℕ) → ℕ → List KeeperIs → Type 0
+TellsFaults told first p [] = Unit {0}
+TellsFaults told first p (k ∷ ks) = (told p ≡ rise (first p) k.faults) × TellsFaults told first (suc p) ks
+
+-- what is told of the keepers by their proxies is told of each
+pub keepers_told : (told : ℕ → Option ℕ) (first : ℕ → ℕ) (n : ℕ) (ks : List KeeperIs) → ((p : ℕ) → n ≤ p → told p ≡ keeper_rise first n ks p) → TellsFaults told first n ks
+keepers_told told first n [] h = tt
+keepers_told told first n (k ∷ ks) h =
+    (h n (omega arith) ∙ rw (eq-eqb n n refl) refl, keepers_told told first (suc n) ks (λ p l. h p (omega arith) ∙ rw (ne_eqb p n (later p l)) refl))
+  where
+    later : (p : ℕ) → suc n ≤ p → p ≡ n → ⊥
+    later p l is = omega (arith, is, l)
 
 each_law : (C : Config) (seed : List ℕ) (n p : ℕ) (Js : List (List (Entry ProxyEvent))) → AllProxies C seed n p Js → EachFrom (λ (p : ℕ) (J : List (Entry ProxyEvent)). ProxyLaw C seed p J) p Js
 each_law C seed n p [] h = tt

@@ -19,3 +19,4 @@ pub mod Launches
 pub mod Connected
 pub mod Lawful
 pub mod Before
+pub mod Legal

@@ -25,10 +25,10 @@ use Rattle.named_columns.specs.Launched.{by_entry}
 use Rattle.site_cell.specs.Held.{by_event}
 use Rattle.cell_locks.specs.Row.{CellsSeen, seen_at}
 use Rattle.site_locks.specs.Sat.{Sat}
-use Rattle.okld_launch.specs.Deeds.{by_deed, entries, up_in}
 use Rattle.okld_launch.specs.Entering.{entries_of}
-use Rattle.okld_launch.specs.Standing.{BootsStand, UpsStand}
-use Rattle.okld_launch.specs.declared.deed.Deed.{Deed}
+use Rattle.launch_turns.specs.Deeds.{by_deed, entries, up_in}
+use Rattle.launch_turns.specs.Standing.{BootsStand, UpsStand}
+use Rattle.launch_turns.specs.declared.deed.Deed.{Deed}
 use Rattle.site_worker.specs.Lives.{Life}
 use Rattle.site_worker.specs.declared.door.Attended.{Attended}
 use Rattle.site_run.specs.Journals.{NameNumbers}

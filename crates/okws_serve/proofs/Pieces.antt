@@ -22,7 +22,7 @@ use Rattle.monitor_model.specs.Seen.{Seen}
 use Rattle.monitor_model.specs.Worker.{IsWorker, Piece, Accepted, Published, Launched, Wants}
 use Rattle.monitor_model.proofs.Lived.{lives_are_pieces}
 use Rattle.site_cell.specs.Held.{by_event}
-use Rattle.okld_launch.specs.Deeds.{ended_in, entries, up_in}
+use Rattle.launch_turns.specs.Deeds.{ended_in, entries, up_in}
 use Rattle.worker_lives.specs.Beginning.{IsOfTurn, turned_alone}
 use Rattle.worker_lives.specs.Ending.{crashes_came, launches_end}
 use Rattle.worker_lives.specs.Going.{GoesOn, IsBlank, Sights}

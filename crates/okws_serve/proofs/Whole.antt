@@ -11,11 +11,11 @@ use Rattle.monitor_model.specs.declared.record.Connection.{Connection}
 use Rattle.monitor_model.specs.declared.record.Own.{Own}
 use Rattle.monitor_model.specs.declared.record.Record.{Record}
 use Rattle.monitor_model.specs.Merged.{list_of}
-use Rattle.monitor_model.specs.Outside.{Ordered, come_of, item_order}
-use Rattle.monitor_model.specs.Pieces.{is_accept_item, is_ordered, is_whole, mode, worker_list}
+use Rattle.monitor_model.specs.Outside.{Ordered, Outside, come_of, item_order}
+use Rattle.monitor_model.specs.Pieces.{ListsArePieces, is_accept_item, is_ordered, is_whole, mode, worker_list}
 use Rattle.monitor_model.specs.Placed.{EachFrom}
 use Rattle.round_lives.proofs.Coming.{come_anyway}
-use Rattle.okws_serve.specs.Lived.{AreAllPieces, ListIsPieces}
+use Rattle.okws_serve.specs.Lived.{ListIsPieces}
 
 pub each_from : {A : Type 0} (P : ℕ → A → Type 0) (k : ℕ) (xs : List A) (d : A) → ((s m : ℕ) → s < length xs → m ≡ s + k → P m (get_or xs s d)) → EachFrom P k xs
 each_from P k [] d h = tt
@@ -24,6 +24,11 @@ each_from P k (x ∷ xs) d h = (h 0 k (omega arith) (omega arith), each_from P (
 -- a worker's list is the list of its number
 pub list_is : (R : Record) (w : ℕ) → w < length R.workers → list_of R w ≡ worker_list R w
 list_is R w l = get_or_append_left R.workers (R.launches ∷ []) [] w l
+
+-- whether or not the outside tells of these orders at the console: with the connections of so many doors, whatever they were, the lists of a record's workers are made of pieces.
+abbrev AreAllPieces : Config → Record → ℕ → List Ordered → Bool → Type 0
+AreAllPieces C R doors orders failed =
+    (T : Outside) (connections : List (List Connection)) → IfSome T.orders (λ told. told ≡ orders) → T.console_failed ≡ failed → length connections ≡ doors → ListsArePieces C T (record R { doors = connections })
 
 come_told : (failed : Bool) (orders : List Ordered) (done : List _) (told : Option (List Ordered)) → come_of false orders done ≡ true → IfSome told (λ os. os ≡ orders) → IfSome told (λ os. come_of failed os done ≡ true)
 come_told failed orders done None comes is = is

@@ -1,18 +1,16 @@
 -- Of what the lists of a run's workers are made.
-use Rattle.std.specs.Prelude.{◌≡◌, ℕ, Bool, false, List, ◌++◌, filter_map, None, length, reverse, IfSome, IsTrue, IsFalse}
+use Rattle.std.specs.Prelude.{◌≡◌, ℕ, Bool, false, List, filter_map, None, reverse, IsTrue, IsFalse}
 use Rattle.std.specs.List.{list_any}
 use Rattle.okws_base.specs.Runs.{Each}
 use Rattle.okws_plan.specs.declared.configuration.Config.{Config}
 use Rattle.okws_outer.specs.Conns.{ConnWire}
-use Rattle.monitor_model.specs.declared.record.Connection.{Connection}
 use Rattle.monitor_model.specs.declared.record.Own.{Own}
 use Rattle.monitor_model.specs.declared.record.Record.{Record}
 use Rattle.monitor_model.specs.Causes.{crashes_are_told, crashes_were, has_up}
-use Rattle.monitor_model.specs.Launches.{AreFates, Fate, IsEnding, all_pieces, attempts}
 use Rattle.monitor_model.specs.Lawful.{IsFitting}
 use Rattle.monitor_model.specs.Merged.{list_of}
 use Rattle.monitor_model.specs.Outside.{Ordered, Outside, come_of, item_order}
-use Rattle.monitor_model.specs.Pieces.{ListsArePieces, is_whole, mode}
+use Rattle.monitor_model.specs.Pieces.{is_whole, mode}
 use Rattle.monitor_model.specs.Talks.{talks}
 use Rattle.worker_lives.specs.Ending.{launches_end}
 use Rattle.worker_lives.specs.Waiting.{leads_in}
@@ -42,16 +40,3 @@ pub record OrdersAreObeyed (C : Config) (R : Record) (w : ℕ) (old new : ConnWi
   pub orders : List Ordered
   pub reads : Reads C old new 0 lines how orders
   pub comes : IsTrue (come_of false orders (filter_map item_order (reverse (list_of R w))))
-
--- Whether or not the outside tells of these orders at the console: with the connections of so many doors, whatever they were, the lists of a record's workers are made of pieces.
-abbrev pub AreAllPieces : Config → Record → ℕ → List Ordered → Bool → Type 0
-AreAllPieces C R doors orders failed =
-    (T : Outside) (connections : List (List Connection)) → IfSome T.orders (λ told. told ≡ orders) → T.console_failed ≡ failed → length connections ≡ doors → ListsArePieces C T (record R { doors = connections })
-
--- The launcher's list of a record has one piece for each Begun of its journal, in order, and ends with one Retired for each cell that has an incarnation. Each piece goes as its Failed stands or doesn't; it breaks off only where NoMemory is the next item of who began it.
-pub record LaunchesGoSo (C : Config) (seed : List ℕ) (R : Record) : Type 0 where
-  pub fates : List Fate
-  pub ending : List Own
-  pub are_fates : AreFates R (attempts R.launcher) fates
-  pub list_is : R.launches ≡ ending ++ all_pieces C seed R (attempts R.launcher) fates
-  pub ends : IsEnding R (all_pieces C seed R (attempts R.launcher) fates) ending

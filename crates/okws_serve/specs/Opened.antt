@@ -16,9 +16,9 @@ use Rattle.monitor_model.specs.Pieces.{worker_list}
 use Rattle.named_columns.specs.Launched.{by_entry}
 use Rattle.site_cell.specs.Held.{by_event}
 use Rattle.cell_locks.specs.Row.{seen_at}
-use Rattle.okld_launch.specs.Deeds.{by_deed}
+use Rattle.launch_turns.specs.Deeds.{by_deed}
 use Rattle.okld_launch.specs.Entering.{entries_of}
-use Rattle.okld_launch.specs.Standing.{BootsStand, UpsStand}
+use Rattle.launch_turns.specs.Standing.{BootsStand, UpsStand}
 use Rattle.site_worker.specs.Lives.{Life}
 use Rattle.site_run.specs.Opening.{IsOpened, Opening, all_events, all_items, is_up, ups_of}
 

@@ -1,26 +1,31 @@
 use Rattle.std.proofs.Common.{arith, ◌≡◌, ◌≤◌, ◌<◌, ◌+◌, ℕ, Bool, true, [], ◌∷◌, ◌++◌, map, length, refl, sym, ap, ◌∙◌, subst}
 use Rattle.std.specs.Prelude.{IsSome}
+use Rattle.monitor_model.specs.Columns.{WithinCount}
+use Rattle.monitor_model.specs.Launches.{failures}
+use Rattle.monitor_model.specs.Legality.{IsLegal}
+use Rattle.monitor_model.specs.Outside.{Outside}
 use Rattle.monitor_model.specs.Pieces.{is_accept_item, is_ordered}
 use Rattle.okws_outer.specs.Families.{Family}
-use Rattle.okld_launch.specs.Failures.{FailuresAreTold}
+use Rattle.okld_launch.specs.Failures.{FailuresAreTold, children_rise}
 use Rattle.okld_launch.specs.Heard.{ChildrenAreTold}
 use Rattle.site_run.specs.Places.{AllIdle}
 use Rattle.site_making.specs.Keepers.{keeper_of}
 use Rattle.site_run.specs.Closing.{AllKept}
 use Rattle.site_run.specs.Pieced.{ended_among}
 use Rattle.site_run.specs.Whole.{AllDrawn}
-use Rattle.okws_serve.specs.Connected.{ServesConnections}
 use Rattle.okws_serve.specs.Doors.{ServesConsole, ServesDoors, is_fault}
 use Rattle.okws_serve.specs.Lived.{ListIsPieces, OrdersAreObeyed}
+use Rattle.okws_serve.specs.Runs.{ObjectsAre, StartIs, outside_of}
 use Rattle.okws_serve.specs.declared.outfit.Ran.{Ran}
 use Rattle.site_run.proofs.Alone.{launches_alone}
 use Rattle.site_run.proofs.Merging.{lists_make}
 use Rattle.site_run.proofs.Shown.{cells_are_true}
 use Rattle.site_run.proofs.Tying.{end_pop}
-use Rattle.okws_serve.proofs.Connected.{connects_doors}
+use Rattle.okws_serve.proofs.Connected.{ServesConnections, connects_doors, doors_told, finish_all}
 use Rattle.okws_serve.proofs.Launches.{go_so, have_causes, lists_end}
 use Rattle.okws_serve.proofs.Leading.{all_lead}
-use Rattle.okws_serve.proofs.Lawful.{are_lawful}
+use Rattle.okws_serve.proofs.Lawful.{are_lawful, keepers_told}
+use Rattle.okws_serve.proofs.Legal.{is_legal}
 use Rattle.okws_serve.proofs.Listing.{Told, all_told}
 use Rattle.okws_serve.proofs.Opened.{begins_with_launches}
 use Rattle.okws_serve.proofs.Pieces.{console_is, console_obeys, doors_are}
@@ -77,32 +82,43 @@ returns-clause-ran g c =
     let names = c.end-ended.ensures.numbers.launcher in
     let lead = all_lead C R over n (length old.entrances) workers (omega arith) names door_lists console_list in
     let same = ap (λ (f : Family). ended_among f.finished) (sym c.left.ensures.children) in
+    let seed = g.N.Numbered.run_seed in
+    let now = map g.D.Door.entrance r.doors.items in
+    let keepers = map keeper r.keepers.items in
+    let finished : ServesConnections wire C n most R over c.end-ended.ensures.laws.proxies_are old.entrances now = subst (ServesConnections wire C n most R over c.end-ended.ensures.laws.proxies_are old.entrances) (sym doors)
+    (connects_doors wire C n most R over c.end-ended.ensures.laws.proxies_are old.entrances places.entrances served.attended (let l : length old.entrances ≤ length R.workers = omega arith in l) served.attend) in
+    let start : StartIs = record { steady = g.N.Backed.steady; keeper_faults = g.N.Backed.keeper_faults; sink_faults = g.N.Backed.sink_faults; children = g.N.Staffed.children } in
+    let left : ObjectsAre = record { entrances = now; console = g.O.Conn.wire r.console; children = g.F.Children.family r.children; keepers = keepers; given = g.S.Sink.given e.log; faults = g.S.Sink.faults e.log } in
+    let T : Outside = outside_of start old.entrances left obeyed.orders failed in
+    let opened = begins_with_launches wire C n z most (length old.entrances + 1) R over (omega (arith, many, alike)) (omega (arith, workers, many)) c.end-ended.ensures.laws.launcher c.args.okd c.end-ended.ensures.first c.end-ended.ensures.launched c.end-ended.ensures.numbers
+    done.lives old places connections starved done.doors (let s = c.requires.held.some in omega (arith, s, alike)) ends.0 done.opened done.shown in
+    let legal : IsLegal C seed T (record R { doors = finished.connections })
+    = is_legal C seed T R finished.connections
+    (lists_make n R c.end-ended.ensures.numbers (λ k l. (told k l).0)
+    (launches_alone C seed n R workers c.end-ended.ensures.laws c.end-ended.ensures.launched (λ k l. (told k (let u : k ≤ n = omega arith in u)).0)))
+    (all_pieces C R over (length old.entrances) failed obeyed.orders (omega arith) door_lists console_list obeyed.comes T finished.connections refl refl (finish_all wire old.entrances now finished.connections finished.finish))
+    cells.0
+    (are_lawful C seed n (length old.entrances) R over g.N.Backed.steady g.N.Backed.keeper_faults keepers (omega arith) c.end-ended.ensures.laws cells.1 door_lists console_list kept T (keepers_told T.keepers g.N.Backed.keeper_faults 0 keepers (λ p l. refl)))
+    (finished.served T (doors_told wire T.doors 0 old.entrances now finished.connections finished.finish (λ v l. refl)))
+    (go_so n R workers names (λ k l. (told k (omega (arith, l))).0.launchers) (λ k l. lists_end C R over (length old.entrances) door_lists console_list k (omega (arith, l, many, alike))) C seed c.end-ended.ensures.pieces)
+    (subst (λ (f : Family). WithinCount (children_rise g.N.Staffed.children f) (failures R)) (sym c.left.ensures.children) c.end-ended.ensures.failures)
+    (have_causes C R over (length old.entrances) T (λ s k h. subst (λ (ended : ℕ → ℕ → Bool). ended s k ≡ true) same h) (omega (arith, workers, many, alike)) door_lists console_list lead c.end-ended.ensures.caused)
+    opened.comes in
     record {
       served = subst (λ (ended : ℕ → ℕ → Bool). ServesDoors wire C n most R ended old.entrances (map g.D.Door.entrance r.doors.items) e.counts.connections starved) same
           (subst (λ k. ServesDoors wire C n most R over old.entrances (map g.D.Door.entrance r.doors.items) k starved) (sym c.end-ended.ensures.connections)
           (subst (λ es. ServesDoors wire C n most R over old.entrances es connections starved) (sym doors) served));
       steered = subst (λ (ended : ℕ → ℕ → Bool). ServesConsole C n R ended (length old.entrances) w (g.O.Conn.wire r.console) (is_fault c.args.overseen)) same
           (subst (λ x. ServesConsole C n R over (length old.entrances) w (g.O.Conn.wire x) (is_fault c.args.overseen)) (sym c.left.ensures.objects.1) steered);
-      made = lists_make n R c.end-ended.ensures.numbers (λ k l. (told k l).0)
-          (launches_alone C g.N.Numbered.run_seed n R workers c.end-ended.ensures.laws c.end-ended.ensures.launched (λ k l. (told k (let u : k ≤ n = omega arith in u)).0));
-      door_lists = subst (λ (ended : ℕ → ℕ → Bool). (k : ℕ) → k < length old.entrances → ListIsPieces C R ended is_ordered k) same door_lists;
-      console_list = subst (λ (ended : ℕ → ℕ → Bool). ListIsPieces C R ended is_accept_item (length old.entrances)) same console_list;
       orders = obeyed;
-      pieces = all_pieces C R over (length old.entrances) failed obeyed.orders (omega arith) door_lists console_list obeyed.comes;
-      connections = subst (ServesConnections wire C R old.entrances) (sym doors)
-          (connects_doors wire C n most R over c.end-ended.ensures.laws.proxies_are old.entrances places.entrances served.attended (let l : length old.entrances ≤ length R.workers = omega arith in l) served.attend);
-      causes = λ T tells.
-          have_causes C R over (length old.entrances) T (λ s k h. tells s k (subst (λ (ended : ℕ → ℕ → Bool). ended s k ≡ true) same h)) (omega (arith, workers, many, alike)) door_lists console_list lead c.end-ended.ensures.caused;
-      first = begins_with_launches wire C n z most (length old.entrances + 1) R over (omega (arith, many, alike)) (omega (arith, workers, many)) c.end-ended.ensures.laws.launcher c.args.okd c.end-ended.ensures.first c.end-ended.ensures.launched c.end-ended.ensures.numbers
-          done.lives old places connections starved done.doors (let s = c.requires.held.some in omega (arith, s, alike)) ends.0 done.opened done.shown;
-      lawful = are_lawful C g.N.Numbered.run_seed n (length old.entrances) R over g.N.Backed.steady g.N.Backed.keeper_faults (map keeper r.keepers.items) (omega arith) c.end-ended.ensures.laws cells.1 door_lists console_list kept;
-      missed = cells.0;
-      stands = cells.1;
+      connections = finished.connections;
+      finish = finished.finish;
+      legal = legal;
+      first = opened;
       laws = c.end-ended.ensures.laws;
       numbers = c.end-ended.ensures.numbers;
       counts = c.end-ended.ensures.counts;
       kept = kept;
-      launches = go_so n R workers names (λ k l. (told k (omega (arith, l))).0.launchers) (λ k l. lists_end C R over (length old.entrances) door_lists console_list k (omega (arith, l, many, alike))) C g.N.Numbered.run_seed c.end-ended.ensures.pieces;
       failed = subst (FailuresAreTold g.N.Staffed.children e.record.launcher) (sym c.left.ensures.children) c.end-ended.ensures.failed;
       children = subst (ChildrenAreTold C g.N.Numbered.run_seed R g.N.Staffed.children) (sym c.left.ensures.children) c.end-ended.ensures.children;
       written = c.end-ended.ensures.written;

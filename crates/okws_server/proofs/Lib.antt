@@ -8,6 +8,7 @@ pub mod Said
 pub mod ScriptLines
 pub mod Sents
 pub mod Isolation
+pub mod Served
 pub mod DrillLines
 pub mod Drilled
 pub mod Commands

@@ -1,0 +1,16 @@
+//! Tests of servers in storms: a judge reads the record that a run left, and finds it legal; and it finds which part of a
+//! record is not that was changed in one place.
+#![tactic(auto)]
+
+#[cfg(test)]
+mod edits;
+#[cfg(test)]
+mod legal;
+#[cfg(test)]
+mod says;
+#[cfg(test)]
+mod site;
+#[cfg(test)]
+mod storm;
+#[cfg(test)]
+mod weather;

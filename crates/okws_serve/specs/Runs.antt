@@ -1,5 +1,5 @@
 -- What a run does with its objects.
-use Rattle.std.specs.Prelude.{ℕ, Bool, true, List, length}
+use Rattle.std.specs.Prelude.{◌<◌, ℕ, Bool, true, List, length}
 use Rattle.std.specs.declared.option.Option.{Option}
 use Rattle.std.specs.declared.option.Option.TheVariants.{Some}
 use Rattle.okws_plan.specs.declared.configuration.Config.{Config}
@@ -9,6 +9,7 @@ use Rattle.okws_outer.specs.Families.{Family}
 use Rattle.monitor_model.specs.declared.record.Connection.{Connection}
 use Rattle.monitor_model.specs.Legality.{IsLegal}
 use Rattle.monitor_model.specs.Outside.{Ordered, Outside}
+use Rattle.monitor_model.specs.Pieces.{is_accept_item, is_ordered}
 use Rattle.okld_launch.specs.Failures.{FailuresAreTold, children_rise}
 use Rattle.okld_launch.specs.Heard.{ChildrenAreTold}
 use Rattle.site_run.specs.Journals.{KeepLaws, NameNumbers, AreCounts}
@@ -17,7 +18,7 @@ use Rattle.site_run.specs.Closing.{WritesLog, AllKept}
 use Rattle.site_run.specs.Pieced.{ended_among}
 use Rattle.okws_serve.specs.Connected.{AllFinish}
 use Rattle.okws_serve.specs.Doors.{ServesConsole, ServesDoors}
-use Rattle.okws_serve.specs.Lived.{OrdersAreObeyed}
+use Rattle.okws_serve.specs.Lived.{ListIsPieces, OrdersAreObeyed}
 use Rattle.okws_serve.specs.Opened.{BeginsWithLaunches}
 use Rattle.okws_serve.specs.Told.{door_rise, keeper_rise}
 use Rattle.okws_serve.specs.declared.outfit.Ran.{Ran}
@@ -53,6 +54,8 @@ outside_of start doors left orders failed = record {
 pub record Runs {X : Type 0} (wire : X → ConnWire) (C : Config) (seed : List ℕ) (n most : ℕ) (start : StartIs) (doors : List Entrance) (console : ConnWire) (ran : Ran) (left : ObjectsAre) : Type 0 where
   pub served : ServesDoors wire C n most ran.record (ended_among left.children.finished) doors left.entrances ran.counts.connections ran.starved
   pub steered : ServesConsole C n ran.record (ended_among left.children.finished) (length doors) console left.console ran.console_failed
+  pub door_lists : (w : ℕ) → w < length doors → ListIsPieces C ran.record (ended_among left.children.finished) is_ordered w
+  pub console_list : ListIsPieces C ran.record (ended_among left.children.finished) is_accept_item (length doors)
   pub orders : OrdersAreObeyed C ran.record (length doors) console left.console ran.console_failed
   pub connections : List (List Connection)
   pub finish : AllFinish wire doors left.entrances connections

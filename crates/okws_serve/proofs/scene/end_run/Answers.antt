@@ -110,6 +110,8 @@ returns-clause-ran g c =
           (subst (λ es. ServesDoors wire C n most R over old.entrances es connections starved) (sym doors) served));
       steered = subst (λ (ended : ℕ → ℕ → Bool). ServesConsole C n R ended (length old.entrances) w (g.O.Conn.wire r.console) (is_fault c.args.overseen)) same
           (subst (λ x. ServesConsole C n R over (length old.entrances) w (g.O.Conn.wire x) (is_fault c.args.overseen)) (sym c.left.ensures.objects.1) steered);
+      door_lists = subst (λ (ended : ℕ → ℕ → Bool). (k : ℕ) → k < length old.entrances → ListIsPieces C R ended is_ordered k) same door_lists;
+      console_list = subst (λ (ended : ℕ → ℕ → Bool). ListIsPieces C R ended is_accept_item (length old.entrances)) same console_list;
       orders = obeyed;
       connections = finished.connections;
       finish = finished.finish;

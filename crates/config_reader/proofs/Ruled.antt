@@ -15,7 +15,7 @@ use Rattle.okws_plan.specs.declared.configuration.Table.{Table}
 use Rattle.okws_plan.specs.declared.statement.Statement.{Statement}
 use Rattle.okws_plan.proofs.Rules.{all_keep_rules}
 use Rattle.plain_text.specs.Decimals.{decimal_value}
-use Rattle.statement_core.proofs.KeepsForms.{compiled_keeps}
+use Rattle.statement_core.proofs.RulesKept.{compiled_keeps}
 use Rattle.statement_core.specs.Compiled.{compiled}
 use Rattle.query_syntax.specs.declared.error.Refusal.{Refusal}
 use Rattle.config_reader.specs.Above.{Above, proxy_number, plan_of, tables_at, table_number}

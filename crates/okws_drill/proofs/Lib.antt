@@ -7,4 +7,5 @@ pub mod Safe
 pub mod Rests
 pub mod Launching
 pub mod Speaking
+pub mod FramesSaid
 pub mod Unrefused

@@ -41,7 +41,8 @@ use Rattle.okws_drill.proofs.Launching.{Launches, launches, relaunches}
 use Rattle.okws_drill.proofs.Rests.{Beside, Rests, Speaks, beside_then, rests_beside}
 use Rattle.okws_drill.proofs.Safe.{Safe, safe_at, safe_more, safe_then}
 use Rattle.okws_drill.proofs.Sayable.{Sayable, asks_few, asks_sayable, reply_has}
-use Rattle.okws_drill.proofs.Speaking.{IsAsked, Settles, Talks, accept_way, after_accept, asked_accept, beside_accept, bytes_allowed, dialog_allowed, dialog_opens, frame_is_answered, frame_is_last, rests_accept}
+use Rattle.okws_drill.proofs.Speaking.{IsAsked, Talks, accept_way, after_accept, asked_accept, beside_accept, dialog_allowed, dialog_opens, rests_accept}
+use Rattle.okws_drill.proofs.FramesSaid.{Settles, bytes_allowed, frame_is_answered, frame_is_last}
 
 -- ---- the site
 

@@ -1,3 +1,5 @@
 pub mod Lists
 pub mod Spelled
+pub mod TokensAgain
 pub mod ReadForms
+pub mod FormsAgain

@@ -1,34 +1,29 @@
--- The canonical text of tokens has those tokens.
-use Rattle.std.proofs.Common.{◌≡◌, ℕ, suc, ◌-◌, ◌+◌, ◌*◌, ◌/◌, ◌%◌, ◌^◌, ◌≤◌, ◌<◌, Bool, true, false, not, ◌&&◌, ◌||◌, cond, List, [], ◌∷◌, ◌++◌, get_or, ℤ, pos, negsuc, Some, None, Result, Ok, refl, sym, ap, subst, ◌∙◌, ⊎_elim, append_assoc, add-zero, arith, length, codes}
+-- The canonical text of one token has that token, whatever stands behind it.
+use Rattle.std.proofs.Common.{◌≡◌, ℕ, suc, ◌-◌, ◌+◌, ◌*◌, ◌/◌, ◌%◌, ◌^◌, ◌≤◌, ◌<◌, Bool, true, false, not, ◌&&◌, ◌||◌, cond, List, [], ◌∷◌, ◌++◌, get_or, pos, negsuc, Some, None, refl, sym, ap, subst, ◌∙◌, ⊎_elim, append_assoc, arith, length, codes}
 use Rattle.std.specs.Prelude.{if◌then◌else◌, nat_le, ◌==◌, min}
 use Rattle.std.specs.Char.{is_ascii_digit}
 use Rattle.std.specs.List.{list_all, prefix_len}
 use Rattle.std.specs.Str.{is_utf8}
 use Rattle.std.specs.Fmt as fmt
-use Rattle.std.proofs.lemmas.Bool.{false≢true, and_parts, or_parts, and_left, and_from, or_from, eqb-true, ne_eqb, lt-ltb, le-leb, lt-leb, le-ltb, leb-true, ltb-true, cases_lt, not-true}
+use Rattle.std.proofs.lemmas.Bool.{false≢true, and_parts, or_parts, and_left, and_from, or_from, eqb-true, ne_eqb, lt-ltb, le-leb, lt-leb, le-ltb, leb-true, ltb-true, cases_lt}
 use Rattle.std.proofs.lemmas.List.{take_at, length-append}
 use Rattle.std.proofs.lemmas.Str.Parse.{IsNumeralModel, IsDigitsTest, numerals_by_value}
 use Rattle.std.proofs.lemmas.Fmt.{digits_decimal, digits_value-decimal, decimal_nonempty}
 use Rattle.okws_base.specs.Names.{is_first_byte, is_word_byte, is_letter, is_word, is_keyword, is_clause_word, is_action_word, is_column_word, same_word}
-use Rattle.okws_base.specs.declared.value.Value.{Value}
 use Rattle.okws_base.specs.declared.value.Value.TheVariants as value
 use Rattle.hex.specs.Hex.{hex_digit_value}
 use Rattle.plain_text.specs.Decimals.{decimal_value}
 use Rattle.plain_text.specs.Hexadecimal.{hex, hex_digit}
-use Rattle.plain_text.specs.Words.{is_blank}
-use Rattle.query_syntax.specs.declared.error.Refusal.{Refusal}
 use Rattle.query_syntax.specs.declared.token.Fixed.{Fixed}
 use Rattle.query_syntax.specs.declared.token.Fixed.TheVariants as fixed
 use Rattle.query_syntax.specs.declared.token.Token.{Token}
 use Rattle.query_syntax.specs.declared.token.Token.TheVariants as token
-use Rattle.query_syntax.specs.declared.token.Placed.{Placed}
-use Rattle.query_syntax.specs.Tokens.{same_fixed, keyword, clause_keyword, action_keyword, column_keyword, word_token, word_at, positive_at, negative_at, parameter_at, quoted_from, text_at, hexadecimal_from, bytes_at, begins_bytes, is_x, word_or_bytes_at, sign_at, token_at, placed, with_tokens, tokens_from}
-use Rattle.query_syntax.specs.Spelling.{fixed_text, doubled, value_text, token_text, opens, closes, joined}
-use Rattle.query_syntax.specs.Forms.{tokens_in}
-use Rattle.query_syntax.specs.ReadAgain.{is_spelled, is_held, is_byte, has_64_bits, found_barely, TokensAreReadAgain}
+use Rattle.query_syntax.specs.Tokens.{same_fixed, keyword, clause_keyword, action_keyword, column_keyword, word_token, word_at, positive_at, negative_at, parameter_at, quoted_from, text_at, hexadecimal_from, bytes_at, begins_bytes, is_x, word_or_bytes_at, sign_at, token_at}
+use Rattle.query_syntax.specs.Spelling.{fixed_text, doubled, value_text}
+use Rattle.query_syntax.specs.ReadAgain.{is_byte}
 
 -- what stands behind a token in a canonical text: nothing, a blank, a `)` or a `,`
-data Stop : List ℕ → Type 0 where
+pub data Stop : List ℕ → Type 0 where
   end : Stop []
   blank : (more : List ℕ) → Stop (32 ∷ more)
   close : (more : List ℕ) → Stop (41 ∷ more)
@@ -85,7 +80,7 @@ word_found w rest h s =
     let n : prefix_len is_word_byte (w ++ rest) ≡ length w = prefix_all is_word_byte w rest h (no_word_byte rest s) in
     rw (n, take_at w rest (length w) refl) refl
 
-word_again : (w rest : List ℕ) → is_word w ≡ true → Stop rest → token_at (w ++ rest) ≡ Some (word_token w, length w)
+pub word_again : (w rest : List ℕ) → is_word w ≡ true → Stop rest → token_at (w ++ rest) ≡ Some (word_token w, length w)
 unfolding token_at
 word_again [] rest h s = absurd (false≢true h)
 word_again (b ∷ more) rest h s =
@@ -131,7 +126,7 @@ no_keyword w h =
     let two = or_parts (is_action_word w) (is_column_word w) one.1 in
     rw (no_clause_keyword w one.0, no_action_keyword w two.0, no_column_keyword w two.1) refl
 
-plain_word : (w : List ℕ) → is_keyword w ≡ false → word_token w ≡ token.Word w
+pub plain_word : (w : List ℕ) → is_keyword w ≡ false → word_token w ≡ token.Word w
 plain_word w h = rw (no_keyword w h) refl
 
 -- digits
@@ -158,12 +153,12 @@ no_first_byte d h =
     or_from (is_letter d) (d == 95) (or_from (nat_le 97 d && nat_le d 122) (nat_le 65 d && nat_le d 90) lower upper) line
 
 -- digits that write a number
-record Writes (ds : List ℕ) (n : ℕ) : Type 0 where
-  are_digits : list_all is_ascii_digit ds ≡ true
-  value : decimal_value ds ≡ n
-  some : 0 < length ds
+pub record Writes (ds : List ℕ) (n : ℕ) : Type 0 where
+  pub are_digits : list_all is_ascii_digit ds ≡ true
+  pub value : decimal_value ds ≡ n
+  pub some : 0 < length ds
 
-written : (n : ℕ) → n < 2 ^ 64 → Writes (fmt.decimal n) n
+pub written : (n : ℕ) → n < 2 ^ 64 → Writes (fmt.decimal n) n
 written n h = record { are_digits = digits_decimal own n h; value = digits_value-decimal own n h; some = decimal_nonempty n h }
 
 positive_found : (ds rest : List ℕ) (n : ℕ) → Writes ds n → n < 2 ^ 63 → Stop rest → positive_at (ds ++ rest) ≡ Some (token.Literal (value.Int (pos n)), length ds)
@@ -180,19 +175,19 @@ digit_begins d more h =
     second_chosen (is_first_byte d) (is_ascii_digit d) (word_or_bytes_at (d ∷ more)) (positive_at (d ∷ more))
     (if d == 45 then negative_at more else if d == 63 then parameter_at more else if d == 39 then text_at more else sign_at d more) (no_first_byte d h) h
 
-positive_again : (ds rest : List ℕ) (n : ℕ) → Writes ds n → n < 2 ^ 63 → Stop rest → token_at (ds ++ rest) ≡ Some (token.Literal (value.Int (pos n)), length ds)
+pub positive_again : (ds rest : List ℕ) (n : ℕ) → Writes ds n → n < 2 ^ 63 → Stop rest → token_at (ds ++ rest) ≡ Some (token.Literal (value.Int (pos n)), length ds)
 positive_again [] rest n w below s = absurd (omega (arith, w.some))
 positive_again (d ∷ more) rest n w below s =
     digit_begins d (more ++ rest) (and_parts (is_ascii_digit d) (list_all is_ascii_digit more) w.are_digits).0 ∙ positive_found (d ∷ more) rest n w below s
 
-negative_again : (ds rest : List ℕ) (n : ℕ) → Writes ds (suc n) → n < 2 ^ 63 → Stop rest → token_at (45 ∷ (ds ++ rest)) ≡ Some (token.Literal (value.Int (negsuc n)), suc (length ds))
+pub negative_again : (ds rest : List ℕ) (n : ℕ) → Writes ds (suc n) → n < 2 ^ 63 → Stop rest → token_at (45 ∷ (ds ++ rest)) ≡ Some (token.Literal (value.Int (negsuc n)), suc (length ds))
 unfolding token_at
 negative_again ds rest n w below s =
     let count : prefix_len is_ascii_digit (ds ++ rest) ≡ length ds = prefix_all is_ascii_digit ds rest w.are_digits (no_digit rest s) in
     let one : 1 + length ds ≡ suc (length ds) = omega arith in
     rw (count, take_at ds rest (length ds) refl, w.value, ne_eqb (length ds) 0 (λ (e : length ds ≡ 0). omega (arith, w.some)), le-leb (suc n) (2 ^ 63) (omega arith), one) refl
 
-parameter_again : (ds rest : List ℕ) (n : ℕ) → Writes ds n → n < 2 ^ 64 → Stop rest → token_at (63 ∷ (ds ++ rest)) ≡ Some (token.Parameter n, suc (length ds))
+pub parameter_again : (ds rest : List ℕ) (n : ℕ) → Writes ds n → n < 2 ^ 64 → Stop rest → token_at (63 ∷ (ds ++ rest)) ≡ Some (token.Parameter n, suc (length ds))
 unfolding token_at
 parameter_again ds rest n w below s =
     let count : prefix_len is_ascii_digit (ds ++ rest) ≡ length ds = prefix_all is_ascii_digit ds rest w.are_digits (no_digit rest s) in
@@ -221,7 +216,7 @@ quoted_again : (t rest : List ℕ) → Stop rest → quoted_from false (doubled 
 quoted_again [] rest s = rw (quoted_end rest s) refl
 quoted_again (b ∷ more) rest s = quoted_more b more rest (b == 39) refl (quoted_again more rest s)
 
-text_again : (t rest : List ℕ) → is_utf8 t ≡ true → Stop rest → token_at (value_text (value.Text t) ++ rest) ≡ Some (token.Literal (value.Text t), length (value_text (value.Text t)))
+pub text_again : (t rest : List ℕ) → is_utf8 t ≡ true → Stop rest → token_at (value_text (value.Text t) ++ rest) ≡ Some (token.Literal (value.Text t), length (value_text (value.Text t)))
 unfolding token_at
 text_again t rest h s =
     let n : 1 + (length (doubled t) + 1) ≡ suc (length (doubled t) + 1) = omega arith in
@@ -264,7 +259,7 @@ bytes_begin : (more : List ℕ) → token_at (120 ∷ 39 ∷ more) ≡ bytes_at 
 unfolding token_at
 bytes_begin more = rw (le-leb 2 (suc (suc (length more))) (omega arith)) refl
 
-bytes_again : (b rest : List ℕ) → list_all is_byte b ≡ true → token_at (value_text (value.Bytes b) ++ rest) ≡ Some (token.Literal (value.Bytes b), length (value_text (value.Bytes b)))
+pub bytes_again : (b rest : List ℕ) → list_all is_byte b ≡ true → token_at (value_text (value.Bytes b) ++ rest) ≡ Some (token.Literal (value.Bytes b), length (value_text (value.Bytes b)))
 bytes_again b rest h =
     let n : 2 + (length (hex b) + 1) ≡ suc (suc (length (hex b) + 1)) = omega arith in
     let found : bytes_at (hex b ++ (39 ∷ rest)) ≡ Some (token.Literal (value.Bytes b), suc (suc (length (hex b) + 1))) = rw (hexadecimal_again b rest h, n) refl in
@@ -289,7 +284,7 @@ above_again rest (blank more) = refl
 above_again rest (close more) = refl
 above_again rest (comma more) = refl
 
-fixed_again : (f : Fixed) (rest : List ℕ) → not (same_fixed f fixed.End) ≡ true → Stop rest → token_at (fixed_text f ++ rest) ≡ Some (token.Fixed f, length (fixed_text f))
+pub fixed_again : (f : Fixed) (rest : List ℕ) → not (same_fixed f fixed.End) ≡ true → Stop rest → token_at (fixed_text f ++ rest) ≡ Some (token.Fixed f, length (fixed_text f))
 unfolding fixed_text token_at keyword
 fixed_again fixed.Select rest h s = keyword_again (codes "SELECT") fixed.Select rest refl refl s
 fixed_again fixed.From rest h s = keyword_again (codes "FROM") fixed.From rest refl refl s
@@ -318,154 +313,3 @@ fixed_again fixed.AtMost rest h s = refl
 fixed_again fixed.Above rest h s = above_again rest s
 fixed_again fixed.AtLeast rest h s = refl
 fixed_again fixed.End rest h s = absurd (false≢true h)
-
--- each token
-
-integer_again : (n : ℤ) (rest : List ℕ) → has_64_bits n ≡ true → Stop rest → token_at (value_text (value.Int n) ++ rest) ≡ Some (token.Literal (value.Int n), length (value_text (value.Int n)))
-integer_again (pos n) rest h s =
-    let below : n < 2 ^ 63 = ltb-true n (2 ^ 63) h in
-    positive_again (fmt.decimal n) rest n (written n (omega arith)) below s
-integer_again (negsuc n) rest h s =
-    let below : n < 2 ^ 63 = ltb-true n (2 ^ 63) h in
-    negative_again (fmt.decimal (suc n)) rest n (written (suc n) (omega arith)) below s
-
-value_again : (v : Value) (rest : List ℕ) → is_held v ≡ true → Stop rest → token_at (value_text v ++ rest) ≡ Some (token.Literal v, length (value_text v))
-value_again (value.Int n) rest h s = integer_again n rest h s
-value_again (value.Text t) rest h s = text_again t rest h s
-value_again (value.Bytes b) rest h s = bytes_again b rest h
-
-token_again : (t : Token) (rest : List ℕ) → is_spelled t ≡ true → Stop rest → token_at (token_text t ++ rest) ≡ Some (t, length (token_text t))
-token_again (token.Fixed f) rest h s = fixed_again f rest h s
-token_again (token.Word w) rest h s =
-    let both = and_parts (is_word w) (not (is_keyword w)) h in
-    word_again w rest both.0 s ∙ ap (λ (t : Token). Some (t, length w)) (plain_word w (not-true (is_keyword w) both.1))
-token_again (token.Parameter n) rest h s =
-    let below : n < 2 ^ 64 = ltb-true n (2 ^ 64) h in
-    parameter_again (fmt.decimal n) rest n (written n below) below s
-token_again (token.Literal v) rest h s = value_again v rest h s
-
--- behind a `(` anything may stand
-sign_open_again : (f : Fixed) (rest : List ℕ) → same_fixed f fixed.Open ≡ true → token_at (fixed_text f ++ rest) ≡ Some (token.Fixed f, length (fixed_text f))
-unfolding fixed_text token_at
-sign_open_again fixed.Open rest h = refl
-sign_open_again _ rest h = absurd (false≢true h)
-
-open_again : (t : Token) (rest : List ℕ) → opens t ≡ true → token_at (token_text t ++ rest) ≡ Some (t, length (token_text t))
-open_again (token.Fixed f) rest h = sign_open_again f rest h
-open_again (token.Word w) rest h = absurd (false≢true h)
-open_again (token.Parameter n) rest h = absurd (false≢true h)
-open_again (token.Literal v) rest h = absurd (false≢true h)
-
--- a `)` and a `,` end the token before them
-sign_close_stops : (f : Fixed) (rest : List ℕ) → (same_fixed f fixed.Close || same_fixed f fixed.Comma) ≡ true → Stop (fixed_text f ++ rest)
-unfolding fixed_text
-sign_close_stops fixed.Close rest h = close rest
-sign_close_stops fixed.Comma rest h = comma rest
-sign_close_stops _ rest h = absurd (false≢true h)
-
-close_stops : (t : Token) (rest : List ℕ) → closes t ≡ true → Stop (token_text t ++ rest)
-close_stops (token.Fixed f) rest h = sign_close_stops f rest h
-close_stops (token.Word w) rest h = absurd (false≢true h)
-close_stops (token.Parameter n) rest h = absurd (false≢true h)
-close_stops (token.Literal v) rest h = absurd (false≢true h)
-
-joined_stops : (ts : List Token) → Stop (joined false ts)
-joined_stops [] = end
-joined_stops (t ∷ more) = by_close (closes t) refl
-  where
-    by_close : (b : Bool) → closes t ≡ b → Stop (joined false (t ∷ more))
-    by_close true e = rw e (close_stops t (joined (opens t) more) e)
-    by_close false e = rw e (blank (token_text t ++ joined (opens t) more))
-
-found_behind : (t : Token) (more : List Token) → is_spelled t ≡ true → token_at (token_text t ++ joined (opens t) more) ≡ Some (t, length (token_text t))
-found_behind t more h = by_open (opens t) refl
-  where
-    by_open : (b : Bool) → opens t ≡ b → token_at (token_text t ++ joined (opens t) more) ≡ Some (t, length (token_text t))
-    by_open true e = open_again t (joined (opens t) more) e
-    by_open false e = rw e (token_again t (joined false more) h (joined_stops more))
-
--- a token's text has a byte
-
-fixed_some : (f : Fixed) → not (same_fixed f fixed.End) ≡ true → 0 < length (fixed_text f)
-unfolding fixed_text
-fixed_some fixed.End h = absurd (false≢true h)
-fixed_some _ h = omega arith
-
-word_some : (w : List ℕ) → is_word w ≡ true → 0 < length w
-word_some [] h = absurd (false≢true h)
-word_some (b ∷ more) h = omega arith
-
-integer_some : (n : ℤ) → has_64_bits n ≡ true → 0 < length (value_text (value.Int n))
-integer_some (pos n) h = let below : n < 2 ^ 63 = ltb-true n (2 ^ 63) h in decimal_nonempty n (omega arith)
-integer_some (negsuc n) h = omega arith
-
-value_some : (v : Value) → is_held v ≡ true → 0 < length (value_text v)
-value_some (value.Int n) h = integer_some n h
-value_some (value.Text t) h = omega arith
-value_some (value.Bytes b) h = omega arith
-
-token_some : (t : Token) → is_spelled t ≡ true → 0 < length (token_text t)
-token_some (token.Fixed f) h = fixed_some f h
-token_some (token.Word w) h = word_some w (and_parts (is_word w) (not (is_keyword w)) h).0
-token_some (token.Parameter n) h = omega arith
-token_some (token.Literal v) h = value_some v h
-
--- no token begins at a blank
-not_blank : (b : ℕ) (more : List ℕ) (found : Token × ℕ) → token_at (b ∷ more) ≡ Some found → is_blank b ≡ false
-unfolding token_at
-not_blank b more found h = or_from (b == 32) (b == 9) (ne_eqb b 32 is_space) (ne_eqb b 9 is_tab)
-  where
-    is_space : b ≡ 32 → ⊥
-    is_space e = let P : ℕ → Type 0 = λ n. token_at (n ∷ more) ≡ Some found in let none : None ≡ Some found = subst P e h in cc
-
-    is_tab : b ≡ 9 → ⊥
-    is_tab e = let P : ℕ → Type 0 = λ n. token_at (n ∷ more) ≡ Some found in let none : None ≡ Some found = subst P e h in cc
-
--- the bytes of a token are passed over
-passed : (xs rest : List ℕ) (p : ℕ) → tokens_from (length xs) p (xs ++ rest) ≡ tokens_from 0 (p + length xs) rest
-passed [] rest p = rw (add-zero p) refl
-passed (x ∷ more) rest p =
-    let k : suc (length more) - 1 ≡ length more = omega arith in
-    let n : p + 1 + length more ≡ p + suc (length more) = omega arith in
-    rw (lt-ltb 0 (suc (length more)) (omega arith), k, passed more rest (p + 1), n) refl
-
--- the first token, and the tokens behind it
-begins_with : (text rest : List ℕ) (t : Token) (p : ℕ) → 0 < length text → token_at (text ++ rest) ≡ Some (t, length text)
-    → tokens_from 0 p (text ++ rest) ≡ with_tokens (placed p t ∷ []) (tokens_from 0 (p + length text) rest)
-begins_with [] rest t p some h = absurd (omega (arith, some))
-begins_with (b ∷ more) rest t p some h =
-    let k : suc (length more) - 1 ≡ length more = omega arith in
-    let n : p + 1 + length more ≡ p + suc (length more) = omega arith in
-    rw (not_blank b (more ++ rest) (t, suc (length more)) h, h, k, passed more rest (p + 1), n) refl
-
--- the tokens are found, and then the end
-record IsFound (ts : List Token) (found : Result (List Placed) Refusal) : Type 0 where
-  them : List Placed
-  is : found ≡ Ok them
-  are : tokens_in them ≡ ts ++ token.Fixed fixed.End ∷ []
-
-one_more : (ts : List Token) (t : Token) (p : ℕ) (found whole : Result (List Placed) Refusal) → whole ≡ with_tokens (placed p t ∷ []) found → IsFound ts found → IsFound (t ∷ ts) whole
-one_more ts t p found whole e h =
-    record { them = placed p t ∷ h.them; is = e ∙ ap (with_tokens (placed p t ∷ [])) h.is; are = ap (λ (xs : List Token). t ∷ xs) h.are }
-
-found_first : (t : Token) (more : List Token) → is_spelled t ≡ true → ((p : ℕ) → IsFound more (tokens_from 0 p (joined (opens t) more))) → (p : ℕ) → IsFound (t ∷ more) (tokens_from 0 p (token_text t ++ joined (opens t) more))
-found_first t more h behind p =
-    let size : ℕ = length (token_text t) in
-    let rest : List ℕ = joined (opens t) more in
-    one_more more t p (tokens_from 0 (p + size) rest) (tokens_from 0 p (token_text t ++ rest)) (begins_with (token_text t) rest t p (token_some t h) (found_behind t more h)) (behind (p + size))
-
-found_spaced : (t : Token) (more : List Token) (tight : Bool) → ((p : ℕ) → IsFound (t ∷ more) (tokens_from 0 p (token_text t ++ joined (opens t) more)))
-    → (p : ℕ) → IsFound (t ∷ more) (tokens_from 0 p (((if tight then [] else 32 ∷ []) ++ token_text t) ++ joined (opens t) more))
-found_spaced t more true h p = h p
-found_spaced t more false h p = h (p + 1)
-
-all_found : (tight : Bool) (ts : List Token) → list_all is_spelled ts ≡ true → (p : ℕ) → IsFound ts (tokens_from 0 p (joined tight ts))
-all_found tight [] h p = record { them = placed p (token.Fixed fixed.End) ∷ []; is = refl; are = refl }
-all_found tight (t ∷ more) h p =
-    let good = and_parts (is_spelled t) (list_all is_spelled more) h in
-    found_spaced t more (tight || closes t) (found_first t more good.0 (all_found (opens t) more good.1)) p
-
-pub tokens_again : TokensAreReadAgain
-tokens_again ts h =
-    let found = all_found true ts h 0 in
-    ap found_barely found.is ∙ ap (λ (xs : List Token). Ok xs) found.are

@@ -1,5 +1,5 @@
 -- The canonical text of a statement.
-use Rattle.std.specs.Prelude.{ℕ, ◌+◌, Bool, true, false, List, [], ◌∷◌, ◌++◌, Option, Some, None, slice_get, if◌then◌else◌}
+use Rattle.std.specs.Prelude.{ℕ, Bool, true, false, List, [], ◌∷◌, ◌++◌, Option, Some, None, slice_get, if◌then◌else◌}
 use Rattle.okws_plan.specs.Meaning.{columns_of}
 use Rattle.okws_plan.specs.declared.configuration.Column.{Column}
 use Rattle.okws_plan.specs.declared.configuration.Table.{Table}

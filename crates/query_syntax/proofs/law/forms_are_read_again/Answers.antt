@@ -1,4 +1,4 @@
-use Rattle.query_syntax.proofs.ReadForms.{forms_again}
+use Rattle.query_syntax.proofs.FormsAgain.{forms_again}
 use Rattle.query_syntax.proofs.law.forms_are_read_again.Goals as goal
 
 pub returns : goal.returns

@@ -1,7 +1,7 @@
 use Rattle.std.proofs.Common.{◌≡◌, ap, ◌∙◌, rules}
 use Rattle.statement_core.specs.Canonical.{canonical}
 use Rattle.statement_core.specs.Compiled.{compiled}
-use Rattle.statement_core.proofs.Recompiles.{statements_again}
+use Rattle.statement_core.proofs.CompilesAgain.{statements_again}
 use Rattle.statement_core.proofs.canonical.text_of.Goals as goal
 
 pub returns-clause-again : goal.returns-clause-again

@@ -1,5 +1,5 @@
 use Rattle.std.proofs.Common.{rules}
-use Rattle.statement_core.proofs.KeepsForms.{answer_keeps}
+use Rattle.statement_core.proofs.RulesKept.{answer_keeps}
 use Rattle.statement_core.proofs.compiler.compile.Goals as goal
 
 pub returns-clause-kept : goal.returns-clause-kept

@@ -1,4 +1,4 @@
-use Rattle.statement_core.proofs.KeepsForms.{compiled_keeps}
+use Rattle.statement_core.proofs.RulesKept.{compiled_keeps}
 use Rattle.statement_core.proofs.law.compiled_statements_keep_rules.Goals as goal
 
 pub returns : goal.returns

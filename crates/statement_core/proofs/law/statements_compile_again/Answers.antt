@@ -1,4 +1,4 @@
-use Rattle.statement_core.proofs.Recompiles.{statements_again}
+use Rattle.statement_core.proofs.CompilesAgain.{statements_again}
 use Rattle.statement_core.proofs.law.statements_compile_again.Goals as goal
 
 pub returns : goal.returns

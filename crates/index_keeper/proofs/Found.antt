@@ -3,12 +3,11 @@ use Rattle.std.proofs.Common.{◌≡◌, ◌∙◌, ℕ, ◌+◌, ◌<◌, Bool,
 use Rattle.std.specs.Prelude.{filter, map, ◌||◌, ◌&&◌, ◌==◌, is_some}
 use Rattle.std.specs.List.{list_any, list_all, find, AllByRecursion}
 use Rattle.std.specs.List.Sorted.{IsStrictlySortedBy}
-use Rattle.std.specs.Cmp.{nat_cmp_total, tied_then, eq_by_cmp_equiv, unsigned_Decides}
-use Rattle.std.specs.Ordering.{is_eq, nat_cmp, ordering_then}
+use Rattle.std.specs.Cmp.{nat_cmp_total, eq_by_cmp_equiv, unsigned_Decides}
+use Rattle.std.specs.Ordering.{is_eq, nat_cmp}
 use Rattle.std.specs.Map.{lookup, keys_of}
 use Rattle.std.specs.BTreeMap.{is_at}
 use Rattle.std.specs.BTreeSet.{BTreeSet, contains}
-use Rattle.std.specs.BTreeSet as sorted
 use Rattle.std.specs.declared.cmp.Ordering.{Ordering}
 use Rattle.std.specs.declared.cmp.Ordering.TheVariants.{Less, Equal, Greater}
 use Rattle.std.specs.declared.option.Option.{Option}
@@ -27,11 +26,10 @@ use Rattle.okws_plan.specs.declared.statement.Comparison.TheVariants as comparis
 use Rattle.okws_base.specs.Value.{value_cmp}
 use Rattle.placed_rows.specs.Places.{row_at}
 use Rattle.placed_rows.proofs.Stood.{each_here}
-use Rattle.row_slots.specs.Slots.{slot_cmp, is_of, places_in}
+use Rattle.row_slots.specs.Slots.{places_in}
 use Rattle.row_slots.specs.Index.{is_indexed, cell, is_value, IsIndex}
 use Rattle.index_keeper.specs.Places.{places_where, rows_of, passes_at, is_equality, leading, tests, tests_by}
-use Rattle.row_slots.specs.declared.slot.Slot.{Slot}
-use Rattle.row_slots.proofs.Runs.{group_cmp, groups_total}
+use Rattle.row_slots.specs.declared.slots.Slots.{Slots}
 
 pub filter_hit : {X : Type 0} (p : X → Bool) (xs : List X) (i : ℕ) (d : X) → i < length xs → p (get_or xs i d) ≡ true → filter p (take (i + 1) xs) ≡ filter p (take i xs) ++ get_or xs i d ∷ []
 filter_hit p xs i d h hit = filter_more p xs i d h ∙ ap (λ (b : Bool). filter p (take i xs) ++ cond b (get_or xs i d ∷ []) []) hit
@@ -59,54 +57,7 @@ sorted_filtered C f p (x ∷ xs) up = by (p x) refl (sorted_filtered C f p xs up
     by true is rest = rw is (above_filtered C f p (f x) xs up.0, rest)
     by false is rest = rw is rest
 
-equal_of : (o : Ordering) → is_eq o ≡ true → o ≡ Equal
-equal_of Less e = let never : ⊥ = cc in absurd never
-equal_of Equal e = refl
-equal_of Greater e = let never : ⊥ = cc in absurd never
-
--- In one group slots are in the order of their places.
-by_place : (f q r : Slot) → group_cmp f q ≡ Equal → group_cmp f r ≡ Equal → slot_cmp q r ≡ nat_cmp q.place r.place
-by_place f q r own other = ap (λ (o : Ordering). ordering_then o (nat_cmp q.place r.place)) (sym (groups_total.congr f q r own) ∙ other)
-
-above_places : (f q : Slot) (ks : List Slot) → group_cmp f q ≡ Equal → AllByRecursion (λ y. slot_cmp q y ≡ Less) ks → AllByRecursion (λ n. nat_cmp q.place n ≡ Less) (places_in f.column f.value ks)
-above_places f q [] own all = tt
-above_places f q (r ∷ ks) own all = by (is_of f.column f.value r) refl (above_places f q ks own all.1)
-  where
-    by : (b : Bool) → is_of f.column f.value r ≡ b → AllByRecursion (λ n. nat_cmp q.place n ≡ Less) (places_in f.column f.value ks) → AllByRecursion (λ n. nat_cmp q.place n ≡ Less) (places_in f.column f.value (r ∷ ks))
-    by true is rest = rw is (sym (by_place f q r own (equal_of (group_cmp f r) is)) ∙ all.0, rest)
-    by false is rest = rw is rest
-
-places_sorted : (f : Slot) (ks : List Slot) → IsStrictlySortedBy slot_cmp ks → IsStrictlySortedBy nat_cmp (places_in f.column f.value ks)
-unfolding IsStrictlySortedBy
-places_sorted f [] up = tt
-places_sorted f (q ∷ ks) up = by (is_of f.column f.value q) refl (places_sorted f ks up.1)
-  where
-    by : (b : Bool) → is_of f.column f.value q ≡ b → IsStrictlySortedBy nat_cmp (places_in f.column f.value ks) → IsStrictlySortedBy nat_cmp (places_in f.column f.value (q ∷ ks))
-    by true is rest = rw is (above_places f q ks (equal_of (group_cmp f q) is) up.0, rest)
-    by false is rest = rw is rest
-
 -- ---- which places
-
-any_in_group : (c : ℕ) (v : Value) (p : ℕ) (ks : List Slot) → list_any (is_at (nat_cmp p)) (places_in c v ks) ≡ list_any (is_at (slot_cmp (record { column = c; value = v; place = p }))) ks
-any_in_group c v p [] = refl
-any_in_group c v p (s ∷ ks) = by (is_of c v s) refl (any_in_group c v p ks)
-  where
-    key : Slot
-    key = record { column = c; value = v; place = p }
-
-    apart : is_at (slot_cmp key) s ≡ (is_of c v s && is_eq (nat_cmp p s.place))
-    apart = sym (tied_then (group_cmp key s) (nat_cmp p s.place))
-
-    by : (b : Bool) → is_of c v s ≡ b → list_any (is_at (nat_cmp p)) (places_in c v ks) ≡ list_any (is_at (slot_cmp key)) ks
-        → list_any (is_at (nat_cmp p)) (places_in c v (s ∷ ks)) ≡ list_any (is_at (slot_cmp key)) (s ∷ ks)
-    by true is rest =
-        let here : is_at (slot_cmp key) s ≡ is_eq (nat_cmp p s.place) = apart ∙ ap (λ (b : Bool). b && is_eq (nat_cmp p s.place)) is in
-        let kept : list_any (is_at (nat_cmp p)) (places_in c v (s ∷ ks)) ≡ (is_eq (nat_cmp p s.place) || list_any (is_at (nat_cmp p)) (places_in c v ks)) = rw is refl in
-        kept ∙ ap (λ (b : Bool). is_eq (nat_cmp p s.place) || b) rest ∙ ap (λ (b : Bool). b || list_any (is_at (slot_cmp key)) ks) (sym here)
-    by false is rest =
-        let here : is_at (slot_cmp key) s ≡ false = apart ∙ ap (λ (b : Bool). b && is_eq (nat_cmp p s.place)) is in
-        let skipped : list_any (is_at (nat_cmp p)) (places_in c v (s ∷ ks)) ≡ list_any (is_at (nat_cmp p)) (places_in c v ks) = rw is refl in
-        skipped ∙ rest ∙ ap (λ (b : Bool). b || list_any (is_at (slot_cmp key)) ks) (sym here)
 
 any_some : {K X : Type 0} (test : K → Bool) (es : List (K × X)) → list_any test (keys_of es) ≡ is_some (lookup test es)
 any_some test [] = refl
@@ -136,21 +87,20 @@ same_test c v None = refl
 same_test c v (Some row) = refl
 
 -- The places in the slots of a value are those of the rows that have it.
-pub listed : (columns : List ℕ) (rows : List (ℕ × List Value)) (slots : BTreeSet Slot) (c : ℕ) (v : Value) → IsIndex columns rows slots → IsStrictlySortedBy nat_cmp (keys_of rows) → sorted.IsOrdered slot_cmp slots → is_indexed columns c ≡ true
-    → places_in c v slots.keys ≡ places_where (λ (row : List Value). is_value v (Some (at_column row c))) rows
+pub listed : (columns : List ℕ) (rows : List (ℕ × List Value)) (slots : Slots) (c : ℕ) (v : Value) → IsIndex columns rows slots → IsStrictlySortedBy nat_cmp (keys_of rows) → IsStrictlySortedBy nat_cmp (places_in c v slots) → is_indexed columns c ≡ true
+    → places_in c v slots ≡ places_where (λ (row : List Value). is_value v (Some (at_column row c))) rows
 listed columns rows slots c v index up rise has =
-    let holds : List Value → Bool = λ (row : List Value). is_value v (Some (at_column row c)) in
-    let left : BTreeSet ℕ = record { keys = places_in c v slots.keys } in
-    let right : BTreeSet ℕ = record { keys = places_where holds rows } in
+    let own : List Value → Bool = λ (row : List Value). is_value v (Some (at_column row c)) in
+    let left : BTreeSet ℕ = record { keys = places_in c v slots } in
+    let right : BTreeSet ℕ = record { keys = places_where own rows } in
     let same : (p : ℕ) → contains nat_cmp left p ≡ contains nat_cmp right p = λ (p : ℕ).
-    any_in_group c v p slots.keys
-    ∙ index.exact (record { column = c; value = v; place = p })
+    index.exact (record { group = record { column = c; value = v }; place = p })
     ∙ ap (λ (b : Bool). b && is_value v (cell c (row_at rows p))) has
     ∙ same_test c v (row_at rows p)
-    ∙ sym (any_where holds rows p up) in
+    ∙ sym (any_where own rows p up) in
     btree_set_from_contains nat_cmp_total left right
-    (places_sorted (record { column = c; value = v; place = 0 }) slots.keys rise)
-    (sorted_filtered nat_cmp (λ (e : ℕ × List Value). e.0) (λ (e : ℕ × List Value). holds e.1) rows up)
+    rise
+    (sorted_filtered nat_cmp (λ (e : ℕ × List Value). e.0) (λ (e : ℕ × List Value). own e.1) rows up)
     same
     exact_unsigned
 
@@ -201,11 +151,11 @@ both_left : (a b : Bool) → (a && b) ≡ true → a ≡ true
 both_left true b h = refl
 both_left false b h = h
 
-both_right : (a b : Bool) → (a && b) ≡ true → b ≡ true
+pub both_right : (a b : Bool) → (a && b) ≡ true → b ≡ true
 both_right true b h = h
 both_right false b h = let never : ⊥ = cc in absurd never
 
-and_true : (b : Bool) → (b && true) ≡ b
+pub and_true : (b : Bool) → (b && true) ≡ b
 and_true true = refl
 and_true false = refl
 
@@ -215,7 +165,8 @@ leading_holds columns args conditions c row h =
     equality_passes c.comparison (value_cmp (at_column row c.column) (operand args c.operand))
     (both_left (is_equality c.comparison) (is_indexed columns c.column) (find_passes (λ (d : Condition). is_equality d.comparison && is_indexed columns d.column) conditions c h))
 
-filter_alike : {X : Type 0} (p q : X → Bool) (xs : List X) → ((x : X) → p x ≡ q x) → filter p xs ≡ filter q xs
+-- Tests that agree keep the same items.
+pub filter_alike : {X : Type 0} (p q : X → Bool) (xs : List X) → ((x : X) → p x ≡ q x) → filter p xs ≡ filter q xs
 filter_alike p q [] same = refl
 filter_alike p q (x ∷ xs) same = by (q x) refl (filter_alike p q xs same)
   where
@@ -251,8 +202,8 @@ each_passes f test [] all = tt
 each_passes f test (e ∷ es) all = (ap (passes_at test) all.0, each_passes f test es all.1)
 
 -- The candidates are the places of the rows that meet the leading condition.
-pub candidates_are : (columns : List ℕ) (rows : List (ℕ × List Value)) (slots : BTreeSet Slot) (args : List Value) (conditions : List Condition) (c : Condition) → IsIndex columns rows slots → IsStrictlySortedBy nat_cmp (keys_of rows) → sorted.IsOrdered slot_cmp slots → leading columns conditions ≡ Some c
-    → places_in c.column (operand args c.operand) slots.keys ≡ places_where (λ (row : List Value). is_value (operand args c.operand) (Some (at_column row c.column))) rows
+pub candidates_are : (columns : List ℕ) (rows : List (ℕ × List Value)) (slots : Slots) (args : List Value) (conditions : List Condition) (c : Condition) → IsIndex columns rows slots → IsStrictlySortedBy nat_cmp (keys_of rows) → IsStrictlySortedBy nat_cmp (places_in c.column (operand args c.operand) slots) → leading columns conditions ≡ Some c
+    → places_in c.column (operand args c.operand) slots ≡ places_where (λ (row : List Value). is_value (operand args c.operand) (Some (at_column row c.column))) rows
 candidates_are columns rows slots args conditions c index up rise h =
     listed columns rows slots c.column (operand args c.operand) index up rise
     (both_right (is_equality c.comparison) (is_indexed columns c.column) (find_passes (λ (d : Condition). is_equality d.comparison && is_indexed columns d.column) conditions c h))
@@ -271,8 +222,8 @@ sole_leading columns d c h = by (is_equality d.comparison && is_indexed columns 
     by false is led = let none : leading columns (d ∷ []) ≡ None = rw is refl in let never : ⊥ = cc in absurd never
 
 -- Those of the candidates that meet all conditions are the places of all rows that do.
-pub found_by : (columns : List ℕ) (rows : List (ℕ × List Value)) (slots : BTreeSet Slot) (args : List Value) (conditions : List Condition) (c : Condition) → IsIndex columns rows slots → IsStrictlySortedBy nat_cmp (keys_of rows) → sorted.IsOrdered slot_cmp slots → leading columns conditions ≡ Some c
-    → filter (λ (p : ℕ). passes_at (meets_all args conditions) (row_at rows p)) (places_in c.column (operand args c.operand) slots.keys) ≡ places_where (meets_all args conditions) rows
+pub found_by : (columns : List ℕ) (rows : List (ℕ × List Value)) (slots : Slots) (args : List Value) (conditions : List Condition) (c : Condition) → IsIndex columns rows slots → IsStrictlySortedBy nat_cmp (keys_of rows) → IsStrictlySortedBy nat_cmp (places_in c.column (operand args c.operand) slots) → leading columns conditions ≡ Some c
+    → filter (λ (p : ℕ). passes_at (meets_all args conditions) (row_at rows p)) (places_in c.column (operand args c.operand) slots) ≡ places_where (meets_all args conditions) rows
 found_by columns rows slots args conditions c index up rise h =
     ap (filter (λ (p : ℕ). passes_at (meets_all args conditions) (row_at rows p))) (candidates_are columns rows slots args conditions c index up rise h)
     ∙ narrowed (λ (p : ℕ). passes_at (meets_all args conditions) (row_at rows p)) (λ (row : List Value). is_value (operand args c.operand) (Some (at_column row c.column))) (meets_all args conditions) rows
@@ -280,8 +231,8 @@ found_by columns rows slots args conditions c index up rise h =
     (met_leading columns args conditions c h)
 
 -- There are as many candidates as rows are tested.
-pub counted_by : (columns : List ℕ) (rows : List (ℕ × List Value)) (slots : BTreeSet Slot) (args : List Value) (conditions : List Condition) (c : Condition) → IsIndex columns rows slots → IsStrictlySortedBy nat_cmp (keys_of rows) → sorted.IsOrdered slot_cmp slots → leading columns conditions ≡ Some c
-    → length (places_in c.column (operand args c.operand) slots.keys) ≡ tests columns args conditions (rows_of rows)
+pub counted_by : (columns : List ℕ) (rows : List (ℕ × List Value)) (slots : Slots) (args : List Value) (conditions : List Condition) (c : Condition) → IsIndex columns rows slots → IsStrictlySortedBy nat_cmp (keys_of rows) → IsStrictlySortedBy nat_cmp (places_in c.column (operand args c.operand) slots) → leading columns conditions ≡ Some c
+    → length (places_in c.column (operand args c.operand) slots) ≡ tests columns args conditions (rows_of rows)
 counted_by columns rows slots args conditions c index up rise h =
     ap length (candidates_are columns rows slots args conditions c index up rise h)
     ∙ count_where (λ (row : List Value). is_value (operand args c.operand) (Some (at_column row c.column))) rows

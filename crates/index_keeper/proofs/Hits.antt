@@ -4,8 +4,6 @@ use Rattle.std.specs.Prelude.{filter, map, ◌&&◌}
 use Rattle.std.specs.Ordering.{nat_cmp}
 use Rattle.std.specs.List.Sorted.{IsStrictlySortedBy}
 use Rattle.std.specs.Map.{keys_of}
-use Rattle.std.specs.BTreeSet.{BTreeSet}
-use Rattle.std.specs.BTreeSet as sorted
 use Rattle.std.specs.declared.option.Option.{Option}
 use Rattle.okws_base.specs.Runs.{Each}
 use Rattle.okws_base.specs.declared.value.Value.{Value}
@@ -13,14 +11,14 @@ use Rattle.okws_plan.specs.Meaning.{at_column, operand, meets, meets_all}
 use Rattle.okws_plan.specs.declared.statement.Condition.{Condition}
 use Rattle.placed_rows.specs.Places.{row_at}
 use Rattle.placed_rows.proofs.Stood.{each_here}
-use Rattle.row_slots.specs.Slots.{slot_cmp, places_in}
+use Rattle.row_slots.specs.Slots.{places_in}
 use Rattle.row_slots.specs.Index.{is_value, IsIndex}
 use Rattle.index_keeper.specs.Places.{places_where, rows_of, leading, left_of}
 use Rattle.row_slots.specs.Changes.{changes_to}
 use Rattle.index_keeper.specs.Hits.{lent, entries_of, entries_at}
 use Rattle.row_slots.specs.declared.changing.Change.{Change}
 use Rattle.index_keeper.specs.declared.finding.Hit.{Hit}
-use Rattle.row_slots.specs.declared.slot.Slot.{Slot}
+use Rattle.row_slots.specs.declared.slots.Slots.{Slots}
 use Rattle.index_keeper.proofs.Found.{candidates_are, leading_holds, met_leading, sole_leading}
 
 -- Of the places that pass one test those whose rows pass the rest of a narrower one, with their rows, are the entries that pass this.
@@ -50,8 +48,8 @@ left_met columns args (d ∷ e ∷ more) c h row =
     only_if (is_value (operand args c.operand) (Some (at_column row c.column))) (meets_all args (d ∷ e ∷ more) row) (met_leading columns args (d ∷ e ∷ more) c h row)
 
 -- The candidates that meet the conditions that are left, with their rows, are all entries that meet all conditions.
-pub found_entries : (columns : List ℕ) (rows : List (ℕ × List Value)) (slots : BTreeSet Slot) (args : List Value) (conditions : List Condition) (c : Condition) → IsIndex columns rows slots → IsStrictlySortedBy nat_cmp (keys_of rows) → sorted.IsOrdered slot_cmp slots → leading columns conditions ≡ Some c
-    → entries_at (meets_all args (left_of conditions)) (λ (p : ℕ). row_at rows p) (places_in c.column (operand args c.operand) slots.keys) ≡ filter (λ (e : ℕ × List Value). meets_all args conditions e.1) rows
+pub found_entries : (columns : List ℕ) (rows : List (ℕ × List Value)) (slots : Slots) (args : List Value) (conditions : List Condition) (c : Condition) → IsIndex columns rows slots → IsStrictlySortedBy nat_cmp (keys_of rows) → IsStrictlySortedBy nat_cmp (places_in c.column (operand args c.operand) slots) → leading columns conditions ≡ Some c
+    → entries_at (meets_all args (left_of conditions)) (λ (p : ℕ). row_at rows p) (places_in c.column (operand args c.operand) slots) ≡ filter (λ (e : ℕ × List Value). meets_all args conditions e.1) rows
 found_entries columns rows slots args conditions c index up rise h =
     ap (entries_at (meets_all args (left_of conditions)) (λ (p : ℕ). row_at rows p)) (candidates_are columns rows slots args conditions c index up rise h)
     ∙ narrowed_entries (λ (p : ℕ). row_at rows p) (λ (row : List Value). is_value (operand args c.operand) (Some (at_column row c.column))) (meets_all args (left_of conditions)) (meets_all args conditions) rows

@@ -7,3 +7,4 @@ pub mod Scanned
 pub mod Unstable
 mod Hits
 mod Sole
+mod Keyed

@@ -1,10 +1,9 @@
 -- What is found when all stands are gone through.
-use Rattle.std.proofs.Common.{◌≡◌, ◌∙◌, ℕ, zero, suc, ◌+◌, ◌<◌, ◌≤◌, Bool, true, false, List, [], ◌∷◌, ◌++◌, length, get_or, take, refl, ap, sym, Some, None, Result, Ok, Err, OnOk, arith}
+use Rattle.std.proofs.Common.{◌≡◌, ◌∙◌, ℕ, zero, suc, ◌+◌, ◌<◌, ◌≤◌, Bool, true, false, List, [], ◌∷◌, ◌++◌, length, get_or, take, refl, ap, sym, Some, None, Result, Ok, Err, OnOk, IfOk, arith}
 use Rattle.std.specs.Prelude.{◌||◌, filter, ◌&&◌}
 use Rattle.std.specs.List.{list_any}
 use Rattle.std.specs.List.Sorted.{IsStrictlySortedBy}
 use Rattle.std.specs.Ordering.{nat_cmp}
-use Rattle.std.specs.BTreeSet.{BTreeSet}
 use Rattle.std.specs.declared.option.Option.{Option}
 use Rattle.okws_base.specs.declared.value.Value.{Value}
 use Rattle.placed_rows.specs.Stands.{entry_of, standing, Placed}
@@ -12,7 +11,9 @@ use Rattle.placed_rows.specs.declared.placed.Stand.{Stand}
 use Rattle.placed_rows.proofs.Stands.{stands_first, empty_first}
 use Rattle.row_slots.specs.Index.{is_indexed}
 use Rattle.index_keeper.specs.Places.{rows_of, passes_at, IsSound}
+use Rattle.row_slots.specs.Slots.{holds}
 use Rattle.row_slots.specs.declared.slot.Slot.{Slot}
+use Rattle.row_slots.specs.declared.slots.Slots.{Slots}
 use Rattle.index_keeper.proofs.Entries.{filter_map_some, filter_map_none}
 
 -- One stand more, with a row and without.
@@ -80,6 +81,15 @@ pub on_ok : {X E P Q : Type 0} (r : Result X E) → (P → Q) → OnOk r P → O
 on_ok (Ok x) f h = f h
 on_ok (Err e) f h = tt
 
+pub if_ok : {X E : Type 0} {P Q : X → Type 0} (r : Result X E) → ((x : X) → P x → Q x) → IfOk r P → IfOk r Q
+if_ok (Ok x) f h = f x h
+if_ok (Err e) f h = tt
+
+-- And what follows from two things that hold of it.
+pub if_ok_both : {X E R : Type 0} {P Q : X → Type 0} (r : Result X E) → ((x : X) → P x → R → Q x) → IfOk r P → OnOk r R → IfOk r Q
+if_ok_both (Ok x) f h k = f x h k
+if_ok_both (Err e) f h k = tt
+
 nothing_at : (b : Bool) → (b && false) ≡ false
 nothing_at true = refl
 nothing_at false = refl
@@ -89,9 +99,9 @@ unfolding IsStrictlySortedBy
 none_sorted = tt
 
 -- No rows, with no slots.
-pub none_sound : (columns : List ℕ) (rows : Placed) (slots : BTreeSet Slot) → rows ≡ record { entries = []; next = 0 } → slots.keys ≡ [] → IsSound columns rows.entries rows.next slots
+pub none_sound : (columns : List ℕ) (rows : Placed) (slots : Slots) → rows ≡ record { entries = []; next = 0 } → ((q : Slot) → holds slots q ≡ false) → IsSound columns rows.entries rows.next slots
 none_sound columns rows slots is none = rw is (record {
   rising = none_sorted;
-  index = record { exact = λ (q : Slot). rw none (sym (nothing_at (is_indexed columns q.column))) };
+  index = record { exact = λ (q : Slot). none q ∙ sym (nothing_at (is_indexed columns q.group.column)) };
   free = λ (p : ℕ) h. refl;
 })

@@ -14,14 +14,14 @@ use Rattle.placed_rows.specs.Places.{row_at, merged}
 use Rattle.placed_rows.proofs.Stood.{each_here}
 use Rattle.row_slots.specs.Few.{if_any}
 use Rattle.index_keeper.specs.Hits.{lent, entries_of}
-use Rattle.row_slots.specs.Index.{is_indexed, is_value}
+use Rattle.row_slots.specs.Index.{is_indexed, is_value, due}
 use Rattle.index_keeper.specs.Places.{rows_of}
 use Rattle.row_slots.specs.Changes.{changed, changes_to}
 use Rattle.index_keeper.specs.declared.finding.Hit.{Hit}
 use Rattle.row_slots.specs.declared.slot.Slot.{Slot}
 use Rattle.index_keeper.proofs.Entries.{updated_rows}
 use Rattle.index_keeper.proofs.Found.{rows_where}
-use Rattle.row_slots.proofs.Moved.{due, nat_same}
+use Rattle.row_slots.proofs.Moved.{nat_same}
 
 -- One row is in order.
 pub sole_ordered : (order : Option ℕ) (hit : Option Hit) → ordered order (lent (if_any hit)) ≡ lent (if_any hit)
@@ -40,12 +40,12 @@ cut_limited columns (Some n) rows = take-map (λ (row : List Value). cut columns
 pub still_due : (columns : List ℕ) (o : Option (List Value)) (c : ℕ) (v : Value) (q : Slot) (here : Bool) → is_indexed columns c ≡ false → due columns (if here then option_map (λ (row : List Value). slice_set row c v) o else o) q ≡ due columns o q
 still_due columns o c v q false none = refl
 still_due columns None c v q true none = refl
-still_due columns (Some row) c v q true none = by (is_indexed columns q.column) refl
+still_due columns (Some row) c v q true none = by (is_indexed columns q.group.column) refl
   where
-    by : (b : Bool) → is_indexed columns q.column ≡ b → due columns (Some (slice_set row c v)) q ≡ due columns (Some row) q
+    by : (b : Bool) → is_indexed columns q.group.column ≡ b → due columns (Some (slice_set row c v)) q ≡ due columns (Some row) q
     by true is =
-        let other : q.column ≢ c = λ (same : q.column ≡ c). let own : is_indexed columns c ≡ true = ap (is_indexed columns) (sym same) ∙ is in cc in
-        ap (λ (x : Value). is_indexed columns q.column && is_value q.value (Some x)) (get_or-set_other row c q.column v nothing other)
+        let other : q.group.column ≢ c = λ (same : q.group.column ≡ c). let own : is_indexed columns c ≡ true = ap (is_indexed columns) (sym same) ∙ is in cc in
+        ap (λ (x : Value). is_indexed columns q.group.column && is_value q.group.value (Some x)) (get_or-set_other row c q.group.column v nothing other)
     by false is = rw is refl
 
 -- Where no row stands none comes.

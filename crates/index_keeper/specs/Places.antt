@@ -3,7 +3,6 @@ use Rattle.std.specs.Prelude.{◌≡◌, ℕ, ◌≤◌, Bool, true, false, ◌&
 use Rattle.std.specs.Ordering.{nat_cmp}
 use Rattle.std.specs.Map.{keys_of}
 use Rattle.std.specs.List.Sorted.{IsStrictlySortedBy}
-use Rattle.std.specs.BTreeSet.{BTreeSet}
 use Rattle.okws_base.specs.declared.value.Value.{Value}
 use Rattle.okws_plan.specs.Meaning.{hits}
 use Rattle.okws_plan.specs.declared.statement.Condition.{Condition}
@@ -11,7 +10,7 @@ use Rattle.okws_plan.specs.declared.statement.Comparison.{Comparison}
 use Rattle.okws_plan.specs.declared.statement.Comparison.TheVariants as comparison
 use Rattle.placed_rows.specs.Places.{row_at}
 use Rattle.row_slots.specs.Index.{is_indexed, IsIndex}
-use Rattle.row_slots.specs.declared.slot.Slot.{Slot}
+use Rattle.row_slots.specs.declared.slots.Slots.{Slots}
 
 -- The rows of a table as contracts see them: the columns that have an index, and each row with its place.
 pub record Indexed : Type 0 where
@@ -27,7 +26,7 @@ abbrev pub places_where : (List Value → Bool) → List (ℕ × List Value) →
 places_where test entries = map (λ (e : ℕ × List Value). e.0) (filter (λ (e : ℕ × List Value). test e.1) entries)
 
 -- What always holds of a table's rows: their places rise, the slots are an index of them, and no row has the next place or a later one.
-pub record IsSound (columns : List ℕ) (rows : List (ℕ × List Value)) (next : ℕ) (slots : BTreeSet Slot) : Type 0 where
+pub record IsSound (columns : List ℕ) (rows : List (ℕ × List Value)) (next : ℕ) (slots : Slots) : Type 0 where
   pub rising : IsStrictlySortedBy nat_cmp (keys_of rows)
   pub index : IsIndex columns rows slots
   pub free : (p : ℕ) → next ≤ p → row_at rows p ≡ None

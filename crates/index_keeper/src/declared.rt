@@ -1,7 +1,7 @@
 //! Which columns have an index.
 
 ghost use Rattle.std.specs.Prelude.{◌≡◌, ◌||◌, ◌&&◌, ◌==◌, IfOk, slice_get};
-ghost use Rattle.std.specs.List.{list_any};
+ghost use Rattle.std.specs.List.{list_any, find};
 ghost use Rattle.okws_plan.specs.Meaning.{key_place};
 ghost use Rattle.index_keeper.specs.Indexed.{conditions_of, compares, is_key, is_wanted, wanted};
 ghost use Rattle.index_keeper.specs.Places.{is_equality};
@@ -89,4 +89,11 @@ pub fn wanted_columns(
         }
     }
     Ok(out)
+}
+
+/// The number of a column, where it has an index.
+pub fn own_column(columns: &[u8], column: usize) -> Option<u8>
+    ensures { result ≡ find (λ d. d == column) columns.now }
+{
+    columns.iter().copied().find(|own| *own as usize == column)
 }

@@ -1,7 +1,7 @@
 //! The changes that an UPDATE or a DELETE makes at the places of its hits.
 
 ghost use Rattle.std.specs.Prelude.{◌≡◌, ◌∷◌, [], false, IfOk, IfSome, map, Some, None};
-ghost use Rattle.okws_plan.specs.Meaning.{assigned, operand, row_of};
+ghost use Rattle.okws_plan.specs.Meaning.{assigned, nothing, operand, row_of};
 ghost use Rattle.row_slots.specs.Index.{is_indexed};
 ghost use Rattle.row_slots.specs.Changes.{changes_to};
 ghost use Rattle.row_slots.specs.Few.{listed};
@@ -155,9 +155,23 @@ pub fn operand_of(alloc: Global, args: &[Value], given: &Operand) -> Result<Valu
 pub fn row_made(alloc: Global, args: &[Value], values: &[Operand]) -> Result<Row, AllocError>
     ensures { IfOk result (λ v. v ≡ row_of args.now values.now) }
 {
+    let other = Value::Int(0);
+    row_with(alloc, args, values, &other)
+}
+
+#[inline(always)]
+fn row_with(
+    alloc: Global,
+    args: &[Value],
+    values: &[Operand],
+    other: &Value,
+) -> Result<Row, AllocError>
+    requires { other.now ≡ nothing }
+    ensures { IfOk result (λ v. v ≡ row_of args.now values.now) }
+{
     let mut row = Vec::with_capacity(alloc, values.len())?;
     for value in values {
-        row.push(operand_of(alloc, args, value)?)?;
+        row.push(value_of(args, value, other).copy(alloc)?)?;
     }
     Ok(Items::of(row))
 }

@@ -1,13 +1,15 @@
 //! Which rows meet conditions, with a count of the rows that are tested.
 
-ghost use Rattle.std.specs.Prelude.{◌≡◌, ◌+◌, ◌≤◌, ℕ, IfOk, OnOk, length, filter, ◌&&◌};
+ghost use Rattle.std.specs.Prelude.{◌≡◌, ◌+◌, ◌≤◌, ◌∷◌, [], ℕ, List, true, Some, IfOk, IfSome, OnOk, length, map, filter, ◌&&◌};
 ghost use Rattle.std.specs.Option.{option_copied};
-ghost use Rattle.std.specs.BTreeSet.{IsOrdered};
-ghost use Rattle.okws_plan.specs.Meaning.{meets_all, operand, nothing};
+ghost use Rattle.std.specs.List.Sorted.{IsStrictlySortedBy};
+ghost use Rattle.std.specs.Ordering.{nat_cmp};
+ghost use Rattle.okws_base.specs.declared.value.Value.{Value as Field};
+ghost use Rattle.okws_plan.specs.Meaning.{meets_all, operand, nothing, at_column};
 ghost use Rattle.placed_rows.specs.Places.{row_at};
 ghost use Rattle.placed_rows.specs.Stands.{standing};
-ghost use Rattle.row_slots.specs.Slots.{slot_cmp, places_in};
-ghost use Rattle.row_slots.specs.Index.{is_indexed};
+ghost use Rattle.row_slots.specs.Slots.{places_in};
+ghost use Rattle.row_slots.specs.Index.{is_indexed, is_value};
 ghost use Rattle.index_keeper.specs.Places.{leading, left_of, passes_at, is_equality};
 ghost use Rattle.row_slots.specs.Few.{if_any, listed};
 ghost use Rattle.index_keeper.specs.Hits.{entries_of, entry_at, entries_at, passing};
@@ -17,9 +19,8 @@ use okws_base::value::{Row, Value};
 use okws_plan::meaning::meets_every;
 use okws_plan::statement::{Comparison, Condition, Operand};
 use placed_rows::{PlacedRows, Stand};
-use row_slots::{Few, Slot, at, places_at};
+use row_slots::{Few, Group, Slots, at, group_of};
 use std::alloc::{AllocError, Global};
-use std::collections::BTreeSet;
 use std::sync::ledger::Ledger;
 
 /// A place, and the row that stands there.
@@ -83,14 +84,53 @@ pub fn candidates(
     alloc: Global,
     args: &[Value],
     condition: &Condition,
-    slots: &BTreeSet<Slot>,
+    slots: &Slots,
 ) -> Result<Few<u64>, AllocError>
-    ensures places { IfOk result (λ v. listed v ≡ places_in condition.now.column (operand args.now condition.now.operand) slots.now.keys) }
-    ensures ordered { OnOk result (IsOrdered slot_cmp slots.now) }
+    ensures places { IfOk result (λ v. listed v ≡ places_in condition.now.column (operand args.now condition.now.operand) slots.now) }
+    ensures ordered { OnOk result (IsStrictlySortedBy nat_cmp (places_in condition.now.column (operand args.now condition.now.operand) slots.now)) }
 {
     let other = Value::Int(0);
     let value = value_of(args, &condition.operand, &other);
-    places_at(alloc, slots, condition.column, value)
+    slots.places_at(alloc, condition.column, value)
+}
+
+// The only condition, where it compares a column that has an index by `=`.
+#[inline(always)]
+fn sole_condition<'a>(columns: &[u8], conditions: &'a [Condition]) -> Option<&'a Condition>
+    ensures alone { IfSome result (λ c. conditions.now ≡ c.now ∷ []) }
+    ensures leads { IfSome result (λ c. (is_equality c.now.comparison && is_indexed columns.now c.now.column) ≡ true) }
+{
+    if conditions.len() != 1 {
+        return None;
+    }
+    let condition = &conditions[0];
+    if !leads(columns, condition) {
+        return None;
+    }
+    Some(condition)
+}
+
+/// The group of the rows that meet the conditions, where there is but one condition, which compares a column that has an
+/// index by `=`.
+#[inline(always)]
+pub fn sole_group(
+    alloc: Global,
+    columns: &[u8],
+    args: &[Value],
+    conditions: &[Condition],
+) -> Result<Option<Group>, AllocError>
+    ensures own { IfOk result (λ group. IfSome group (λ g. is_indexed columns.now g.column ≡ true)) }
+    ensures rows { IfOk result (λ group. IfSome group (λ g. (row : List Field) → meets_all args.now conditions.now row ≡ is_value g.value (Some (at_column row g.column)))) }
+{
+    match sole_condition(columns, conditions) {
+        None => Ok(None),
+        Some(condition) => {
+            let other = Value::Int(0);
+            let value = value_of(args, &condition.operand, &other);
+            let group = group_of(alloc, condition.column, value)?;
+            Ok(Some(group))
+        }
+    }
 }
 
 /// The rows that stand and meet the conditions, at their places; all that stand are tested.
@@ -212,4 +252,11 @@ pub fn meets_at(args: &[Value], conditions: &[Condition], rows: &PlacedRows, pla
         None => false,
         Some(row) => meets_every(args, conditions, row.as_slice()),
     }
+}
+
+/// The places of hits.
+pub fn places_of(alloc: Global, hits: &[Hit]) -> Result<Vec<u64>, AllocError>
+    ensures { IfOk result (λ v. v.items ≡ map (λ h. h.place) hits.now) }
+{
+    hits.iter().map(|hit| hit.place).collect(alloc)
 }

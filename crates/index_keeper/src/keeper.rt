@@ -1,6 +1,6 @@
 //! The keeper.
 
-ghost use Rattle.std.specs.Prelude.{◌≡◌, ◌+◌, ◌≤◌, true, List, Some, map, length, slice_set, IfOk, OnOk, OnErr};
+ghost use Rattle.std.specs.Prelude.{◌≡◌, ◌+◌, ◌≤◌, true, false, List, Some, map, length, slice_set, IfOk, OnOk, OnErr};
 ghost use Rattle.okws_plan.specs.Fits.{fits};
 ghost use Rattle.okws_plan.specs.Rules.{keeps_rules};
 ghost use Rattle.okws_plan.specs.Meaning.{mean_on};
@@ -135,6 +135,12 @@ impl Keeper for IndexKeeper {
     ghost faults = { λ _. 0 };
 
     ghost steady = { λ _. true };
+
+    ghost parted = { λ _. false };
+
+    fn has_parted(&self) -> bool {
+        false
+    }
 
     fn run(
         &mut self,

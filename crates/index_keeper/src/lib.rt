@@ -12,6 +12,7 @@ mod pinning;
 mod rows;
 mod scanning;
 mod shared;
+mod statements;
 mod steps;
 
 pub use keeper::IndexKeeper;

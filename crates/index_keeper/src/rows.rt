@@ -1,36 +1,33 @@
 //! The rows of one table, with an index.
 
-ghost use Rattle.std.specs.Prelude.{◌≡◌, ◌+◌, ◌≤◌, ◌++◌, ◌∷◌, [], ◌==◌, true, ℕ, IfOk, IfSome, OnOk, OnErr, length, map, filter, false, if◌then◌else◌, option_map, slice_set, Some, None};
-ghost use Rattle.std.specs.List.{list_any, filter_map, find};
+ghost use Rattle.std.specs.Prelude.{◌≡◌, ◌+◌, ◌≤◌, ◌++◌, ◌∷◌, [], ◌==◌, true, ℕ, List, not, IfOk, IfSome, OnOk, OnErr, length, map, filter, false, if◌then◌else◌, option_map, slice_set, Some, None};
 ghost use Rattle.std.specs.List.Sorted.{IsStrictlySortedBy};
 ghost use Rattle.std.specs.Ordering.{nat_cmp};
 ghost use Rattle.std.specs.Map.{keys_of};
-ghost use Rattle.okws_base.specs.Value.{value_eq};
-ghost use Rattle.okws_plan.specs.Meaning.{nothing, mean_on, meets_all, at_column, selection_answer, is_taken};
-ghost use Rattle.okws_plan.specs.Meaning.{hits, misses, updated, assigned, inserted, row_of};
+ghost use Rattle.okws_base.specs.declared.value.Value.{Value as Field};
+ghost use Rattle.okws_plan.specs.Meaning.{nothing, meets_all, at_column, is_taken_at};
 ghost use Rattle.placed_rows.specs.Places.{row_at};
 ghost use Rattle.placed_rows.specs.Stands.{standing};
 ghost use Rattle.row_slots.specs.Few.{listed};
-ghost use Rattle.row_slots.specs.Index.{is_indexed};
+ghost use Rattle.row_slots.specs.Index.{is_indexed, is_value};
 ghost use Rattle.index_keeper.specs.Places.{places_where, passes_at, rows_of, tests};
 ghost use Rattle.index_keeper.specs.Pinning.{AreTested};
 ghost use Rattle.row_slots.specs.Changes.{row_or, changed, changes_to};
 ghost use Rattle.index_keeper.specs.Hits.{entries_of};
 
-use crate::answering::answer;
-use crate::declared::key_column;
-use crate::editing::{operand_of, removals, replacements, row_made, sole_setting};
-use crate::finding::{Hit, candidates, leading_of, left_of, meets_at, met_at, scanned};
+use crate::declared::own_column;
+use crate::editing::{removals, sole_setting};
+use crate::finding::{
+    Hit, candidates, leading_of, left_of, meets_at, met_at, places_of, scanned, sole_group,
+};
 use crate::scanning::{all_places, any_has};
 use crate::steps::Steps;
 use okws_base::items::{Exact, copies};
 use okws_base::value::{Row, Value};
-use okws_plan::configuration::Column;
-use okws_plan::statement::{Action, Answer, Assignment, Condition, Operand, Selection};
+use okws_plan::statement::{Assignment, Condition};
 use placed_rows::{PlacedRows, Stand};
-use row_slots::{Change, Few, Slot, append, apply, at, has_at};
+use row_slots::{Change, Few, Group, Slots, append, append_new, apply, at, remove_group};
 use std::alloc::{AllocError, Global};
-use std::collections::BTreeSet;
 use std::marker::Model;
 use std::sync::ledger::Ledger;
 
@@ -39,7 +36,7 @@ use std::sync::ledger::Ledger;
 pub struct TableRows {
     columns: Vec<u8>,
     rows: PlacedRows,
-    slots: BTreeSet<Slot>,
+    slots: Slots,
 }
 
 impl Model for TableRows {
@@ -71,10 +68,10 @@ impl TableRows {
         places_of(alloc, &hits)
     }
 
-    // The rows that meet the conditions, at their places, ascending. A step is counted for each row
-    // that is tested.
+    /// The rows that meet the conditions, at their places, ascending. A step is counted for each row
+    /// that is tested.
     #[inline(always)]
-    fn found<'a, L: Ledger>(
+    pub fn found<'a, L: Ledger>(
         &'a self,
         alloc: Global,
         args: &[Value],
@@ -127,7 +124,7 @@ impl TableRows {
         TableRows {
             columns,
             rows: PlacedRows::new(alloc),
-            slots: BTreeSet::new(alloc),
+            slots: Slots::new(alloc),
         }
     }
 
@@ -138,36 +135,6 @@ impl TableRows {
         ensures err { OnErr result (self.new ≡ self.old) }
     {
         append(alloc, &self.columns, &mut self.rows, &mut self.slots, row)
-    }
-
-    /// Does what the action means, and counts a step for each row that is tested to find its hits;
-    /// where memory is refused, the rows are as they were.
-    pub fn run<L: Ledger>(
-        &mut self,
-        alloc: Global,
-        columns: &[Column],
-        action: &Action,
-        args: &[Value],
-        steps: &mut Steps<L>,
-    ) -> Result<Answer, AllocError>
-        ensures columns { self.new.columns ≡ self.old.columns }
-        ensures ok { IfOk result (λ answer. (answer, rows_of self.new.entries) ≡ mean_on columns.now action.now args.now (rows_of self.old.entries)) }
-        ensures err { OnErr result (self.new ≡ self.old) }
-    {
-        match action {
-            Action::Select(selection) => self.select(alloc, args, selection, steps),
-            Action::Insert { values } => self.insert(alloc, columns, values.as_slice(), args),
-            Action::Update {
-                assignments,
-                conditions,
-            } => {
-                let assignments = assignments.as_slice();
-                self.update(alloc, args, assignments, conditions.as_slice(), steps)
-            }
-            Action::Delete { conditions } => {
-                self.delete(alloc, args, conditions.as_slice(), steps)
-            }
-        }
     }
 
     /// The value of the row at a place in a column, or `other` where there is none.
@@ -205,123 +172,86 @@ impl TableRows {
         Ok(())
     }
 
-    /// What a SELECT answers. A step is counted for each row that is tested.
-    pub fn select<L: Ledger>(
+    /// Puts a row behind the others, unless one of them has its value in the KEY column, and tells whether it came; where
+    /// memory is refused, the rows are as they were.
+    #[inline(always)]
+    pub fn push_keyed(&mut self, alloc: Global, key: usize, new: Row) -> Result<bool, AllocError>
+        ensures columns { self.new.columns ≡ self.old.columns }
+        ensures came { IfOk result (λ came. came ≡ not (is_taken_at (Some key) (rows_of self.old.entries) new)) }
+        ensures rows { IfOk result (λ came. rows_of self.new.entries ≡ (if came then rows_of self.old.entries ++ new ∷ [] else rows_of self.old.entries)) }
+        ensures err { OnErr result (self.new ≡ self.old) }
+    {
+        match own_column(&self.columns, key) {
+            None => self.push_scanned(alloc, key, new),
+            Some(own) => self.push_indexed(alloc, own, new),
+        }
+    }
+
+    // The same, where the KEY column has no index.
+    fn push_scanned(&mut self, alloc: Global, key: usize, new: Row) -> Result<bool, AllocError>
+        ensures columns { self.new.columns ≡ self.old.columns }
+        ensures came { IfOk result (λ came. came ≡ not (is_taken_at (Some key) (rows_of self.old.entries) new)) }
+        ensures rows { IfOk result (λ came. rows_of self.new.entries ≡ (if came then rows_of self.old.entries ++ new ∷ [] else rows_of self.old.entries)) }
+        ensures err { OnErr result (self.new ≡ self.old) }
+    {
+        let other = Value::Int(0);
+        let value = at(new.as_slice(), key, &other);
+        if any_has(self.rows.stands(), key, value, &other) {
+            return Ok(false);
+        }
+        self.push(alloc, new)?;
+        Ok(true)
+    }
+
+    // The same, where it has one.
+    #[inline(always)]
+    fn push_indexed(&mut self, alloc: Global, own: u8, new: Row) -> Result<bool, AllocError>
+        requires { is_indexed self.old.columns own ≡ true }
+        ensures columns { self.new.columns ≡ self.old.columns }
+        ensures came { IfOk result (λ came. came ≡ not (is_taken_at (Some own) (rows_of self.old.entries) new)) }
+        ensures rows { IfOk result (λ came. rows_of self.new.entries ≡ (if came then rows_of self.old.entries ++ new ∷ [] else rows_of self.old.entries)) }
+        ensures err { OnErr result (self.new ≡ self.old) }
+    {
+        append_new(
+            alloc,
+            &self.columns,
+            own,
+            &mut self.rows,
+            &mut self.slots,
+            new,
+        )
+    }
+
+    /// The group of the rows that meet the conditions, where there is but one condition, by a column with an index.
+    #[inline(always)]
+    pub fn sole_group(
         &self,
         alloc: Global,
         args: &[Value],
-        selection: &Selection,
-        steps: &mut Steps<L>,
-    ) -> Result<Answer, AllocError>
-        ensures { IfOk result (λ answer. answer ≡ selection_answer args.now selection.now (rows_of self.now.entries)) }
-    {
-        let found = self.found(alloc, args, selection.conditions.as_slice(), steps)?;
-        answer(alloc, selection, found)
-    }
-
-    #[inline(always)]
-    fn insert(
-        &mut self,
-        alloc: Global,
-        columns: &[Column],
-        values: &[Operand],
-        args: &[Value],
-    ) -> Result<Answer, AllocError>
-        ensures columns { self.new.columns ≡ self.old.columns }
-        ensures ok { IfOk result (λ answer. (answer, rows_of self.new.entries) ≡ inserted (is_taken columns.now (rows_of self.old.entries) (row_of args.now values.now)) (rows_of self.old.entries) (row_of args.now values.now)) }
-        ensures err { OnErr result (self.new ≡ self.old) }
-    {
-        let new = row_made(alloc, args, values)?;
-        if self.is_taken(alloc, columns, new.as_slice())? {
-            return Ok(Answer::Duplicate);
-        }
-        self.push(alloc, new)?;
-        Ok(Answer::Changed(1))
-    }
-
-    #[inline(always)]
-    fn update<L: Ledger>(
-        &mut self,
-        alloc: Global,
-        args: &[Value],
-        assignments: &[Assignment],
         conditions: &[Condition],
-        steps: &mut Steps<L>,
-    ) -> Result<Answer, AllocError>
+    ) -> Result<Option<Group>, AllocError>
+        ensures own { IfOk result (λ group. IfSome group (λ g. is_indexed self.now.columns g.column ≡ true)) }
+        ensures rows { IfOk result (λ group. IfSome group (λ g. (row : List Field) → meets_all args.now conditions.now row ≡ is_value g.value (Some (at_column row g.column)))) }
+    {
+        sole_group(alloc, &self.columns, args, conditions)
+    }
+
+    /// Takes the rows of a group away, and tells how many there were; a step is counted for each.
+    #[inline(always)]
+    pub fn remove_group<L: Ledger>(&mut self, group: &Group, steps: &mut Steps<L>) -> u64
+        requires { is_indexed self.old.columns group.now.column ≡ true }
         ensures columns { self.new.columns ≡ self.old.columns }
-        ensures answer { IfOk result (λ answer. answer ≡ Answer.Changed (length (hits args.now conditions.now (rows_of self.old.entries)))) }
-        ensures rows { OnOk result (rows_of self.new.entries ≡ updated args.now assignments.now conditions.now (rows_of self.old.entries)) }
-        ensures err { OnErr result (self.new ≡ self.old) }
+        ensures count { result ≡ length (filter (λ row. is_value group.now.value (Some (at_column row group.now.column))) (rows_of self.old.entries)) }
+        ensures rows { rows_of self.new.entries ≡ filter (λ row. not (is_value group.now.value (Some (at_column row group.now.column)))) (rows_of self.old.entries) }
     {
-        let found = self.found(alloc, args, conditions, steps)?;
-        if let Some((place, assignment)) = self.sole_setting(assignments, &found) {
-            let value = operand_of(alloc, args, &assignment.operand)?;
-            drop(found);
-            self.set(place, assignment.column, value);
-            return Ok(Answer::Changed(1));
-        }
-        let changes = replacements(alloc, args, assignments, found)?;
-        let count = changes.len() as u64;
-        self.change(alloc, changes)?;
-        Ok(Answer::Changed(count))
+        let count = remove_group(&self.columns, &mut self.rows, &mut self.slots, group);
+        steps.tick_all(count);
+        count
     }
 
+    /// No row at the places of the hits.
     #[inline(always)]
-    fn delete<L: Ledger>(
-        &mut self,
-        alloc: Global,
-        args: &[Value],
-        conditions: &[Condition],
-        steps: &mut Steps<L>,
-    ) -> Result<Answer, AllocError>
-        ensures columns { self.new.columns ≡ self.old.columns }
-        ensures answer { IfOk result (λ answer. answer ≡ Answer.Changed (length (hits args.now conditions.now (rows_of self.old.entries)))) }
-        ensures rows { OnOk result (rows_of self.new.entries ≡ misses args.now conditions.now (rows_of self.old.entries)) }
-        ensures err { OnErr result (self.new ≡ self.old) }
-    {
-        let changes = self.removals(alloc, args, conditions, steps)?;
-        let count = changes.len() as u64;
-        self.change(alloc, changes)?;
-        Ok(Answer::Changed(count))
-    }
-
-    // Whether the KEY value of the new row is in a row already.
-    #[inline(always)]
-    fn is_taken(&self, alloc: Global, columns: &[Column], new: &[Value]) -> Result<bool, AllocError>
-        ensures { IfOk result (λ b. b ≡ is_taken columns.now (rows_of self.now.entries) new.now) }
-    {
-        match key_column(columns) {
-            None => Ok(false),
-            Some(key) => self.has_value(alloc, key, new),
-        }
-    }
-
-    // Whether a row has the value of another one in this column.
-    #[inline(always)]
-    fn has_value(&self, alloc: Global, column: usize, new: &[Value]) -> Result<bool, AllocError>
-        ensures { IfOk result (λ b. b ≡ list_any (λ row. value_eq (at_column row column) (at_column new.now column)) (rows_of self.now.entries)) }
-    {
-        let other = Value::Int(0);
-        let value = at(new, column, &other);
-        match own_column(&self.columns, column) {
-            None => Ok(any_has(self.rows.stands(), column, value, &other)),
-            Some(own) => self.has_indexed(alloc, own, value),
-        }
-    }
-
-    // Whether a row has the value in a column that has an index.
-    #[inline(always)]
-    fn has_indexed(&self, alloc: Global, own: u8, value: &Value) -> Result<bool, AllocError>
-        requires { is_indexed self.now.columns own ≡ true }
-        ensures { IfOk result (λ b. b ≡ list_any (λ row. value_eq (at_column row own) value.now) (rows_of self.now.entries)) }
-    {
-        let has = has_at(alloc, &self.slots, own, value)?;
-        Ok(has)
-    }
-
-    // No row at the places of the hits.
-    #[inline(always)]
-    fn removals<L: Ledger>(
+    pub fn removals<L: Ledger>(
         &self,
         alloc: Global,
         args: &[Value],
@@ -335,9 +265,9 @@ impl TableRows {
         removals(alloc, found)
     }
 
-    // The place of the only hit, and the only assignment, where it is to a column without an index.
+    /// The place of the only hit, and the only assignment, where it is to a column without an index.
     #[inline(always)]
-    fn sole_setting<'a>(
+    pub fn sole_setting<'a>(
         &self,
         assignments: &'a [Assignment],
         found: &Few<Hit>,
@@ -349,9 +279,9 @@ impl TableRows {
         sole_setting(&self.columns, assignments, found)
     }
 
-    // Sets a value in the row at a place; the column has no index.
+    /// Sets a value in the row at a place; the column has no index.
     #[inline(always)]
-    fn set(&mut self, place: u64, column: u8, value: Value)
+    pub fn set(&mut self, place: u64, column: u8, value: Value)
         requires { is_indexed self.old.columns column ≡ false }
         ensures columns { self.new.columns ≡ self.old.columns }
         ensures rows { (p : ℕ) → row_at self.new.entries p ≡ (if place == p then option_map (λ row. slice_set row column value) (row_at self.old.entries p) else row_at self.old.entries p) }
@@ -361,9 +291,9 @@ impl TableRows {
         self.rows.set(place, column as usize, value);
     }
 
-    // Makes the changes, or none of them where memory is refused.
+    /// Makes the changes, or none of them where memory is refused.
     #[inline(always)]
-    fn change(&mut self, alloc: Global, changes: Few<Change>) -> Result<(), AllocError>
+    pub fn change(&mut self, alloc: Global, changes: Few<Change>) -> Result<(), AllocError>
         requires { IsStrictlySortedBy nat_cmp (map (λ ch. ch.place) (listed changes)) }
         ensures columns { self.new.columns ≡ self.old.columns }
         ensures rows { OnOk result ((p : ℕ) → row_at self.new.entries p ≡ changed (listed changes) (row_at self.old.entries p) p) }
@@ -379,17 +309,4 @@ impl TableRows {
             changes,
         )
     }
-}
-
-fn places_of(alloc: Global, hits: &[Hit]) -> Result<Vec<u64>, AllocError>
-    ensures { IfOk result (λ v. v.items ≡ map (λ h. h.place) hits.now) }
-{
-    hits.iter().map(|hit| hit.place).collect(alloc)
-}
-
-// The number of a column, where it has an index.
-fn own_column(columns: &[u8], column: usize) -> Option<u8>
-    ensures { result ≡ find (λ d. d == column) columns.now }
-{
-    columns.iter().copied().find(|own| *own as usize == column)
 }

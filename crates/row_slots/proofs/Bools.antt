@@ -44,3 +44,46 @@ grouped false a e = refl
 pub noted : (now before K A e other later : Bool) → later ≡ (A || other) → e ≡ other → now ≡ (before || e) → before ≡ (K || A) → now ≡ (K || later)
 noted now before K A e other later l s n b =
     n ∙ ap (λ (x : Bool). x || e) b ∙ ap (λ (x : Bool). (K || A) || x) s ∙ grouped K A other ∙ ap (λ (x : Bool). K || x) (sym l)
+
+-- What is taken out after a part of it came.
+pub taken_back : (now mid before part A K : Bool) → now ≡ (not A && mid) → mid ≡ before → before ≡ (part || K) → (part ≡ true → A ≡ true) → now ≡ (not A && K)
+taken_back now mid before true true K n m b more = n
+taken_back now mid before true false K n m b more = let never : ⊥ = (let all : false ≡ true = more refl in cc) in absurd never
+taken_back now mid before false A K n m b more = n ∙ ap (λ (x : Bool). not A && x) (m ∙ b)
+
+-- What comes where it is already.
+pub come_already : (e K : Bool) → (e ≡ true → K ≡ true) → K ≡ (e || K)
+come_already true K there = there refl
+come_already false K there = refl
+
+-- What goes where it isn't.
+pub gone_already : (e K : Bool) → (e ≡ true → K ≡ false) → K ≡ (not e && K)
+gone_already true K gone = gone refl
+gone_already false K gone = refl
+
+-- Of two parts either is there.
+pub or_second : (a b : Bool) → b ≡ true → (a || b) ≡ true
+or_second true b h = refl
+or_second false b h = h
+
+-- What isn't in the second part of two isn't in both.
+pub and_second : (a b : Bool) → b ≡ false → (a && b) ≡ false
+and_second true b h = h
+and_second false b h = refl
+
+-- Of two parts both are there.
+pub and_first : (a b : Bool) → (a && b) ≡ true → a ≡ true
+and_first true b h = refl
+and_first false b h = h
+
+pub and_rest : (a b : Bool) → (a && b) ≡ true → b ≡ true
+and_rest true b h = h
+and_rest false b h = let never : ⊥ = cc in absurd never
+
+pub and_both : (a b : Bool) → a ≡ true → b ≡ true → (a && b) ≡ true
+and_both a b h k = ap (λ (x : Bool). x && b) h ∙ k
+
+-- What came is taken out again.
+pub out_again : (A K : Bool) → (not A && (A || K)) ≡ (not A && K)
+out_again true K = refl
+out_again false K = refl

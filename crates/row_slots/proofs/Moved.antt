@@ -15,12 +15,12 @@ use Rattle.okws_base.specs.declared.value.Value.{Value}
 use Rattle.placed_rows.specs.Places.{merged}
 use Rattle.row_slots.specs.Order.{exact_values, values_total}
 use Rattle.row_slots.specs.Slots.{slot_cmp}
-use Rattle.row_slots.specs.Index.{is_indexed, cell, is_value}
+use Rattle.row_slots.specs.Index.{is_indexed, cell, is_value, due}
 use Rattle.row_slots.specs.Changes.{same_cell, stands, comes, goes, comes_with, goes_with, after_change, changed}
 use Rattle.row_slots.specs.declared.slot.Slot.{Slot}
 use Rattle.row_slots.specs.declared.changing.Change.{Change}
 
-equal_of : (o : Ordering) → is_eq o ≡ true → o ≡ Equal
+pub equal_of : (o : Ordering) → is_eq o ≡ true → o ≡ Equal
 equal_of Less e = let never : ⊥ = cc in absurd never
 equal_of Equal e = refl
 equal_of Greater e = let never : ⊥ = cc in absurd never
@@ -37,13 +37,13 @@ shuffled false true false = refl
 shuffled false false p = refl
 
 -- When a slot is one of a column, a value and a place.
-pub slot_is : (d p : ℕ) (x : Value) (q : Slot) → is_eq (slot_cmp (record { column = d; value = x; place = p }) q) ≡ (stands d p q && is_eq (value_cmp x q.value))
+pub slot_is : (d p : ℕ) (x : Value) (q : Slot) → is_eq (slot_cmp (record { group = record { column = d; value = x }; place = p }) q) ≡ (stands d p q && is_eq (value_cmp x q.group.value))
 slot_is d p x q =
-    sym (tied_then (ordering_then (value_cmp x q.value) (nat_cmp d q.column)) (nat_cmp p q.place))
-    ∙ ap (λ (b : Bool). b && is_eq (nat_cmp p q.place)) (sym (tied_then (value_cmp x q.value) (nat_cmp d q.column)))
-    ∙ ap (λ (b : Bool). (is_eq (value_cmp x q.value) && b) && is_eq (nat_cmp p q.place)) (unsigned_tied d q.column)
-    ∙ ap (λ (b : Bool). (is_eq (value_cmp x q.value) && (d == q.column)) && b) (unsigned_tied p q.place)
-    ∙ shuffled (is_eq (value_cmp x q.value)) (d == q.column) (p == q.place)
+    sym (tied_then (ordering_then (value_cmp x q.group.value) (nat_cmp d q.group.column)) (nat_cmp p q.place))
+    ∙ ap (λ (b : Bool). b && is_eq (nat_cmp p q.place)) (sym (tied_then (value_cmp x q.group.value) (nat_cmp d q.group.column)))
+    ∙ ap (λ (b : Bool). (is_eq (value_cmp x q.group.value) && b) && is_eq (nat_cmp p q.place)) (unsigned_tied d q.group.column)
+    ∙ ap (λ (b : Bool). (is_eq (value_cmp x q.group.value) && (d == q.group.column)) && b) (unsigned_tied p q.place)
+    ∙ shuffled (is_eq (value_cmp x q.group.value)) (d == q.group.column) (p == q.place)
 
 absorbed : (i x : Bool) → (x || (i && x)) ≡ x
 absorbed true true = refl
@@ -52,31 +52,31 @@ absorbed false true = refl
 absorbed false false = refl
 
 -- A test at the slot's own column stands for one at any of the columns.
-any_column : (Y : ℕ → Bool) (p : ℕ) (q : Slot) (columns : List ℕ) → list_any (λ (d : ℕ). stands d p q && Y d) columns ≡ (is_indexed columns q.column && ((p == q.place) && Y q.column))
+any_column : (Y : ℕ → Bool) (p : ℕ) (q : Slot) (columns : List ℕ) → list_any (λ (d : ℕ). stands d p q && Y d) columns ≡ (is_indexed columns q.group.column && ((p == q.place) && Y q.group.column))
 any_column Y p q [] = refl
-any_column Y p q (d ∷ ds) = by (d == q.column) refl (any_column Y p q ds)
+any_column Y p q (d ∷ ds) = by (d == q.group.column) refl (any_column Y p q ds)
   where
-    by : (b : Bool) → (d == q.column) ≡ b → list_any (λ (e : ℕ). stands e p q && Y e) ds ≡ (is_indexed ds q.column && ((p == q.place) && Y q.column))
-        → list_any (λ (e : ℕ). stands e p q && Y e) (d ∷ ds) ≡ (is_indexed (d ∷ ds) q.column && ((p == q.place) && Y q.column))
+    by : (b : Bool) → (d == q.group.column) ≡ b → list_any (λ (e : ℕ). stands e p q && Y e) ds ≡ (is_indexed ds q.group.column && ((p == q.place) && Y q.group.column))
+        → list_any (λ (e : ℕ). stands e p q && Y e) (d ∷ ds) ≡ (is_indexed (d ∷ ds) q.group.column && ((p == q.place) && Y q.group.column))
     by true is rest =
-        let here : ((d == q.column) && (p == q.place) && Y d) ≡ ((p == q.place) && Y q.column) = ap (λ (b : Bool). b && (p == q.place) && Y d) is ∙ ap (λ (e : ℕ). (p == q.place) && Y e) (nat_same d q.column is) in
-        let known : is_indexed (d ∷ ds) q.column ≡ true = ap (λ (b : Bool). b || is_indexed ds q.column) is in
+        let here : ((d == q.group.column) && (p == q.place) && Y d) ≡ ((p == q.place) && Y q.group.column) = ap (λ (b : Bool). b && (p == q.place) && Y d) is ∙ ap (λ (e : ℕ). (p == q.place) && Y e) (nat_same d q.group.column is) in
+        let known : is_indexed (d ∷ ds) q.group.column ≡ true = ap (λ (b : Bool). b || is_indexed ds q.group.column) is in
         ap (λ (b : Bool). b || list_any (λ (e : ℕ). stands e p q && Y e) ds) here
-        ∙ ap (λ (b : Bool). ((p == q.place) && Y q.column) || b) rest
-        ∙ absorbed (is_indexed ds q.column) ((p == q.place) && Y q.column)
-        ∙ sym (ap (λ (b : Bool). b && ((p == q.place) && Y q.column)) known)
+        ∙ ap (λ (b : Bool). ((p == q.place) && Y q.group.column) || b) rest
+        ∙ absorbed (is_indexed ds q.group.column) ((p == q.place) && Y q.group.column)
+        ∙ sym (ap (λ (b : Bool). b && ((p == q.place) && Y q.group.column)) known)
     by false is rest =
-        let here : ((d == q.column) && (p == q.place) && Y d) ≡ false = ap (λ (b : Bool). b && (p == q.place) && Y d) is in
-        let known : is_indexed (d ∷ ds) q.column ≡ is_indexed ds q.column = ap (λ (b : Bool). b || is_indexed ds q.column) is in
+        let here : ((d == q.group.column) && (p == q.place) && Y d) ≡ false = ap (λ (b : Bool). b && (p == q.place) && Y d) is in
+        let known : is_indexed (d ∷ ds) q.group.column ≡ is_indexed ds q.group.column = ap (λ (b : Bool). b || is_indexed ds q.group.column) is in
         ap (λ (b : Bool). b || list_any (λ (e : ℕ). stands e p q && Y e) ds) here
         ∙ rest
-        ∙ sym (ap (λ (b : Bool). b && ((p == q.place) && Y q.column)) known)
+        ∙ sym (ap (λ (b : Bool). b && ((p == q.place) && Y q.group.column)) known)
 
-pub comes_is : (columns : List ℕ) (p : ℕ) (o n : Option (List Value)) (q : Slot) → comes columns p o n q ≡ (is_indexed columns q.column && ((p == q.place) && (not (same_cell (cell q.column o) (cell q.column n)) && is_value q.value (cell q.column n))))
-comes_is columns p o n q = any_column (λ (d : ℕ). not (same_cell (cell d o) (cell d n)) && is_value q.value (cell d n)) p q columns
+pub comes_is : (columns : List ℕ) (p : ℕ) (o n : Option (List Value)) (q : Slot) → comes columns p o n q ≡ (is_indexed columns q.group.column && ((p == q.place) && (not (same_cell (cell q.group.column o) (cell q.group.column n)) && is_value q.group.value (cell q.group.column n))))
+comes_is columns p o n q = any_column (λ (d : ℕ). not (same_cell (cell d o) (cell d n)) && is_value q.group.value (cell d n)) p q columns
 
-pub goes_is : (columns : List ℕ) (p : ℕ) (o n : Option (List Value)) (q : Slot) → goes columns p o n q ≡ (is_indexed columns q.column && ((p == q.place) && (not (same_cell (cell q.column o) (cell q.column n)) && is_value q.value (cell q.column o))))
-goes_is columns p o n q = any_column (λ (d : ℕ). not (same_cell (cell d o) (cell d n)) && is_value q.value (cell d o)) p q columns
+pub goes_is : (columns : List ℕ) (p : ℕ) (o n : Option (List Value)) (q : Slot) → goes columns p o n q ≡ (is_indexed columns q.group.column && ((p == q.place) && (not (same_cell (cell q.group.column o) (cell q.group.column n)) && is_value q.group.value (cell q.group.column o))))
+goes_is columns p o n q = any_column (λ (d : ℕ). not (same_cell (cell d o) (cell d n)) && is_value q.group.value (cell d o)) p q columns
 
 -- ---- one change
 
@@ -102,18 +102,14 @@ alike_same v (Some x) (Some y) h k =
     let right : y ≡ v = exact_values y v (equal_of (value_cmp y v) k) in
     ap (λ (z : Value). is_eq (value_cmp z y)) left ∙ ap (λ (z : Value). is_eq (value_cmp v z)) right ∙ ap is_eq (tied_itself values_total v)
 
--- A slot is due where the row of its place has its value.
-abbrev pub due : List ℕ → Option (List Value) → Slot → Bool
-due columns o q = is_indexed columns q.column && is_value q.value (cell q.column o)
-
 at_place : (p : ℕ) (q : Slot) → p ≡ q.place → (p == q.place) ≡ true
 at_place p q at = ap (λ (n : ℕ). n == q.place) at ∙ nat_eq_equiv.refl q.place
 
-comes_here : (columns : List ℕ) (p : ℕ) (o n : Option (List Value)) (q : Slot) → p ≡ q.place → comes columns p o n q ≡ (is_indexed columns q.column && (not (same_cell (cell q.column o) (cell q.column n)) && is_value q.value (cell q.column n)))
-comes_here columns p o n q at = comes_is columns p o n q ∙ ap (λ (b : Bool). is_indexed columns q.column && (b && (not (same_cell (cell q.column o) (cell q.column n)) && is_value q.value (cell q.column n)))) (at_place p q at)
+comes_here : (columns : List ℕ) (p : ℕ) (o n : Option (List Value)) (q : Slot) → p ≡ q.place → comes columns p o n q ≡ (is_indexed columns q.group.column && (not (same_cell (cell q.group.column o) (cell q.group.column n)) && is_value q.group.value (cell q.group.column n)))
+comes_here columns p o n q at = comes_is columns p o n q ∙ ap (λ (b : Bool). is_indexed columns q.group.column && (b && (not (same_cell (cell q.group.column o) (cell q.group.column n)) && is_value q.group.value (cell q.group.column n)))) (at_place p q at)
 
-goes_here : (columns : List ℕ) (p : ℕ) (o n : Option (List Value)) (q : Slot) → p ≡ q.place → goes columns p o n q ≡ (is_indexed columns q.column && (not (same_cell (cell q.column o) (cell q.column n)) && is_value q.value (cell q.column o)))
-goes_here columns p o n q at = goes_is columns p o n q ∙ ap (λ (b : Bool). is_indexed columns q.column && (b && (not (same_cell (cell q.column o) (cell q.column n)) && is_value q.value (cell q.column o)))) (at_place p q at)
+goes_here : (columns : List ℕ) (p : ℕ) (o n : Option (List Value)) (q : Slot) → p ≡ q.place → goes columns p o n q ≡ (is_indexed columns q.group.column && (not (same_cell (cell q.group.column o) (cell q.group.column n)) && is_value q.group.value (cell q.group.column o)))
+goes_here columns p o n q at = goes_is columns p o n q ∙ ap (λ (b : Bool). is_indexed columns q.group.column && (b && (not (same_cell (cell q.group.column o) (cell q.group.column n)) && is_value q.group.value (cell q.group.column o)))) (at_place p q at)
 
 nothing_at : (b : Bool) → (b && false) ≡ false
 nothing_at true = refl
@@ -123,25 +119,25 @@ none_comes : (columns : List ℕ) (o : Option (List Value)) (ch : Change) (q : S
 none_comes columns None ch q apart = refl
 none_comes columns (Some o) ch q apart =
     comes_is columns ch.place (Some o) ch.row q
-    ∙ ap (λ (b : Bool). is_indexed columns q.column && (b && (not (same_cell (cell q.column (Some o)) (cell q.column ch.row)) && is_value q.value (cell q.column ch.row)))) apart
-    ∙ nothing_at (is_indexed columns q.column)
+    ∙ ap (λ (b : Bool). is_indexed columns q.group.column && (b && (not (same_cell (cell q.group.column (Some o)) (cell q.group.column ch.row)) && is_value q.group.value (cell q.group.column ch.row)))) apart
+    ∙ nothing_at (is_indexed columns q.group.column)
 
 none_goes : (columns : List ℕ) (o : Option (List Value)) (ch : Change) (q : Slot) → (ch.place == q.place) ≡ false → goes_with columns o ch q ≡ false
 none_goes columns None ch q apart = refl
 none_goes columns (Some o) ch q apart =
     goes_is columns ch.place (Some o) ch.row q
-    ∙ ap (λ (b : Bool). is_indexed columns q.column && (b && (not (same_cell (cell q.column (Some o)) (cell q.column ch.row)) && is_value q.value (cell q.column (Some o))))) apart
-    ∙ nothing_at (is_indexed columns q.column)
+    ∙ ap (λ (b : Bool). is_indexed columns q.group.column && (b && (not (same_cell (cell q.group.column (Some o)) (cell q.group.column ch.row)) && is_value q.group.value (cell q.group.column (Some o))))) apart
+    ∙ nothing_at (is_indexed columns q.group.column)
 
 -- After a change the slots are those that are due.
 single : (columns : List ℕ) (o : Option (List Value)) (ch : Change) (q : Slot) → ch.place ≡ q.place → (not (goes_with columns o ch q) && (comes_with columns o ch q || due columns o q)) ≡ due columns (merged o ch.row) q
 single columns None ch q at = refl
 single columns (Some o) ch q at =
     ap (λ (b : Bool). not b && (comes columns ch.place (Some o) ch.row q || due columns (Some o) q)) (goes_here columns ch.place (Some o) ch.row q at)
-    ∙ ap (λ (b : Bool). not (is_indexed columns q.column && (not (same_cell (cell q.column (Some o)) (cell q.column ch.row)) && is_value q.value (cell q.column (Some o)))) && (b || due columns (Some o) q)) (comes_here columns ch.place (Some o) ch.row q at)
-    ∙ moved (is_indexed columns q.column) (same_cell (cell q.column (Some o)) (cell q.column ch.row)) (is_value q.value (cell q.column (Some o))) (is_value q.value (cell q.column ch.row))
-    (same_alike q.value (cell q.column (Some o)) (cell q.column ch.row))
-    (alike_same q.value (cell q.column (Some o)) (cell q.column ch.row))
+    ∙ ap (λ (b : Bool). not (is_indexed columns q.group.column && (not (same_cell (cell q.group.column (Some o)) (cell q.group.column ch.row)) && is_value q.group.value (cell q.group.column (Some o)))) && (b || due columns (Some o) q)) (comes_here columns ch.place (Some o) ch.row q at)
+    ∙ moved (is_indexed columns q.group.column) (same_cell (cell q.group.column (Some o)) (cell q.group.column ch.row)) (is_value q.group.value (cell q.group.column (Some o))) (is_value q.group.value (cell q.group.column ch.row))
+    (same_alike q.group.value (cell q.group.column (Some o)) (cell q.group.column ch.row))
+    (alike_same q.group.value (cell q.group.column (Some o)) (cell q.group.column ch.row))
 
 -- ---- changes in turn
 
@@ -218,9 +214,9 @@ exact_after columns at (ch ∷ L) q up = by (ch.place == q.place) refl (exact_af
 fresh_here : (columns : List ℕ) (o : Option (List Value)) (ch : Change) (q : Slot) → ch.place ≡ q.place → comes_with columns o ch q ≡ true → due columns o q ≡ false
 fresh_here columns None ch q at h = let never : ⊥ = cc in absurd never
 fresh_here columns (Some o) ch q at h =
-    by (is_indexed columns q.column) (same_cell (cell q.column (Some o)) (cell q.column ch.row)) (is_value q.value (cell q.column (Some o))) (is_value q.value (cell q.column ch.row))
+    by (is_indexed columns q.group.column) (same_cell (cell q.group.column (Some o)) (cell q.group.column ch.row)) (is_value q.group.value (cell q.group.column (Some o))) (is_value q.group.value (cell q.group.column ch.row))
     (sym (comes_here columns ch.place (Some o) ch.row q at) ∙ h)
-    (alike_same q.value (cell q.column (Some o)) (cell q.column ch.row))
+    (alike_same q.group.value (cell q.group.column (Some o)) (cell q.group.column ch.row))
   where
     by : (i s a b : Bool) → (i && (not s && b)) ≡ true → (a ≡ true → b ≡ true → s ≡ true) → (i && a) ≡ false
     by false s a b h alike = refl
@@ -278,15 +274,15 @@ fresh_one columns at ch q h = by (ch.place == q.place) refl
 
 -- ---- a new row
 
-nobody_due : (columns : List ℕ) (o : Option (List Value)) (q : Slot) → o ≡ None → due columns o q ≡ false
-nobody_due columns o q none = ap (λ (w : Option (List Value)). due columns w q) none ∙ nothing_at (is_indexed columns q.column)
+pub nobody_due : (columns : List ℕ) (o : Option (List Value)) (q : Slot) → o ≡ None → due columns o q ≡ false
+nobody_due columns o q none = ap (λ (w : Option (List Value)). due columns w q) none ∙ nothing_at (is_indexed columns q.group.column)
 
-comes_new : (columns : List ℕ) (p : ℕ) (row : List Value) (q : Slot) (b : Bool) → (p == q.place) ≡ b → comes columns p None (Some row) q ≡ (b && due columns (Some row) q)
+pub comes_new : (columns : List ℕ) (p : ℕ) (row : List Value) (q : Slot) (b : Bool) → (p == q.place) ≡ b → comes columns p None (Some row) q ≡ (b && due columns (Some row) q)
 comes_new columns p row q true is = comes_here columns p None (Some row) q (nat_same p q.place is)
 comes_new columns p row q false is =
     comes_is columns p None (Some row) q
-    ∙ ap (λ (b : Bool). is_indexed columns q.column && (b && is_value q.value (cell q.column (Some row)))) is
-    ∙ nothing_at (is_indexed columns q.column)
+    ∙ ap (λ (b : Bool). is_indexed columns q.group.column && (b && is_value q.group.value (cell q.group.column (Some row)))) is
+    ∙ nothing_at (is_indexed columns q.group.column)
 
 -- A slot that comes with a new row is not due before.
 pub fresh_new : (columns : List ℕ) (at : ℕ → Option (List Value)) (p : ℕ) (row : List Value) (q : Slot) → at p ≡ None → comes columns p None (Some row) q ≡ true → due columns (at q.place) q ≡ false
@@ -328,7 +324,7 @@ exact_gone columns at p row q stood = by (p == q.place) refl
         ap (λ (b : Bool). not b && due columns (at q.place) q) (comes_new columns p row q true is)
         ∙ ap (λ (o : Option (List Value)). not (due columns (Some row) q) && due columns o q) here
         ∙ left_out (due columns (Some row) q)
-        ∙ sym (nothing_at (is_indexed columns q.column))
+        ∙ sym (nothing_at (is_indexed columns q.group.column))
         ∙ sym (ap (λ (o : Option (List Value)). due columns (merged o None) q) here)
         ∙ sym (ap (λ (b : Bool). due columns (if b then merged (at q.place) None else at q.place) q) is)
     by false is =

@@ -1,5 +1,6 @@
 -- A value that is moved out of its row and back.
-use Rattle.std.proofs.Common.{◌≡◌, refl, ap, ℕ, zero, suc, List, [], ◌∷◌}
+use Rattle.std.proofs.Common.{◌≡◌, ◌∙◌, refl, ap, sym, ℕ, zero, suc, List, [], ◌∷◌, ◌++◌, take, length}
+use Rattle.std.proofs.Math.Seq.{take-append_seam}
 use Rattle.std.specs.Prelude.{slice_set}
 use Rattle.okws_base.specs.declared.value.Value.{Value}
 use Rattle.okws_plan.specs.Meaning.{at_column, nothing}
@@ -9,3 +10,7 @@ pub undisturbed : (values : List Value) (i : ℕ) → slice_set (slice_set value
 undisturbed [] i = refl
 undisturbed (v ∷ vs) zero = refl
 undisturbed (v ∷ vs) (suc i) = ap (λ (more : List Value). v ∷ more) (undisturbed vs i)
+
+-- A list that fills the room is all that is there.
+pub taken_whole : {A : Type 0} (n : ℕ) (xs ys : List A) → length xs ≡ n → take n (xs ++ ys) ≡ xs
+taken_whole n xs ys full = ap (λ (k : ℕ). take k (xs ++ ys)) (sym full) ∙ take-append_seam xs ys

@@ -18,19 +18,28 @@ same_cell (Some x) (Some y) = is_eq (value_cmp x y)
 
 -- A slot is of this column and this place.
 abbrev pub stands : ℕ → ℕ → Slot → Bool
-stands d p q = (d == q.column) && (p == q.place)
+stands d p q = (d == q.group.column) && (p == q.place)
 
 -- Where a column at a place changes from a to another value b, the slot of b comes.
 abbrev pub arrives : ℕ → ℕ → Option Value → Option Value → Slot → Bool
-arrives d p a b q = stands d p q && (not (same_cell a b) && is_value q.value b)
+arrives d p a b q = stands d p q && (not (same_cell a b) && is_value q.group.value b)
 
 -- And that of a goes.
 abbrev pub departs : ℕ → ℕ → Option Value → Option Value → Slot → Bool
-departs d p a b q = stands d p q && (not (same_cell a b) && is_value q.value a)
+departs d p a b q = stands d p q && (not (same_cell a b) && is_value q.group.value a)
 
 -- A slot comes where the row at a place changes from o to n.
 abbrev pub comes : List ℕ → ℕ → Option (List Value) → Option (List Value) → Slot → Bool
 comes columns p o n q = list_any (λ (d : ℕ). arrives d p (cell d o) (cell d n) q) columns
+
+-- The column is the one named, if one is.
+abbrev pub is_key : Option ℕ → ℕ → Bool
+is_key None c = false
+is_key (Some key) c = key == c
+
+-- A slot is that of a row at a place for the column named, if one is.
+abbrev pub comes_at : Option ℕ → ℕ → List Value → Slot → Bool
+comes_at key p row q = is_key key q.group.column && ((p == q.place) && is_value q.group.value (cell q.group.column (Some row)))
 
 -- A slot goes where the row at a place changes from o to n.
 abbrev pub goes : List ℕ → ℕ → Option (List Value) → Option (List Value) → Slot → Bool
@@ -66,3 +75,7 @@ row_or entries p = or_empty (row_at entries p)
 -- A change for each entry: at its place is to stand what is made of its row.
 abbrev pub changes_to : (List Value → Option (List Value)) → List (ℕ × List Value) → List Change
 changes_to make entries = map {B = Change} (λ (e : ℕ × List Value). record { place = e.0; row = make e.1 }) entries
+
+-- No row at each of these places.
+abbrev pub removals_at : List ℕ → List Change
+removals_at places = map {B = Change} (λ (p : ℕ). record { place = p; row = None }) places

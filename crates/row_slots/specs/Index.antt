@@ -1,14 +1,16 @@
 -- What an index of rows is.
-use Rattle.std.specs.Prelude.{◌≡◌, ℕ, Bool, false, ◌&&◌, ◌==◌, List, Option, Some, None}
+use Rattle.std.specs.Prelude.{◌≡◌, ℕ, Bool, false, not, ◌&&◌, ◌==◌, List, Option, Some, None}
 use Rattle.std.specs.List.{list_any}
 use Rattle.std.specs.Ordering.{is_eq}
-use Rattle.std.specs.BTreeSet.{BTreeSet, contains}
 use Rattle.okws_base.specs.Value.{value_cmp}
 use Rattle.okws_base.specs.declared.value.Value.{Value}
 use Rattle.okws_plan.specs.Meaning.{at_column}
 use Rattle.placed_rows.specs.Places.{row_at}
-use Rattle.row_slots.specs.Slots.{slot_cmp}
+use Rattle.row_slots.specs.Slots.{holds}
+use Rattle.row_slots.specs.Groups.{group_cmp}
+use Rattle.row_slots.specs.declared.slot.Group.{Group}
 use Rattle.row_slots.specs.declared.slot.Slot.{Slot}
+use Rattle.row_slots.specs.declared.slots.Slots.{Slots}
 
 -- A column has an index.
 abbrev pub is_indexed : List ℕ → ℕ → Bool
@@ -24,6 +26,14 @@ abbrev pub is_value : Value → Option Value → Bool
 is_value v None = false
 is_value v (Some x) = is_eq (value_cmp x v)
 
+-- A slot is due where its column has an index and the row of its place has its value there.
+abbrev pub due : List ℕ → Option (List Value) → Slot → Bool
+due columns o q = is_indexed columns q.group.column && is_value q.group.value (cell q.group.column o)
+
 -- The slots are an index of the rows by these columns: there is a slot for a column, a value and a place exactly where the column has an index and the row of that place has the value there.
-pub record IsIndex (columns : List ℕ) (rows : List (ℕ × List Value)) (slots : BTreeSet Slot) : Type 0 where
-  pub exact : (q : Slot) → contains slot_cmp slots q ≡ (is_indexed columns q.column && is_value q.value (cell q.column (row_at rows q.place)))
+pub record IsIndex (columns : List ℕ) (rows : List (ℕ × List Value)) (slots : Slots) : Type 0 where
+  pub exact : (q : Slot) → holds slots q ≡ due columns (row_at rows q.place) q
+
+-- The slots are an index of the rows, but that none of this group are there.
+pub record IsIndexBut (g : Group) (columns : List ℕ) (rows : List (ℕ × List Value)) (slots : Slots) : Type 0 where
+  pub exact : (q : Slot) → holds slots q ≡ (not (is_eq (group_cmp g q.group)) && due columns (row_at rows q.place) q)

@@ -1,3 +1,5 @@
+pub mod Groups
+pub mod Places
 pub mod Slots
 pub mod Few
 pub mod Order

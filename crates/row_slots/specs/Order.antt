@@ -1,4 +1,4 @@
--- The order of values and that of slots are total, and tell all of them apart.
+-- The order of values and that of groups are total, and tell all of them apart.
 use Rattle.std.proofs.Common.{◌≡◌, refl, ap}
 use Rattle.std.specs.Cmp.{IsTotalOrder, nat_cmp_total, int_cmp_total, on_total, then_total}
 use Rattle.std.specs.Cmp.Lexicographic.{nat_list_cmp_total}
@@ -9,8 +9,8 @@ use Rattle.std.proofs.lemmas.Map.Lookups.{CmpEqualImpliesEq, exact_signed, exact
 use Rattle.okws_base.specs.Value.{value_cmp}
 use Rattle.okws_base.specs.declared.value.Value.{Value}
 use Rattle.okws_base.specs.declared.value.Value.TheVariants.{Int, Text, Bytes}
-use Rattle.row_slots.specs.Slots.{slot_cmp}
-use Rattle.row_slots.specs.declared.slot.Slot.{Slot}
+use Rattle.row_slots.specs.Groups.{group_cmp}
+use Rattle.row_slots.specs.declared.slot.Group.{Group}
 
 up : Less ≡ Equal → ⊥
 up e = true≢false (ap is_lt e)
@@ -66,9 +66,6 @@ exact_values (Bytes a) (Bytes b) h = ap Bytes (exact_bytes a b h)
 pub values_total : IsTotalOrder value_cmp
 values_total = record { antisymm = antisymm; trans = trans; congr = λ x y z h. ap (λ (v : Value). value_cmp v z) (exact_values x y h) }
 
--- Slots are in a total order.
-pub slots_total : IsTotalOrder slot_cmp
-slots_total =
-    then_total
-    (then_total (on_total (λ (s : Slot). s.value) values_total) (on_total (λ (s : Slot). s.column) nat_cmp_total))
-    (on_total (λ (s : Slot). s.place) nat_cmp_total)
+-- Groups are in a total order.
+pub groups_total : IsTotalOrder group_cmp
+groups_total = then_total (on_total (λ (g : Group). g.value) values_total) (on_total (λ (g : Group). g.column) nat_cmp_total)

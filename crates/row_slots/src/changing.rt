@@ -1,6 +1,6 @@
 //! Changes of rows at their places, and the slots that come and go with them.
 
-ghost use Rattle.std.specs.Prelude.{◌≡◌, ◌≤◌, ◌||◌, ◌&&◌, ℕ, [], ◌∷◌, ◌++◌, false, IfOk, OnOk, OnErr, map, ◌==◌, None, Some};
+ghost use Rattle.std.specs.Prelude.{◌≡◌, ◌||◌, ◌&&◌, ℕ, [], IfOk, OnOk, OnErr, map, None};
 ghost use Rattle.std.specs.Option.{option_copied};
 ghost use Rattle.std.specs.List.{list_any};
 ghost use Rattle.std.specs.List.Sorted.{IsStrictlySortedBy};
@@ -14,16 +14,16 @@ ghost use Rattle.row_slots.specs.Changes.{same_cell, stands, arrives, departs, c
 ghost use Rattle.row_slots.specs.Few.{listed};
 ghost use Rattle.row_slots.specs.declared.slot.Slot.{Slot};
 
-use crate::cells::{at, put_row, take_row};
+use crate::cells::at;
 use crate::few::Few;
+use crate::removing::remove;
 use crate::slot::Slot;
-use crate::slots::{put_all, take_all};
+use crate::slots::{Slots, group_of};
 use okws_base::items::Exact;
 use okws_base::value::{Row, Value};
 use placed_rows::PlacedRows;
 use std::alloc::{AllocError, Global};
 use std::cmp::Ordering;
-use std::collections::BTreeSet;
 
 /// What is to stand at a place that has a row: another row, or none.
 #[derive(Drop)]
@@ -70,14 +70,11 @@ fn push_slot(
     place: u64,
     value: Option<&Value>,
 ) -> Result<(), AllocError>
-    ensures { OnOk result ((q : Slot) → has_slot slots.new.items q ≡ (has_slot slots.old.items q || (stands column place q && is_value q.value (option_copied value.entry)))) }
+    ensures { OnOk result ((q : Slot) → has_slot slots.new.items q ≡ (has_slot slots.old.items q || (stands column place q && is_value q.group.value (option_copied value.entry)))) }
 {
     if let Some(value) = value {
-        slots.push(Slot {
-            column,
-            value: value.copy(alloc)?,
-            place,
-        })?;
+        let group = group_of(alloc, column, value)?;
+        slots.push(Slot { group, place })?;
     }
     Ok(())
 }
@@ -187,7 +184,7 @@ pub fn apply(
     alloc: Global,
     columns: &[u8],
     rows: &mut PlacedRows,
-    slots: &mut BTreeSet<Slot>,
+    slots: &mut Slots,
     changes: Few<Change>,
 ) -> Result<(), AllocError>
     requires index { IsIndex columns.now rows.old.entries slots.old }
@@ -212,7 +209,7 @@ fn apply_sole(
     alloc: Global,
     columns: &[u8],
     rows: &mut PlacedRows,
-    slots: &mut BTreeSet<Slot>,
+    slots: &mut Slots,
     change: Change,
 ) -> Result<(), AllocError>
     requires index { IsIndex columns.now rows.old.entries slots.old }
@@ -236,30 +233,13 @@ fn apply_sole(
     }
 }
 
-// Takes the row of a place away, and its slots.
-#[inline(always)]
-fn remove(columns: &[u8], rows: &mut PlacedRows, slots: &mut BTreeSet<Slot>, place: u64)
-    requires index { IsIndex columns.now rows.old.entries slots.old }
-    ensures index { IsIndex columns.now rows.new.entries slots.new }
-    ensures rows { (p : ℕ) → row_at rows.new.entries p ≡ after_change p (row_at rows.old.entries p) (record { place = place; row = None }) }
-    ensures none { (p : ℕ) → row_at rows.old.entries p ≡ None → row_at rows.new.entries p ≡ None }
-    ensures rising { IsStrictlySortedBy nat_cmp (keys_of rows.old.entries) → IsStrictlySortedBy nat_cmp (keys_of rows.new.entries) }
-    ensures next { rows.new.next ≡ rows.old.next }
-{
-    match rows.put(place, None) {
-        None => {}
-        Some(row) => take_row(slots, columns, place, row),
-    }
-    rows.tidy();
-}
-
 // Makes one change.
 #[inline(never)]
 fn replace(
     alloc: Global,
     columns: &[u8],
     rows: &mut PlacedRows,
-    slots: &mut BTreeSet<Slot>,
+    slots: &mut Slots,
     change: Change,
 ) -> Result<(), AllocError>
     requires index { IsIndex columns.now rows.old.entries slots.old }
@@ -274,8 +254,8 @@ fn replace(
     let mut moves = Moves::none(alloc);
     let old = rows.get(change.place);
     moves.note_change(alloc, columns, old, &change, &other)?;
-    put_all(alloc, slots, &moves.coming)?;
-    take_all(slots, &moves.going);
+    slots.put_all(alloc, &moves.coming)?;
+    slots.take_all(&moves.going);
     let Change { place, row } = change;
     rows.put(place, row);
     Ok(())
@@ -285,7 +265,7 @@ fn apply_all(
     alloc: Global,
     columns: &[u8],
     rows: &mut PlacedRows,
-    slots: &mut BTreeSet<Slot>,
+    slots: &mut Slots,
     changes: Vec<Change>,
 ) -> Result<(), AllocError>
     requires index { IsIndex columns.now rows.old.entries slots.old }
@@ -299,35 +279,9 @@ fn apply_all(
 {
     let other = Value::Int(0);
     let moves = moves_of(alloc, columns, rows, &changes, &other)?;
-    put_all(alloc, slots, &moves.coming)?;
-    take_all(slots, &moves.going);
+    slots.put_all(alloc, &moves.coming)?;
+    slots.take_all(&moves.going);
     carry_out(rows, changes);
-    Ok(())
-}
-
-/// Puts a row behind the others, with its slots, or neither where memory is refused.
-pub fn append(
-    alloc: Global,
-    columns: &[u8],
-    rows: &mut PlacedRows,
-    slots: &mut BTreeSet<Slot>,
-    row: Row,
-) -> Result<(), AllocError>
-    requires index { IsIndex columns.now rows.old.entries slots.old }
-    requires free { row_at rows.old.entries rows.old.next ≡ None }
-    requires rising { IsStrictlySortedBy nat_cmp (keys_of rows.old.entries) }
-    ensures index { IsIndex columns.now rows.new.entries slots.new }
-    ensures entries { OnOk result (rows.new.entries ≡ rows.old.entries ++ (rows.old.next, row) ∷ []) }
-    ensures err { OnErr result (rows.new ≡ rows.old) }
-    ensures rising { IsStrictlySortedBy nat_cmp (keys_of rows.new.entries) }
-    ensures free { OnOk result ((p : ℕ) → rows.new.next ≤ p → row_at rows.new.entries p ≡ None) }
-{
-    let place = rows.next();
-    let row = put_row(alloc, slots, columns, place, row)?;
-    if let Err(row) = rows.push(row) {
-        take_row(slots, columns, place, row);
-        return Err(AllocError);
-    }
     Ok(())
 }
 

@@ -2,14 +2,19 @@
 //! behind the others, changed and taken away with their slots, so that these stay an index of the rows.
 #![tactic(auto)]
 
+mod appending;
 mod cells;
 mod changing;
 mod few;
+mod places;
+mod removing;
 mod slot;
 mod slots;
 
+pub use appending::{append, append_new};
 pub use cells::at;
-pub use changing::{Change, append, apply};
+pub use changing::{Change, apply};
 pub use few::Few;
-pub use slot::Slot;
-pub use slots::{has_at, places_at};
+pub use removing::remove_group;
+pub use slot::{Group, Slot};
+pub use slots::{Slots, group_of};

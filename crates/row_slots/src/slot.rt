@@ -1,19 +1,25 @@
-//! The slots of an index.
+//! The slots of an index, and the groups that they are kept by.
 
 ghost use Rattle.std.specs.Prelude.{◌≡◌, IfOk};
 ghost use Rattle.okws_base.specs.Value.{value_cmp};
-ghost use Rattle.row_slots.specs.Slots.{slot_cmp, is_of};
+ghost use Rattle.row_slots.specs.Groups.{group_cmp};
 
 use okws_base::items::Exact;
 use okws_base::value::Value;
 use std::alloc::{AllocError, Global};
 use std::cmp::Ordering;
 
+/// A value in a column: what the slots of the rows that have it there have in common.
+#[derive(Drop)]
+pub struct Group {
+    pub column: u8,
+    pub value: Value,
+}
+
 /// A value in a column, and the place of a row that has it there.
 #[derive(Drop)]
 pub struct Slot {
-    pub column: u8,
-    pub value: Value,
+    pub group: Group,
     pub place: u64,
 }
 
@@ -31,48 +37,36 @@ fn ordered(a: &Value, b: &Value) -> Ordering
     }
 }
 
-impl Slot {
-    /// Whether the slot is of this column and this value.
+impl Group {
+    // By value, then by column.
     #[inline(always)]
-    pub fn is_of(&self, column: u8, value: &Value) -> bool
-        ensures { result ≡ is_of column value.now self.now }
-    {
-        ordered(value, &self.value) == Ordering::Equal && column == self.column
-    }
-
-    // By value, then by column, then by place.
-    #[inline(always)]
-    fn compare(&self, other: &Slot) -> Ordering
-        ensures { result ≡ slot_cmp self.now other.now }
+    fn compare(&self, other: &Group) -> Ordering
+        ensures { result ≡ group_cmp self.now other.now }
     {
         match ordered(&self.value, &other.value) {
-            Ordering::Equal => match self.column.cmp(&other.column) {
-                Ordering::Equal => self.place.cmp(&other.place),
-                by_column => by_column,
-            },
+            Ordering::Equal => self.column.cmp(&other.column),
             by_value => by_value,
         }
     }
 }
 
-impl Exact for Slot {
-    fn copy(&self, alloc: Global) -> Result<Slot, AllocError> {
-        Ok(Slot {
+impl Exact for Group {
+    fn copy(&self, alloc: Global) -> Result<Group, AllocError> {
+        Ok(Group {
             column: self.column,
             value: self.value.copy(alloc)?,
-            place: self.place,
         })
     }
 }
 
-impl Ord for Slot {
-    ghost use Rattle.row_slots.specs.Slots.{slot_cmp};
-    ghost use Rattle.row_slots.specs.Order.{slots_total};
+impl Ord for Group {
+    ghost use Rattle.row_slots.specs.Groups.{group_cmp};
+    ghost use Rattle.row_slots.specs.Order.{groups_total};
     ghost use Rattle.std.proofs.Common.{refl};
 
-    ghost cmp = { slot_cmp };
+    ghost cmp = { group_cmp };
 
-    ghost total = { slots_total };
+    ghost total = { groups_total };
 
     ghost matches_partial_cmp = { λ _ _. refl };
 
@@ -80,7 +74,7 @@ impl Ord for Slot {
 
     // Two INTs that differ are told apart at once, since most comparisons are of such.
     #[inline(always)]
-    fn cmp(&self, other: &Slot) -> Ordering {
+    fn cmp(&self, other: &Group) -> Ordering {
         if let Value::Int(x) = &self.value {
             if let Value::Int(y) = &other.value {
                 if *x != *y {
@@ -92,39 +86,39 @@ impl Ord for Slot {
     }
 }
 
-impl PartialOrd for Slot {
-    ghost use Rattle.row_slots.specs.Slots.{slot_cmp};
-    ghost use Rattle.row_slots.specs.Order.{slots_total};
+impl PartialOrd for Group {
+    ghost use Rattle.row_slots.specs.Groups.{group_cmp};
+    ghost use Rattle.row_slots.specs.Order.{groups_total};
     ghost use Rattle.std.specs.Ordering.{as_partial_cmp};
     ghost use Rattle.std.specs.Cmp.{partial_order_from_total};
 
-    ghost partial_cmp = { as_partial_cmp slot_cmp };
+    ghost partial_cmp = { as_partial_cmp group_cmp };
 
-    ghost laws = { partial_order_from_total slots_total };
+    ghost laws = { partial_order_from_total groups_total };
 
-    fn partial_cmp(&self, other: &Slot) -> Option<Ordering> {
+    fn partial_cmp(&self, other: &Group) -> Option<Ordering> {
         Some(self.cmp(other))
     }
 }
 
-impl PartialEq for Slot {
-    ghost use Rattle.row_slots.specs.Slots.{slot_cmp};
-    ghost use Rattle.row_slots.specs.Order.{slots_total};
+impl PartialEq for Group {
+    ghost use Rattle.row_slots.specs.Groups.{group_cmp};
+    ghost use Rattle.row_slots.specs.Order.{groups_total};
     ghost use Rattle.std.specs.Ordering.{eq_by_cmp};
     ghost use Rattle.std.specs.Cmp.{eq_by_cmp_equiv, partial_equiv_from_equiv};
 
-    ghost eq = { eq_by_cmp slot_cmp };
+    ghost eq = { eq_by_cmp group_cmp };
 
-    ghost laws = { partial_equiv_from_equiv (eq_by_cmp_equiv slots_total) };
+    ghost laws = { partial_equiv_from_equiv (eq_by_cmp_equiv groups_total) };
 
-    fn eq(&self, other: &Slot) -> bool {
+    fn eq(&self, other: &Group) -> bool {
         self.cmp(other) == Ordering::Equal
     }
 }
 
-impl Eq for Slot {
-    ghost use Rattle.row_slots.specs.Order.{slots_total};
+impl Eq for Group {
+    ghost use Rattle.row_slots.specs.Order.{groups_total};
     ghost use Rattle.std.specs.Cmp.{eq_by_cmp_equiv};
 
-    ghost laws = { eq_by_cmp_equiv slots_total };
+    ghost laws = { eq_by_cmp_equiv groups_total };
 }

@@ -1,165 +1,188 @@
-//! Sets of slots: putting slots in, taking them out, and what stands at a value.
+//! Sets of slots: putting slots in, taking them out, and the places in those of a group.
 
-ghost use Rattle.std.specs.Prelude.{◌≡◌, ◌||◌, ◌&&◌, not, true, false, IfOk, IfSome, OnOk, OnErr, take, map, length, ◌==◌};
-ghost use Rattle.std.specs.List.{take_while};
-ghost use Rattle.std.specs.declared.ops.Bound.TheVariants.{Included, Unbounded};
-ghost use Rattle.std.specs.Ordering.{is_eq};
-ghost use Rattle.std.specs.BTreeSet.{contains, keys_between, IsOrdered};
-ghost use Rattle.row_slots.specs.Few.{if_any, listed};
-ghost use Rattle.row_slots.specs.Slots.{slot_cmp, has_slot, is_of, any_first, first_place, behind_first, places_in};
+ghost use Rattle.std.specs.Prelude.{◌≡◌, ◌||◌, ◌&&◌, not, true, false, IfOk, OnOk, OnErr, IsSome, length, ◌==◌, if◌then◌else◌};
+ghost use Rattle.std.specs.Ordering.{is_eq, nat_cmp};
+ghost use Rattle.std.specs.BTreeMap.{get};
+ghost use Rattle.std.specs.List.Sorted.{IsStrictlySortedBy};
+ghost use Rattle.row_slots.specs.Few.{listed};
+ghost use Rattle.row_slots.specs.Groups.{group_cmp};
+ghost use Rattle.row_slots.specs.Places.{places_if_any, places_listed, is_among};
+ghost use Rattle.row_slots.specs.Slots.{slot_cmp, holds, has_slot, group_places, places_in};
 ghost use Rattle.row_slots.specs.declared.slot.Slot.{Slot};
 
 use crate::few::Few;
-use crate::slot::Slot;
+use crate::places::Places;
+use crate::slot::{Group, Slot};
 use okws_base::items::Exact;
 use okws_base::value::Value;
 use std::alloc::{AllocError, Global};
-use std::collections::BTreeSet;
-use std::collections::btree_set::Range;
+use std::collections::BTreeMap;
 
-/// Puts all slots in, or none where memory is refused. None of them is in the set.
-#[inline(always)]
-pub fn put_all(alloc: Global, set: &mut BTreeSet<Slot>, slots: &[Slot]) -> Result<(), AllocError>
-    requires fresh { (q : Slot) → has_slot slots.now q ≡ true → contains slot_cmp set.old q ≡ false }
-    ensures ok { OnOk result ((q : Slot) → contains slot_cmp set.new q ≡ (has_slot slots.now q || contains slot_cmp set.old q)) }
-    ensures err { OnErr result ((q : Slot) → contains slot_cmp set.new q ≡ contains slot_cmp set.old q) }
-{
-    for i in 0..slots.len() {
-        if let Err(e) = put(alloc, set, &slots[i]) {
-            take_all(set, &slots[..i]);
-            return Err(e);
+/// Slots, by their groups: one search leads to the places in all slots of a value in a column.
+#[derive(Drop)]
+pub struct Slots {
+    groups: BTreeMap<Group, Places>,
+}
+
+impl Slots {
+    /// No slots.
+    pub fn new(alloc: Global) -> Slots
+        ensures { (q : Slot) → holds result q ≡ false }
+    {
+        Slots {
+            groups: BTreeMap::new(alloc),
         }
     }
-    Ok(())
-}
 
-fn put(alloc: Global, set: &mut BTreeSet<Slot>, slot: &Slot) -> Result<(), AllocError>
-    ensures ok { OnOk result ((q : Slot) → contains slot_cmp set.new q ≡ (is_eq (slot_cmp slot.now q) || contains slot_cmp set.old q)) }
-    ensures err { OnErr result ((q : Slot) → contains slot_cmp set.new q ≡ contains slot_cmp set.old q) }
-{
-    set.insert(slot.copy(alloc)?)?;
-    Ok(())
-}
-
-/// Takes the slots out.
-#[inline(always)]
-pub fn take_all(set: &mut BTreeSet<Slot>, slots: &[Slot])
-    ensures { (q : Slot) → contains slot_cmp set.new q ≡ (not (has_slot slots.now q) && contains slot_cmp set.old q) }
-{
-    for slot in slots {
-        set.remove(slot);
+    /// Puts a slot in place of those of its group, and gives the places of these, if there were any; or leaves them as they were
+    /// where memory is refused.
+    #[inline(always)]
+    pub fn drive_out(&mut self, group: Group, place: u64) -> Result<Option<Places>, AllocError>
+        ensures old { IfOk result (λ o. places_if_any o ≡ group_places self.old group) }
+        ensures slots { OnOk result ((q : Slot) → holds self.new q ≡ (if is_eq (group_cmp group q.group) then place == q.place else holds self.old q)) }
+        ensures there { OnOk result (IsSome (get group_cmp self.new.groups group)) }
+        ensures err { OnErr result ((q : Slot) → holds self.new q ≡ holds self.old q) }
+    {
+        let old = self.groups.insert(group, Places::Sole(place))?;
+        Ok(old)
     }
-}
 
-/// The places in the slots of this column that have this value, ascending.
-#[inline(always)]
-pub fn places_at(
-    alloc: Global,
-    set: &BTreeSet<Slot>,
-    column: u8,
-    value: &Value,
-) -> Result<Few<u64>, AllocError>
-    ensures places { IfOk result (λ v. listed v ≡ places_in column value.now set.now.keys) }
-    ensures ordered { OnOk result (IsOrdered slot_cmp set.now) }
-{
-    let first = first_of(alloc, column, value)?;
-    match sole_from(set, first, column, value) {
-        Some(sole) => Ok(Few::Sole(sole)),
-        None => {
-            let first = first_of(alloc, column, value)?;
-            Ok(Few::Many(places_from(alloc, set, first, column, value)?))
+    /// Puts the places of its group back that a slot has driven out, and with them its own; or them alone where memory is refused.
+    #[inline(never)]
+    pub fn put_beside(
+        &mut self,
+        alloc: Global,
+        slot: &Slot,
+        places: Places,
+    ) -> Result<(), AllocError>
+        requires { IsSome (get group_cmp self.old.groups slot.now.group) }
+        ensures ok { OnOk result ((q : Slot) → holds self.new q ≡ (if is_eq (group_cmp slot.now.group q.group) then (slot.now.place == q.place) || is_among q.place (places_listed places) else holds self.old q)) }
+        ensures err { OnErr result ((q : Slot) → holds self.new q ≡ (if is_eq (group_cmp slot.now.group q.group) then is_among q.place (places_listed places) else holds self.old q)) }
+    {
+        let mut places = places;
+        let put = places.put(alloc, slot.place);
+        self.put_back(&slot.group, places);
+        put
+    }
+
+    /// Puts the places of its group back that a slot has driven out, if there are any, and tells whether there were none.
+    #[inline(never)]
+    pub fn give_way(&mut self, slot: &Slot, places: Places) -> bool
+        requires { IsSome (get group_cmp self.old.groups slot.now.group) }
+        ensures none { result ≡ (length (places_listed places) == 0) }
+        ensures ordered { IsStrictlySortedBy nat_cmp (places_listed places) }
+        ensures back { result ≡ false → (q : Slot) → holds self.new q ≡ (if is_eq (group_cmp slot.now.group q.group) then is_among q.place (places_listed places) else holds self.old q) }
+        ensures stays { result ≡ true → self.new ≡ self.old }
+    {
+        if places.has_any() {
+            self.put_back(&slot.group, places);
+            return false;
+        }
+        true
+    }
+
+    // Puts other places in those of a group, which is there.
+    fn put_back(&mut self, group: &Group, places: Places)
+        requires { IsSome (get group_cmp self.old.groups group.now) }
+        ensures { (q : Slot) → holds self.new q ≡ (if is_eq (group_cmp group.now q.group) then is_among q.place (places_listed places) else holds self.old q) }
+    {
+        if let Some(kept) = self.groups.get_mut(group) {
+            *kept = places;
         }
     }
-}
 
-/// Whether there is a slot of this column and this value.
-#[inline(always)]
-pub fn has_at(
-    alloc: Global,
-    set: &BTreeSet<Slot>,
-    column: u8,
-    value: &Value,
-) -> Result<bool, AllocError>
-    ensures some { IfOk result (λ b. b ≡ not (length (places_in column value.now set.now.keys) == 0)) }
-    ensures ordered { OnOk result (IsOrdered slot_cmp set.now) }
-{
-    let first = first_of(alloc, column, value)?;
-    Ok(any_from(set, first, column, value))
-}
-
-// Whether the first slot from this one on is of this column and this value.
-#[inline(always)]
-fn any_from(set: &BTreeSet<Slot>, first: Slot, column: u8, value: &Value) -> bool
-    ensures some { result ≡ any_first (is_of column value.now) (keys_between slot_cmp (Included first) Unbounded set.now) }
-    ensures ordered { IsOrdered slot_cmp set.now }
-{
-    match set.range(first..).next() {
-        None => false,
-        Some(slot) => slot.is_of(column, value),
+    /// Puts a slot in, or leaves them as they were where memory is refused.
+    pub fn put(&mut self, alloc: Global, slot: &Slot) -> Result<(), AllocError>
+        ensures ok { OnOk result ((q : Slot) → holds self.new q ≡ (is_eq (slot_cmp slot.now q) || holds self.old q)) }
+        ensures err { OnErr result ((q : Slot) → holds self.new q ≡ holds self.old q) }
+    {
+        match self.drive_out(slot.group.copy(alloc)?, slot.place)? {
+            None => Ok(()),
+            Some(places) => self.put_beside(alloc, slot, places),
+        }
     }
-}
 
-// The first slot that there may be of this column and this value.
-#[inline(always)]
-fn first_of(alloc: Global, column: u8, value: &Value) -> Result<Slot, AllocError>
-    ensures { IfOk result (λ s. s ≡ record { column = column; value = value.now; place = 0 }) }
-{
-    Ok(Slot {
-        column,
-        value: value.copy(alloc)?,
-        place: 0,
-    })
-}
-
-// The only place from this slot on, while the slots are of this column and this value, or none;
-// nothing is told where there are several.
-#[inline(always)]
-fn sole_from(set: &BTreeSet<Slot>, first: Slot, column: u8, value: &Value) -> Option<Option<u64>>
-    ensures items { IfSome result (λ sole. if_any sole ≡ map (λ s. s.place) (take_while (is_of column value.now) (keys_between slot_cmp (Included first) Unbounded set.now))) }
-    ensures ordered { IsOrdered slot_cmp set.now }
-{
-    let mut slots = set.range(first..);
-    match next_place(&mut slots, column, value) {
-        None => Some(None),
-        Some(place) => match next_place(&mut slots, column, value) {
-            None => Some(Some(place)),
-            Some(_) => None,
-        },
+    /// Takes a slot out.
+    #[inline(always)]
+    pub fn take(&mut self, slot: &Slot)
+        ensures { (q : Slot) → holds self.new q ≡ (not (is_eq (slot_cmp slot.now q)) && holds self.old q) }
+    {
+        if self.take_place(slot) {
+            self.groups.remove(&slot.group);
+        }
     }
-}
 
-// The place of the next slot, if there is one, of this column and this value.
-#[inline(always)]
-fn next_place(slots: &mut Range<Slot>, column: u8, value: &Value) -> Option<u64>
-    ensures place { result ≡ first_place (is_of column value.now) slots.old }
-    ensures rest { slots.new ≡ behind_first slots.old }
-{
-    match slots.next() {
-        None => None,
-        Some(slot) => {
-            if slot.is_of(column, value) {
-                Some(slot.place)
-            } else {
-                None
+    // Takes a place out of those of its group, and tells whether the group is to go with it.
+    #[inline(always)]
+    fn take_place(&mut self, slot: &Slot) -> bool
+        ensures left { result ≡ false → (q : Slot) → holds self.new q ≡ (not (is_eq (slot_cmp slot.now q)) && holds self.old q) }
+        ensures last { result ≡ true → (q : Slot) → (not (is_eq (group_cmp slot.now.group q.group)) && holds self.new q) ≡ (not (is_eq (slot_cmp slot.now q)) && holds self.old q) }
+    {
+        match self.groups.get_mut(&slot.group) {
+            None => false,
+            Some(places) => places.take(slot.place),
+        }
+    }
+
+    /// Takes the slots of a group out, and tells their places, if there are any.
+    #[inline(always)]
+    pub fn take_group(&mut self, group: &Group) -> Option<Places>
+        ensures places { places_if_any result ≡ group_places self.old group.now }
+        ensures slots { (q : Slot) → holds self.new q ≡ (not (is_eq (group_cmp group.now q.group)) && holds self.old q) }
+    {
+        self.groups.remove(group)
+    }
+
+    /// The places in the slots of this column that have this value, ascending.
+    #[inline(always)]
+    pub fn places_at(
+        &self,
+        alloc: Global,
+        column: u8,
+        value: &Value,
+    ) -> Result<Few<u64>, AllocError>
+        ensures places { IfOk result (λ v. listed v ≡ places_in column value.now self.now) }
+        ensures ordered { OnOk result (IsStrictlySortedBy nat_cmp (places_in column value.now self.now)) }
+    {
+        let group = group_of(alloc, column, value)?;
+        match self.groups.get(&group) {
+            None => Ok(Few::Sole(None)),
+            Some(places) => places.list(alloc),
+        }
+    }
+
+    /// Puts all slots in, or none where memory is refused. None of them is in the set.
+    pub fn put_all(&mut self, alloc: Global, slots: &[Slot]) -> Result<(), AllocError>
+        requires fresh { (q : Slot) → has_slot slots.now q ≡ true → holds self.old q ≡ false }
+        ensures ok { OnOk result ((q : Slot) → holds self.new q ≡ (has_slot slots.now q || holds self.old q)) }
+        ensures err { OnErr result ((q : Slot) → holds self.new q ≡ holds self.old q) }
+    {
+        for i in 0..slots.len() {
+            if let Err(e) = self.put(alloc, &slots[i]) {
+                self.take_all(&slots[..i]);
+                return Err(e);
             }
         }
+        Ok(())
+    }
+
+    /// Takes the slots out.
+    pub fn take_all(&mut self, slots: &[Slot])
+        ensures { (q : Slot) → holds self.new q ≡ (not (has_slot slots.now q) && holds self.old q) }
+    {
+        for slot in slots {
+            self.take(slot);
+        }
     }
 }
 
-// The places from this slot on, while the slots are of this column and this value.
-#[inline(never)]
-fn places_from(
-    alloc: Global,
-    set: &BTreeSet<Slot>,
-    first: Slot,
-    column: u8,
-    value: &Value,
-) -> Result<Vec<u64>, AllocError>
-    ensures items { IfOk result (λ v. v.items ≡ map (λ s. s.place) (take_while (is_of column value.now) (keys_between slot_cmp (Included first) Unbounded set.now))) }
-    ensures ordered { IsOrdered slot_cmp set.now }
+/// A group with a copy of the value.
+#[inline(always)]
+pub fn group_of(alloc: Global, column: u8, value: &Value) -> Result<Group, AllocError>
+    ensures { IfOk result (λ g. g ≡ record { column = column; value = value.now }) }
 {
-    set.range(first..)
-        .take_while(|slot| slot.is_of(column, value))
-        .map(|slot| slot.place)
-        .collect(alloc)
+    Ok(Group {
+        column,
+        value: value.copy(alloc)?,
+    })
 }

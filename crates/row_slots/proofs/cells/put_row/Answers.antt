@@ -1,23 +1,29 @@
-use Rattle.std.proofs.Common.{ℕ, None, Some}
-use Rattle.std.proofs.lemmas.List.Folds.{list_any_more}
-use Rattle.okws_plan.specs.Meaning.{at_column}
-use Rattle.row_slots.specs.Changes.{arrives}
+use Rattle.std.proofs.Common.{◌≡◌, ◌∙◌, ap, sym, List, rules, None, Some}
+use Rattle.std.specs.Prelude.{◌&&◌, ◌||◌, not}
+use Rattle.okws_base.specs.declared.value.Value.{Value}
+use Rattle.row_slots.specs.Slots.{holds}
+use Rattle.row_slots.specs.Changes.{comes, comes_at}
 use Rattle.row_slots.specs.declared.slot.Slot.{Slot}
-use Rattle.row_slots.proofs.Bools.{put_more, undone}
-use Rattle.row_slots.proofs.Runs.{any_in_front}
+use Rattle.row_slots.proofs.Grouped.{say_err}
 use Rattle.row_slots.proofs.cells.put_row.Goals as goal
 
-pub returns-in-Err-clause-err : goal.returns-in-Err-clause-err
-returns-in-Err-clause-err c = λ (q : Slot).
-    undone _ _ _ _ _
-    (c.take_row.ensures q)
-    (c.in-Err.ensures.err q)
-    (c.loop-i.invariant q)
-    (λ h. c.requires.fresh q (any_in_front (λ (d : ℕ). arrives d c.args.place None (Some (at_column c.args.row d)) q) c.args.columns.now c.loop-i.i h))
+pub put_cells-requires : goal.put_cells-requires
+put_cells-requires c =
+    let same : c.deref_mut.result.now ≡ c.args.row = search rules in
+    record {
+      there = λ (q : Slot) h. c.requires.there q (sym (ap (λ (row : List Value). comes_at c.args.key c.args.place row q) same) ∙ h);
+    }
 
-pub loop-i-preserved : goal.loop-i-preserved
-loop-i-preserved c = λ (q : Slot).
-    put_more _ _ _ _ _ _
-    (list_any_more (λ (d : ℕ). arrives d c.args.place None (Some (at_column c.args.row d)) q) c.args.columns.now c.loop-i.i 0 c.loop-i-test.true)
-    (c.in_default.ensures.ok q)
-    (c.loop-i.invariant q)
+pub returns-in_err-put_cells-clause-err : goal.returns-in_err-put_cells-clause-err
+returns-in_err-put_cells-clause-err c =
+    let same : c.deref_mut.result.now ≡ c.args.row = search rules in
+    say_err c.from_residual.result (λ (q : Slot).
+    c.in_err-put_cells.ensures.err q
+    ∙ ap (λ (row : List Value). not (comes c.args.columns.now c.args.place None (Some row) q) && holds c.args.slots.now q) same)
+
+pub returns-clause-ok : goal.returns-clause-ok
+returns-clause-ok c =
+    let same : c.deref_mut.result.now ≡ c.args.row = search rules in
+    λ (q : Slot).
+    c.in_ok-put_cells.ensures.ok q
+    ∙ ap (λ (row : List Value). comes c.args.columns.now c.args.place None (Some row) q || holds c.args.slots.now q) same

@@ -1,28 +1,23 @@
-use Rattle.std.proofs.Common.{◌∙◌, ap, cond, false, List}
+use Rattle.std.proofs.Common.{◌∙◌, ap, Bool, List}
 use Rattle.std.specs.Prelude.{◌&&◌, not, slice_set}
 use Rattle.std.specs.Ordering.{is_eq}
-use Rattle.std.specs.BTreeSet.{contains}
-use Rattle.okws_base.specs.Value.{value_cmp}
 use Rattle.okws_base.specs.declared.value.Value.{Value}
-use Rattle.okws_plan.specs.Meaning.{nothing}
-use Rattle.row_slots.specs.Slots.{slot_cmp}
-use Rattle.row_slots.specs.Changes.{stands}
+use Rattle.row_slots.specs.Slots.{slot_cmp, holds}
 use Rattle.row_slots.specs.declared.slot.Slot.{Slot}
-use Rattle.row_slots.proofs.Bools.{without}
+use Rattle.okws_plan.specs.Meaning.{at_column, nothing}
 use Rattle.row_slots.proofs.Moved.{slot_is}
 use Rattle.row_slots.proofs.Taken.{undisturbed}
 use Rattle.row_slots.proofs.cells.take_cell.Goals as goal
 
 pub returns-clause-values : goal.returns-clause-values
 returns-clause-values c =
-    c.move_back.ensures
-    ∙ ap (λ (values : List Value). slice_set values c.args.column c.moved_out-value.result) c.moved_out-value.ensures.rest
-    ∙ ap (slice_set (slice_set c.args.values.now c.args.column nothing) c.args.column) c.moved_out-value.ensures.value
+    c.slot_back.ensures
+    ∙ ap (λ (values : List Value). slice_set values c.slot_out-slot.result.group.column c.slot_out-slot.result.group.value) c.slot_out-slot.ensures.rest
+    ∙ ap (λ (s : Slot). slice_set (slice_set c.args.values.now c.args.column nothing) s.group.column s.group.value) c.slot_out-slot.ensures.slot
     ∙ undisturbed c.args.values.now c.args.column
 
 pub returns-clause-slots : goal.returns-clause-slots
 returns-clause-slots c = λ (q : Slot).
-    c.remove.ensures.updates.0 q
-    ∙ ap (λ b. cond b false (contains slot_cmp c.args.set.now q)) (slot_is c.args.column c.args.place c.moved_out-value.result q)
-    ∙ without (stands c.args.column c.args.place q && is_eq (value_cmp c.moved_out-value.result q.value)) (contains slot_cmp c.args.set.now q)
-    ∙ ap (λ (v : Value). not (stands c.args.column c.args.place q && is_eq (value_cmp v q.value)) && contains slot_cmp c.args.set.now q) c.moved_out-value.ensures.value
+    c.take.ensures q
+    ∙ ap (λ (s : Slot). not (is_eq (slot_cmp s q)) && holds c.args.slots.now q) c.slot_out-slot.ensures.slot
+    ∙ ap (λ (b : Bool). not b && holds c.args.slots.now q) (slot_is c.args.column c.args.place (at_column c.args.values.now c.args.column) q)

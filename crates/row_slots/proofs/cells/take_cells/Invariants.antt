@@ -1,7 +1,6 @@
 use Rattle.std.proofs.Common.{◌≡◌, take, Some, None}
 use Rattle.std.specs.Prelude.{◌&&◌, not}
-use Rattle.std.specs.BTreeSet.{contains}
-use Rattle.row_slots.specs.Slots.{slot_cmp}
+use Rattle.row_slots.specs.Slots.{holds}
 use Rattle.row_slots.specs.Changes.{comes}
 use Rattle.row_slots.specs.declared.slot.Slot.{Slot}
 use Rattle.row_slots.proofs.cells.take_cells.Given as goal
@@ -9,5 +8,5 @@ use Rattle.row_slots.proofs.cells.take_cells.Given as goal
 abbrev pub invariant-loop-column : goal.invariant-loop-column
 invariant-loop-column l = record {
   values : l.values ≡ l.initial.values;
-  slots : (q : Slot) → contains slot_cmp l.set q ≡ (not (comes (take l.column-index l.columns) l.place None (Some l.initial.values) q) && contains slot_cmp l.initial.set q);
+  slots : (q : Slot) → holds l.slots q ≡ (not (comes (take l.column-index l.columns) l.place None (Some l.initial.values) q) && holds l.initial.slots q);
 }

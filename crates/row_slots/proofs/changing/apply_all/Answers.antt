@@ -1,14 +1,14 @@
 use Rattle.std.proofs.Common.{◌≡◌, ◌∙◌, ℕ, Bool, List, Option, ap, sym}
 use Rattle.std.specs.Prelude.{◌||◌, ◌&&◌, not}
 use Rattle.std.specs.List.{list_any}
-use Rattle.std.specs.BTreeSet.{contains}
 use Rattle.okws_base.specs.declared.value.Value.{Value}
 use Rattle.placed_rows.specs.Places.{row_at}
-use Rattle.row_slots.specs.Slots.{slot_cmp, has_slot}
+use Rattle.row_slots.specs.Slots.{holds, has_slot}
+use Rattle.row_slots.specs.Index.{due}
 use Rattle.row_slots.specs.Changes.{comes_with, goes_with, changed}
 use Rattle.row_slots.specs.declared.slot.Slot.{Slot}
 use Rattle.row_slots.specs.declared.changing.Change.{Change}
-use Rattle.row_slots.proofs.Moved.{exact_after, fresh, due}
+use Rattle.row_slots.proofs.Moved.{exact_after, fresh}
 use Rattle.row_slots.proofs.Moved.{changed_none}
 use Rattle.row_slots.proofs.changing.apply_all.Goals as goal
 
@@ -35,8 +35,8 @@ returns-clause-index c = record {
       ∙ ap (list_any (λ (ch : Change). goes_with c.args.columns.now (row_at c.args.rows.now.entries ch.place) ch q)) c.deref.ensures.value in
       c.take_all.ensures q
       ∙ ap (λ (b : Bool). not (has_slot c.deref-3.result.now q) && b) (c.in_ok-put_all.ensures.ok q)
-      ∙ ap (λ (b : Bool). not b && (has_slot c.deref-2.result.now q || contains slot_cmp c.args.slots.now q)) going
-      ∙ ap (λ (b : Bool). not (list_any (λ (ch : Change). goes_with c.args.columns.now (row_at c.args.rows.now.entries ch.place) ch q) c.args.changes.items) && (b || contains slot_cmp c.args.slots.now q)) coming
+      ∙ ap (λ (b : Bool). not b && (has_slot c.deref-2.result.now q || holds c.args.slots.now q)) going
+      ∙ ap (λ (b : Bool). not (list_any (λ (ch : Change). goes_with c.args.columns.now (row_at c.args.rows.now.entries ch.place) ch q) c.args.changes.items) && (b || holds c.args.slots.now q)) coming
       ∙ ap (λ (b : Bool). not (list_any (λ (ch : Change). goes_with c.args.columns.now (row_at c.args.rows.now.entries ch.place) ch q) c.args.changes.items) && (list_any (λ (ch : Change). comes_with c.args.columns.now (row_at c.args.rows.now.entries ch.place) ch q) c.args.changes.items || b)) (c.requires.index.exact q)
       ∙ exact_after c.args.columns.now (row_at c.args.rows.now.entries) c.args.changes.items q c.requires.apart
       ∙ ap (λ (o : Option (List Value)). due c.args.columns.now o q) (sym (c.carry_out.ensures.rows q.place));

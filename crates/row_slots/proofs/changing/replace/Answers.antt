@@ -1,13 +1,13 @@
 use Rattle.std.proofs.Common.{◌≡◌, ◌∙◌, ap, sym, ℕ, Bool, List, Option}
 use Rattle.std.specs.Prelude.{◌||◌, ◌&&◌, not}
 use Rattle.std.specs.Option.{option_copied}
-use Rattle.std.specs.BTreeSet.{contains}
 use Rattle.okws_base.specs.declared.value.Value.{Value}
 use Rattle.placed_rows.specs.Places.{row_at}
-use Rattle.row_slots.specs.Slots.{slot_cmp, has_slot}
+use Rattle.row_slots.specs.Slots.{holds, has_slot}
+use Rattle.row_slots.specs.Index.{due}
 use Rattle.row_slots.specs.Changes.{comes_with, goes_with}
 use Rattle.row_slots.specs.declared.slot.Slot.{Slot}
-use Rattle.row_slots.proofs.Moved.{due, exact_one, fresh_one, none_after}
+use Rattle.row_slots.proofs.Moved.{exact_one, fresh_one, none_after}
 use Rattle.row_slots.proofs.changing.replace.Goals as goal
 
 pub put_all-requires : goal.put_all-requires
@@ -36,8 +36,8 @@ returns-clause-index c = record {
       ∙ ap (λ (o : Option (List Value)). goes_with c.args.columns.now o c.args.change q) c.get-old.ensures in
       c.take_all.ensures q
       ∙ ap (λ (b : Bool). not (has_slot c.deref-2.result.now q) && b) (c.in_ok-put_all.ensures.ok q)
-      ∙ ap (λ (b : Bool). not b && (has_slot c.deref.result.now q || contains slot_cmp c.args.slots.now q)) going
-      ∙ ap (λ (b : Bool). not (goes_with c.args.columns.now (row_at c.args.rows.now.entries c.args.change.place) c.args.change q) && (b || contains slot_cmp c.args.slots.now q)) coming
+      ∙ ap (λ (b : Bool). not b && (has_slot c.deref.result.now q || holds c.args.slots.now q)) going
+      ∙ ap (λ (b : Bool). not (goes_with c.args.columns.now (row_at c.args.rows.now.entries c.args.change.place) c.args.change q) && (b || holds c.args.slots.now q)) coming
       ∙ ap (λ (b : Bool). not (goes_with c.args.columns.now (row_at c.args.rows.now.entries c.args.change.place) c.args.change q) && (comes_with c.args.columns.now (row_at c.args.rows.now.entries c.args.change.place) c.args.change q || b)) (c.requires.index.exact q)
       ∙ exact_one c.args.columns.now (row_at c.args.rows.now.entries) c.args.change q
       ∙ ap (λ (o : Option (List Value)). due c.args.columns.now o q) (sym (c.put.ensures.rows q.place));

@@ -9,8 +9,8 @@ use std::io;
 use std::io::Read;
 use std::os::fd::{AsRawFd, RawFd};
 
-/// How often a reader looks before it sleeps.
-const LOOKS: u8 = 24;
+/// How often a reading end is looked at before its reader sleeps.
+const LOOKS: u8 = 48;
 
 /// Whether a read of the descriptor would not wait.
 fn is_ready(fd: RawFd) -> bool {
@@ -22,9 +22,9 @@ fn is_ready(fd: RawFd) -> bool {
     poll(&mut asked, 0) != 0
 }
 
-/// Looks whether something came at the descriptor, for about ten microseconds at most.
-pub fn look_for(fd: RawFd) {
-    for _ in 0..LOOKS {
+/// Looks so often at most whether something came at the descriptor.
+pub fn look_for(fd: RawFd, looks: u8) {
+    for _ in 0..looks {
         if is_ready(fd) {
             return;
         }
@@ -49,7 +49,7 @@ impl<R: Read + AsRawFd> Read for Awaited<R> {
     ghost remaining = { λ a. R.remaining a.end };
 
     fn read(&mut self, into: &mut [u8]) -> io::Result<usize> {
-        look_for(self.end.as_raw_fd());
+        look_for(self.end.as_raw_fd(), LOOKS);
         self.end.read(into)
     }
 }

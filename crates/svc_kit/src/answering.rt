@@ -10,6 +10,9 @@ use okws_outer::stream::{Link, Pull, Put, Sink, Source};
 use std::alloc::{AllocError, Global};
 use std::os::fd::RawFd;
 
+/// How often an answer is looked for before it is waited for asleep: it comes sooner than what a service says.
+const LOOKS: u8 = 24;
+
 /// What was said since bytes were taken.
 #[derive(Clone, Copy, PartialEq, Eq)]
 enum Said {
@@ -42,7 +45,7 @@ impl<L: Link> Link for Answering<L> {
 
     fn pull(&mut self, into: &mut [u8]) -> Pull {
         if self.said == Said::Other {
-            look_for(self.input);
+            look_for(self.input, LOOKS);
         }
         self.said = Said::Nothing;
         self.link.pull(into)

@@ -17,9 +17,9 @@ pub record IsNewKeeper (tables : List Table) (told : Option (List (List (List Va
   pub rows : IfSome told (λ rows. rows ≡ map (λ t. t.first) tables)
   pub faults : count ≡ 0
 
--- A keeper was made.
-abbrev pub with_made : List ℕ → ℕ → Depot → Depot
-with_made file proxy depot = record depot { made = record { file = file; proxy = proxy } ∷ depot.made }
+-- A keeper was made for a file, a proxy and its tables.
+abbrev pub with_made : List ℕ → ℕ → List Table → Depot → Depot
+with_made file proxy tables depot = record depot { made = record { file = file; proxy = proxy; tables = tables } ∷ depot.made }
 
 -- A keeper was given back.
 abbrev pub with_finished : ℕ → Option (List (List (List Value))) → ℕ → Depot → Depot

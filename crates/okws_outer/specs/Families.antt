@@ -1,5 +1,5 @@
 -- The children of a run as contracts see them.
-use Rattle.std.specs.Prelude.{◌≡◌, ℕ, List, [], ◌∷◌, Some, IfSome}
+use Rattle.std.specs.Prelude.{◌≡◌, ℕ, List, [], ◌∷◌, Some, IfSome, length}
 use Rattle.okws_outer.specs.declared.children.ChildStart.{ChildStart}
 use Rattle.okws_outer.specs.declared.children.ChildEnd.{ChildEnd}
 use Rattle.okws_outer.specs.declared.children.ChildName.{ChildName}
@@ -27,10 +27,10 @@ pub record IsNewLink (service incarnation : ℕ) (wire : Wire) : Type 0 where
   pub given : IfSome wire.given (λ given. given ≡ [])
   pub faults : wire.faults ≡ 0
 
--- A child was started with this link.
+-- A child was started with this link, after those that were finished.
 abbrev pub with_start : ℕ → ℕ → List (List ℕ) → Wire → Family → Family
 with_start service incarnation words wire family = record family {
-  started = record { service = service; incarnation = incarnation; words = words; says = wire.left } ∷ family.started;
+  started = record { service = service; incarnation = incarnation; words = words; says = wire.left; after = length family.finished } ∷ family.started;
 }
 
 -- A child that stands so was finished, with its link.

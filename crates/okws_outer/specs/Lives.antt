@@ -5,7 +5,7 @@ use Rattle.okws_outer.specs.declared.child.Ended.{Ended}
 use Rattle.okws_outer.specs.declared.child.Ended.TheVariants.{Yes, No, Failed}
 use Rattle.okws_outer.specs.Streams.{Counts, counted}
 
--- A child as contracts see it: its service and incarnation; how often it was asked whether it has ended, the last answer, and whether Yes was among the answers; how many calls failed.
+-- A child as contracts see it: its service and incarnation; how often it was asked whether it has ended, the last answer, and whether Yes was among the answers; how many calls failed; and whether it was stopped.
 pub record Life : Type 0 where
   pub service : ℕ
   pub incarnation : ℕ
@@ -13,16 +13,21 @@ pub record Life : Type 0 where
   pub last : Option Ended
   pub ended : Bool
   pub faults : ℕ
+  pub stopped : Bool
 
--- A child of which nothing was asked yet.
+-- A child of which nothing was asked yet, and which wasn't stopped.
 abbrev pub new_life : ℕ → ℕ → Life
-new_life service incarnation = record { service = service; incarnation = incarnation; asked = 0; last = None; ended = false; faults = 0 }
+new_life service incarnation = record { service = service; incarnation = incarnation; asked = 0; last = None; ended = false; faults = 0; stopped = false }
 
 -- Whether Yes was among the answers, after this one.
 abbrev pub ended_after : Ended → Bool → Bool
 ended_after Yes before = true
 ended_after No before = before
 ended_after Failed before = before
+
+-- The same child, stopped.
+abbrev pub stopped_life : Life → Life
+stopped_life life = record life { stopped = true }
 
 -- The child was asked and gave this answer.
 pub record Asks (old new : Life) (answer : Ended) : Type 0 where

@@ -1,7 +1,7 @@
 //! Children: programs that run beside the server.
 
 ghost use Rattle.std.specs.Prelude.{◌≡◌};
-ghost use Rattle.okws_outer.specs.Lives.{Life, Asks};
+ghost use Rattle.okws_outer.specs.Lives.{Life, Asks, stopped_life};
 
 /// Whether a child has ended.
 #[derive(Clone, Copy, Debug, PartialEq, Eq)]
@@ -25,5 +25,5 @@ pub trait Child {
 
     /// Stops the child, if it has not ended; never fails.
     fn stop(&mut self)
-        ensures { life self.new ≡ life self.old };
+        ensures { life self.new ≡ stopped_life (life self.old) };
 }

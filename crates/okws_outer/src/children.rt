@@ -1,6 +1,6 @@
 //! The children of a run, which are started and finished.
 
-ghost use Rattle.std.specs.Prelude.{◌≡◌, IfOk, OnErr};
+ghost use Rattle.std.specs.Prelude.{◌≡◌, IfOk, OnErr, true};
 ghost use Rattle.okws_outer.specs.Families.{Family, IsNewChild, IsNewLink, with_start, with_end};
 ghost use Rattle.okws_outer.specs.Making.{CountsMade};
 
@@ -39,6 +39,8 @@ pub struct ChildStart {
     pub words: Items<Items<u8>>,
     /// All bytes that it says, where its link told them.
     pub says: Option<Items<u8>>,
+    /// How many children had been finished when it was started.
+    pub after: usize,
 }
 
 /// What is told of a child at its end.
@@ -89,10 +91,11 @@ pub trait Children {
         ensures refused { OnErr result (family self.new ≡ record (family self.old) { faults = (family self.new).faults }) }
         ensures faults { CountsMade (family self.old).faults (family self.new).faults result };
 
-    /// Waits for a child's end, and closes its link. The child is that of this service and incarnation;
-    /// one that was not stopped may be waited for without end.
+    /// Waits for the end of a child that was stopped, and closes its link. The child is that of this
+    /// service and incarnation.
     fn finish(&mut self, service: u16, incarnation: u32, child: Self::Child, link: Self::Link)
         requires service { (Self.Child.life child).service ≡ service }
         requires incarnation { (Self.Child.life child).incarnation ≡ incarnation }
+        requires stopped { (Self.Child.life child).stopped ≡ true }
         ensures { family self.new ≡ with_end (Self.Child.life child) (Self.Link.wire link) (family self.old) };
 }

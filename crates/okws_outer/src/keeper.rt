@@ -50,6 +50,14 @@ pub trait Keeper {
     /// That no call fails.
     ghost steady: { Self → Bool };
 
+    /// That a store which the keeper has its rows beside has parted from them, for want of memory.
+    ghost parted: { Self → Bool };
+
+    /// Whether a store which the keeper has its rows beside has parted from them: memory was refused
+    /// behind a write of the store, or it answered another thing.
+    fn has_parted(&self) -> bool
+        ensures { result ≡ parted self.now };
+
     /// Runs a statement with these arguments; where it has no answer the rows are as they were, and
     /// where memory is refused the count of faults is too.
     fn run(

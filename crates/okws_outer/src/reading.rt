@@ -1,6 +1,6 @@
 //! Reads a source, or a file, whole.
 
-ghost use Rattle.std.specs.Prelude.{◌≡◌, ◌≤◌, ◌<◌, ◌+◌, ◌^◌, take, length, IfOk, IfSome, IsErrOf};
+ghost use Rattle.std.specs.Prelude.{◌≡◌, ◌≤◌, ◌<◌, ◌+◌, ◌^◌, [], ◌∷◌, take, length, IfOk, IfSome, IsErrOf};
 ghost use Rattle.okws_outer.specs.Streams.{Rose, IsFrontOf};
 ghost use Rattle.okws_outer.specs.Shelf.{Reads};
 ghost use Rattle.okws_outer.specs.declared.reading.ReadError.TheVariants.{NoMemory};
@@ -76,7 +76,7 @@ pub fn read_file<F: Files>(
 ) -> Result<Vec<u8>, ReadError>
     requires { limit < 2 ^ 32 }
     ensures bytes { IfOk result (λ bytes. IsFrontOf ((F.shelf files.old).held path.now) (limit + 1) bytes.items) }
-    ensures shelf { Reads (F.shelf files.old) (F.shelf files.new) 1 (IsErrOf result ReadError.Failed) }
+    ensures shelf { Reads (F.shelf files.old) (F.shelf files.new) (path.now ∷ []) (IsErrOf result ReadError.Failed) }
 {
     let mut file = files.open(path);
     let read = read_whole(alloc, &mut file, limit);

@@ -18,6 +18,8 @@ pub struct KeeperStart {
     pub file: Items<u8>,
     /// The proxy, by its number.
     pub proxy: u16,
+    /// The tables, with their first rows.
+    pub tables: Items<Table>,
 }
 
 /// What is told of a keeper that was given back.
@@ -51,7 +53,7 @@ pub trait Stores {
     ) -> Result<Self::Keeper, MakeError>
         ensures tables { IfOk result (λ k. Self.Keeper.tables k ≡ tables.now) }
         ensures keeper { IfOk result (λ k. IsNewKeeper tables.now (Self.Keeper.told k) (Self.Keeper.faults k)) }
-        ensures made { IfOk result (λ k. depot self.new ≡ with_made file.now proxy (depot self.old)) }
+        ensures made { IfOk result (λ k. depot self.new ≡ with_made file.now proxy tables.now (depot self.old)) }
         ensures refused { OnErr result (depot self.new ≡ record (depot self.old) { faults = (depot self.new).faults }) }
         ensures faults { CountsMade (depot self.old).faults (depot self.new).faults result };
 

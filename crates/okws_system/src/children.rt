@@ -63,6 +63,7 @@ pub struct RealChild {
     last: Option<Ended>,
     ended: bool,
     faults: u64,
+    stopped: bool,
 }
 
 impl RealChild {
@@ -77,6 +78,7 @@ impl RealChild {
             last: None,
             ended: false,
             faults: 0,
+            stopped: false,
         }
     }
 
@@ -108,6 +110,7 @@ impl Child for RealChild {
       last = c.last;
       ended = c.ended;
       faults = c.faults;
+      stopped = c.stopped;
     } };
 
     fn ended(&mut self) -> Ended {
@@ -123,6 +126,7 @@ impl Child for RealChild {
     }
 
     fn stop(&mut self) {
+        self.stopped = true;
         let _ = self.inner.kill();
     }
 }
@@ -229,20 +233,21 @@ fn start<R: Processes<Started = SystemProcess> + Files>(
     }
 }
 
-/// A child that was started.
+/// A child that was started, and those that were finished before.
 #[derive(Clone, Copy)]
 struct Starting<'c> {
     service: u16,
     incarnation: u32,
     words: &'c [Items<u8>],
+    finished: &'c Told<ChildEnd>,
 }
 
 impl<'c> Says for Starting<'c> {
     type Item = ChildStart;
 
-    ghost use Rattle.std.specs.Prelude.{None};
+    ghost use Rattle.std.specs.Prelude.{None, length};
 
-    ghost item = { λ s. record { service = s.service; incarnation = s.incarnation; words = s.words.now; says = None } };
+    ghost item = { λ s. record { service = s.service; incarnation = s.incarnation; words = s.words.now; says = None; after = length s.finished.now.past } };
 }
 
 /// A child that is finished, and its link.
@@ -291,6 +296,7 @@ impl<'r, R: Processes<Started = SystemProcess> + Files> Children for RealChildre
                     service,
                     incarnation,
                     words,
+                    finished: &self.finished,
                 };
                 self.started = self.started.and(&starting);
                 let child = RealChild::new(service, incarnation, inner);

@@ -1,9 +1,11 @@
 //! The files of the system.
 
-ghost use Rattle.std.specs.Prelude.{None};
+ghost use Rattle.std.specs.Prelude.{◌≡◌, [], None};
 
 use crate::trying::{count, pull_from};
-use okws_outer::files::Files;
+use okws_base::items::Items;
+use okws_base::told::Told;
+use okws_outer::files::{FilePath, Files};
 use okws_outer::stream::{Pull, Source};
 use std::fs;
 use std::io::Read;
@@ -35,16 +37,18 @@ impl<F: Read> Source for RealFile<F> {
 #[derive(Drop)]
 pub struct RealFiles<'r, R> {
     rt: &'r R,
-    opened: u64,
+    opened: Told<Items<u8>>,
     faults: u64,
 }
 
 impl<'r, R: std::rt::Files> RealFiles<'r, R> {
     /// The files, none of them opened and no fault counted yet.
-    pub fn new(rt: &'r R) -> Self {
+    pub fn new(rt: &'r R) -> Self
+        ensures { ⟦<RealFiles<'r, R> as Files>⟧.shelf result ≡ record { held = λ path. None; opened = []; faults = 0 } }
+    {
         RealFiles {
             rt,
-            opened: 0,
+            opened: Told::new(),
             faults: 0,
         }
     }
@@ -53,10 +57,10 @@ impl<'r, R: std::rt::Files> RealFiles<'r, R> {
 impl<'r, R: std::rt::Files> Files for RealFiles<'r, R> {
     type File = RealFile<R::File>;
 
-    ghost shelf = { λ s. record { held = λ path. None; opened = s.opened; faults = s.faults } };
+    ghost shelf = { λ s. record { held = λ path. None; opened = s.opened.past; faults = s.faults } };
 
     fn open(&mut self, path: &str) -> RealFile<R::File> {
-        self.opened = self.opened.saturating_add(1);
+        self.opened = self.opened.and(&FilePath { path });
         RealFile {
             inner: fs::open(self.rt, path).ok(),
             faults: self.faults,

@@ -72,6 +72,12 @@ impl Keeper for FileKeeper {
 
     ghost steady = { λ _. false };
 
+    ghost parted = { λ _. false };
+
+    fn has_parted(&self) -> bool {
+        false
+    }
+
     fn run(
         &mut self,
         alloc: Global,
@@ -154,12 +160,13 @@ fn keeper_over(
 struct Made<'c> {
     file: &'c str,
     proxy: u16,
+    tables: &'c [Table],
 }
 
 impl<'c> Says for Made<'c> {
     type Item = KeeperStart;
 
-    ghost item = { λ m. record { file = m.file.now; proxy = m.proxy } };
+    ghost item = { λ m. record { file = m.file.now; proxy = m.proxy; tables = m.tables.now } };
 }
 
 /// A keeper that is given back.
@@ -241,7 +248,7 @@ impl<'r> Stores for RealStores<'r> {
     ) -> Result<FileKeeper, MakeError>
         ensures tables { IfOk result (λ k. ⟦<FileKeeper as Keeper>⟧.tables k ≡ tables.now) }
         ensures keeper { IfOk result (λ k. IsNewKeeper tables.now (⟦<FileKeeper as Keeper>⟧.told k) (⟦<FileKeeper as Keeper>⟧.faults k)) }
-        ensures made { IfOk result (λ k. ⟦<RealStores<'r> as Stores>⟧.depot self.new ≡ with_made file.now proxy (⟦<RealStores<'r> as Stores>⟧.depot self.old)) }
+        ensures made { IfOk result (λ k. ⟦<RealStores<'r> as Stores>⟧.depot self.new ≡ with_made file.now proxy tables.now (⟦<RealStores<'r> as Stores>⟧.depot self.old)) }
         ensures refused { OnErr result (⟦<RealStores<'r> as Stores>⟧.depot self.new ≡ record (⟦<RealStores<'r> as Stores>⟧.depot self.old) { faults = (⟦<RealStores<'r> as Stores>⟧.depot self.new).faults }) }
         ensures faults { CountsMade (⟦<RealStores<'r> as Stores>⟧.depot self.old).faults (⟦<RealStores<'r> as Stores>⟧.depot self.new).faults result }
         ensures filed { IfOk result (λ k. IsFiled tables.now k.keeper.conn) }
@@ -249,7 +256,14 @@ impl<'r> Stores for RealStores<'r> {
     {
         let made = self.keeper(alloc, file, proxy, tables);
         match &made {
-            Ok(_) => self.made = self.made.and(&Made { file, proxy }),
+            Ok(_) => {
+                let start = Made {
+                    file,
+                    proxy,
+                    tables,
+                };
+                self.made = self.made.and(&start);
+            }
             Err(MakeError::Failed) => count(&mut self.faults),
             Err(MakeError::NoMemory) => {}
         }

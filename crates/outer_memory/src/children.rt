@@ -52,6 +52,7 @@ pub struct MemoryChild<'a> {
     last: Option<Ended>,
     ended: bool,
     faults: u64,
+    stopped: bool,
 }
 
 impl<'a> MemoryChild<'a> {
@@ -66,6 +67,7 @@ impl<'a> MemoryChild<'a> {
             last: None,
             ended: false,
             faults: 0,
+            stopped: false,
         }
     }
 }
@@ -90,6 +92,7 @@ impl<'a> Child for MemoryChild<'a> {
       last = c.last;
       ended = c.ended;
       faults = c.faults;
+      stopped = c.stopped;
     } };
 
     fn ended(&mut self) -> Ended {
@@ -104,7 +107,9 @@ impl<'a> Child for MemoryChild<'a> {
         answer
     }
 
-    fn stop(&mut self) {}
+    fn stop(&mut self) {
+        self.stopped = true;
+    }
 }
 
 /// The link of a child in memory, to which all that the child says was fed at its start.
@@ -172,7 +177,8 @@ impl<'a> MemoryChildren<'a> {
         }
     }
 
-    /// The starts, the oldest first, unless memory was refused for one.
+    /// The starts, the oldest first, unless memory was refused for one, or for a child that was finished
+    /// before it.
     pub fn started(&self) -> Option<&[ChildStart]>
         ensures { IfSome result (λ s. reverse s.now ≡ (⟦<MemoryChildren<'a> as Children>⟧.family self.now).started) }
     {
@@ -222,30 +228,33 @@ fn link_of<'a>(
     })
 }
 
-/// A child that was started.
+/// A child that was started, and those that were finished before.
 #[derive(Clone, Copy)]
 struct Starting<'c> {
     service: u16,
     incarnation: u32,
     words: &'c [Items<u8>],
     says: &'c [u8],
+    finished: &'c Noted<ChildEnd>,
 }
 
 impl<'c> Says for Starting<'c> {
     type Item = ChildStart;
 
-    ghost use Rattle.std.specs.Prelude.{Some};
+    ghost use Rattle.std.specs.Prelude.{Some, length};
 
-    ghost item = { λ s. record { service = s.service; incarnation = s.incarnation; words = s.words.now; says = Some s.says.now } };
+    ghost item = { λ s. record { service = s.service; incarnation = s.incarnation; words = s.words.now; says = Some s.says.now; after = length s.finished.now.told.past } };
 }
 
 impl<'c> Parts for Starting<'c> {
     fn make(&self, alloc: Global) -> Result<ChildStart, AllocError> {
+        let after = self.finished.count().ok_or(AllocError)?;
         Ok(ChildStart {
             service: self.service,
             incarnation: self.incarnation,
             words: Items::of(copies(alloc, self.words)?),
             says: Some(Items::of(copies(alloc, self.says)?)),
+            after,
         })
     }
 }
@@ -316,6 +325,7 @@ impl<'a> Children for MemoryChildren<'a> {
             incarnation,
             words,
             says,
+            finished: &self.finished,
         };
         self.started.note(self.alloc, &starting);
         Ok(Started {

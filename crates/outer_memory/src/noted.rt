@@ -1,6 +1,6 @@
 //! What happened to an object in memory, in order.
 
-ghost use Rattle.std.specs.Prelude.{◌≡◌, [], ◌∷◌, ◌++◌, true, IfSome, OnOk, reverse};
+ghost use Rattle.std.specs.Prelude.{◌≡◌, [], ◌∷◌, ◌++◌, true, IfSome, OnOk, length, reverse};
 
 use okws_base::told::{Parts, Told};
 use std::alloc::{AllocError, Global};
@@ -47,6 +47,17 @@ impl<T: Drop> Noted<T> {
         let is_whole = self.is_whole && push(alloc, &mut self.items, parts).is_ok();
         self.told = told;
         self.is_whole = is_whole;
+    }
+
+    /// How many items were noted, unless memory was refused for one.
+    pub(crate) fn count(&self) -> Option<usize>
+        ensures { IfSome result (λ n. n ≡ length self.now.told.past) }
+    {
+        if self.is_whole {
+            Some(self.items.len())
+        } else {
+            None
+        }
     }
 
     /// The items, the oldest first, unless memory was refused for one.

@@ -91,6 +91,12 @@ impl Keeper for BrokenKeeper {
 
     ghost steady = { λ k. false };
 
+    ghost parted = { λ _. false };
+
+    fn has_parted(&self) -> bool {
+        false
+    }
+
     fn run(&mut self, _: Global, _: &Statement, _: &[Value]) -> Result<Answer, RunError> {
         self.faults = self.faults.saturating_add(1);
         Err(RunError::Failed)
@@ -122,12 +128,13 @@ impl KeeperMaker for Breaking {
 struct Made<'c> {
     file: &'c str,
     proxy: u16,
+    tables: &'c [Table],
 }
 
 impl<'c> Says for Made<'c> {
     type Item = KeeperStart;
 
-    ghost item = { λ m. record { file = m.file.now; proxy = m.proxy } };
+    ghost item = { λ m. record { file = m.file.now; proxy = m.proxy; tables = m.tables.now } };
 }
 
 /// A keeper that is given back.
@@ -159,7 +166,12 @@ impl<'a, M: KeeperMaker> Stores for MemoryStores<'a, M> {
             return Err(MakeError::Failed);
         }
         let keeper = self.maker.make(alloc, proxy, tables)?;
-        self.made = self.made.and(&Made { file, proxy });
+        let made = Made {
+            file,
+            proxy,
+            tables,
+        };
+        self.made = self.made.and(&made);
         Ok(keeper)
     }
 

@@ -1,12 +1,10 @@
 //! The objects of a server in memory, on the ways that no clause tells: which client comes to which
-//! door, which calls fail, and where memory and room end. Not tested here: real sockets, pipes and
-//! children, and what threads do to each other.
+//! door, which calls fail, and where memory and room end. Not tested here: real sockets and pipes,
+//! and what threads do to each other.
 
 ghost use Rattle.std.specs.Prelude.{◌≡◌, [], IfOk, IsNone, None};
 
 use okws_base::items::Items;
-use okws_outer::child::{Child, Ended};
-use okws_outer::children::{Children, Started};
 use okws_outer::conn::Conn;
 use okws_outer::door::{Door, Served};
 use okws_outer::error::{Fault, MakeError};
@@ -16,7 +14,6 @@ use okws_outer::network::Network;
 use okws_outer::sinks::Sinks;
 use okws_outer::stores::Stores;
 use okws_outer::stream::{Link, Pull, Put, Sink};
-use outer_memory::children::{ChildLink, ChildPlan, MemoryChildren};
 use outer_memory::door::{Client, MemoryDoor, MemoryNetwork};
 use outer_memory::sinks::MemorySinks;
 use outer_memory::stores::{Breaking, MemoryStores};
@@ -81,7 +78,8 @@ fn serve_all<D: Door>(door: &mut D) -> u8
     served
 }
 
-fn is(told: &Option<Items<u8>>, bytes: &[u8]) -> bool {
+/// Whether these bytes were told.
+pub fn is(told: &Option<Items<u8>>, bytes: &[u8]) -> bool {
     match told {
         Some(told) => told.as_slice() == bytes,
         None => false,
@@ -192,82 +190,6 @@ fn doors_serve_in_two_threads(rt: HostRuntime) -> Result<(), Fail> {
     Ok(())
 }
 
-const PLANS: [ChildPlan<'static>; 1] = [ChildPlan {
-    service: 1,
-    incarnation: 2,
-    says: b"hello",
-    piece: 3,
-    failing: &[1],
-    answers: &[Ended::No, Ended::Failed, Ended::Yes],
-}];
-
-/// The link says `hel`, fails once, and takes four bytes as soon as there is room.
-fn speaks(rt: &impl Abort, link: &mut ChildLink) -> Result<(), Fail> {
-    let mut piece = [0u8; 8];
-    assert!(rt; link.pull(&mut piece) == Pull::Took(3));
-    assert!(rt; link.pull(&mut piece) == Pull::Failed);
-    assert!(rt; link.put(b"boot") == Put::Stopped(0));
-    link.make_room(4)?;
-    assert!(rt; link.put(b"boot") == Put::Done);
-    Ok(())
-}
-
-/// One start and one end are told.
-fn tells_a_child(rt: &impl Abort, children: &MemoryChildren) {
-    assert!(rt; children.faults() == 1);
-    let (Some([start]), Some([end])) = (children.started(), children.finished()) else {
-        panic!(rt; "not as planned");
-    };
-    assert!(rt; (start.service, start.incarnation) == (1, 2));
-    assert!(rt; is(&start.says, b"hello"));
-    assert!(rt; (end.service, end.incarnation, end.faults) == (1, 2, 2));
-    assert!(rt; end.ended);
-    assert!(rt; is(&end.left, b"lo"));
-    assert!(rt; is(&end.given, b"boot"));
-}
-
-#[test]
-fn children_do_what_is_planned(rt: HostRuntime) -> Result<(), Fail> {
-    let mut children = MemoryChildren::new(rt.alloc(), &PLANS, &[0]);
-    let refused = children.start(rt.alloc(), 1, 1, &[]);
-    assert!(rt; matches!(refused, Err(MakeError::Failed)));
-    let Ok(
-        Started {
-            mut child,
-            mut link,
-        },
-    ) = children.start(rt.alloc(), 1, 2, &[])
-    else {
-        panic!(rt; "not as planned");
-    };
-    speaks(&rt, &mut link)?;
-    assert!(rt; child.ended() == Ended::No);
-    assert!(rt; child.ended() == Ended::Failed);
-    assert!(rt; child.ended() == Ended::Yes);
-    child.stop();
-    children.finish(1, 2, child, link);
-    tells_a_child(&rt, &children);
-    Ok(())
-}
-
-#[test]
-fn child_without_a_plan_is_silent(rt: HostRuntime) -> Result<(), Fail> {
-    let mut children = MemoryChildren::new(rt.alloc(), &PLANS, &[]);
-    let Ok(
-        Started {
-            mut child,
-            mut link,
-        },
-    ) = children.start(rt.alloc(), 1, 1, &[])
-    else {
-        panic!(rt; "not as planned");
-    };
-    assert!(rt; link.pull(&mut [0u8; 8]) == Pull::End);
-    assert!(rt; child.ended() == Ended::No);
-    children.finish(1, 1, child, link);
-    Ok(())
-}
-
 /// An opening, one that failed, and a sink that was closed are told.
 fn tells_a_sink(rt: &impl Abort, sinks: &MemorySinks) {
     assert!(rt; sinks.faults() == 3);
@@ -307,17 +229,6 @@ fn absent_network_refuses_each_listen(rt: HostRuntime) -> Result<(), Fail> {
         assert!(rt; matches!(doors, Err(MakeError::Failed)));
     }
     assert!(rt; network.faults() == 2);
-    Ok(())
-}
-
-#[test]
-fn absent_children_refuse_each_start(rt: HostRuntime) -> Result<(), Fail> {
-    let mut children = MemoryChildren::absent(rt.alloc());
-    for _ in 0..2 {
-        let child = children.start(rt.alloc(), 0, 1, &[]);
-        assert!(rt; matches!(child, Err(MakeError::Failed)));
-    }
-    assert!(rt; children.faults() == 2);
     Ok(())
 }
 

@@ -1,6 +1,6 @@
 //! The keeper.
 
-ghost use Rattle.std.specs.Prelude.{◌≡◌, ◌==◌, Some, map, length, IfOk, OnErr};
+ghost use Rattle.std.specs.Prelude.{◌≡◌, ◌==◌, false, Some, map, length, IfOk, OnErr};
 ghost use Rattle.okws_plan.specs.Meaning.{mean};
 
 use crate::failing::Failing;
@@ -69,6 +69,12 @@ impl Keeper for ListKeeper {
     ghost faults = { λ k. k.failing.faults };
 
     ghost steady = { λ k. length k.failing.calls.items == 0 };
+
+    ghost parted = { λ _. false };
+
+    fn has_parted(&self) -> bool {
+        false
+    }
 
     fn run(
         &mut self,

@@ -29,6 +29,12 @@ impl<'a> Keeper for Shaky<'a> {
 
     ghost steady = { λ _. false };
 
+    ghost parted = { λ _. false };
+
+    fn has_parted(&self) -> bool {
+        false
+    }
+
     fn run(
         &mut self,
         alloc: Global,

@@ -100,6 +100,12 @@ impl<S: Alter> Keeper for SqliteKeeper<S> {
 
     ghost steady = { λ _. false };
 
+    ghost parted = { λ _. false };
+
+    fn has_parted(&self) -> bool {
+        false
+    }
+
     fn run(
         &mut self,
         alloc: Global,

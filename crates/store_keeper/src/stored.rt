@@ -56,14 +56,6 @@ impl<K: Keeper> StoredKeeper<K> {
         }
     }
 
-    /// Whether the two have parted: memory was refused behind a write of the store, or it answered
-    /// another thing.
-    pub fn has_parted(&self) -> bool
-        ensures { result ≡ self.now.parted }
-    {
-        self.parted
-    }
-
     /// The store, as the keeper left it. It has counted each failed call, and where it tells its rows these
     /// are the keeper's, unless the two have parted.
     pub fn into_store(self) -> K
@@ -116,6 +108,12 @@ impl<K: Keeper> Keeper for StoredKeeper<K> {
     ghost faults = { λ k. k.faults };
 
     ghost steady = { λ _. false };
+
+    ghost parted = { λ k. k.parted };
+
+    fn has_parted(&self) -> bool {
+        self.parted
+    }
 
     fn run(
         &mut self,

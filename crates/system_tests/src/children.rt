@@ -8,29 +8,29 @@ use okws_outer::children::{Children, Started};
 use okws_outer::error::MakeError;
 use okws_outer::stream::{Link, Pull, Put};
 use okws_system::children::RealChildren;
-use std::alloc::{AllocError, Global};
+use std::alloc::Global;
+use std::process::Abort;
 use std::rt::Clock;
-use std::test::Fail;
 use std::thread;
 use std::time::Duration;
 
 /// Words of a program.
-fn words(alloc: Global, texts: &[&str]) -> Result<Vec<Items<u8>>, AllocError> {
+fn words(rt: &impl Abort, alloc: Global, texts: &[&str]) -> Vec<Items<u8>> {
     let mut words = Vec::new(alloc);
     for text in texts {
-        let mut word = Vec::new(alloc);
-        word.extend_from_slice(text.as_bytes())?;
-        words.push(Items::of(word))?;
+        let word = Vec::from_slice(alloc, text.as_bytes()).expect(rt, "memory was refused");
+        words.push(Items::of(word)).expect(rt, "memory was refused");
     }
-    Ok(words)
+    words
 }
 
-/// Waits until a child has ended, five seconds at most.
+/// Waits until a child has ended, thirty seconds at most.
 fn has_ended<R: Clock, C: Child>(rt: &R, child: &mut C) -> bool
     ensures service { (C.life child.new).service ≡ (C.life child.old).service }
     ensures incarnation { (C.life child.new).incarnation ≡ (C.life child.old).incarnation }
+    ensures stopped { (C.life child.new).stopped ≡ (C.life child.old).stopped }
 {
-    for _ in 0..500 {
+    for _ in 0..3_000 {
         if child.ended() == Ended::Yes {
             return true;
         }
@@ -54,9 +54,9 @@ fn is_cut<L: Link>(link: &mut L) -> bool {
 }
 
 #[test]
-fn child_says_what_it_heard(rt: HostRuntime) -> Result<(), Fail> {
+fn child_says_what_it_heard(rt: HostRuntime) {
     let mut children = RealChildren::new(&rt);
-    let cat = words(rt.alloc(), &["/bin/cat"])?;
+    let cat = words(&rt, rt.alloc(), &["/bin/cat"]);
     let Ok(
         Started {
             mut child,
@@ -70,26 +70,25 @@ fn child_says_what_it_heard(rt: HostRuntime) -> Result<(), Fail> {
     child.stop();
     assert!(rt; has_ended(&rt, &mut child));
     assert!(rt; is_cut(&mut link));
-    assert_eq!(rt; link.faults(), 1);
+    assert!(rt; link.faults() == 1);
     children.finish(0, 1, child, link);
-    Ok(())
 }
 
 #[test]
-fn child_is_ended_at_its_finish(rt: HostRuntime) -> Result<(), Fail> {
+fn child_is_ended_at_its_finish(rt: HostRuntime) {
     let mut children = RealChildren::new(&rt);
-    let sleep = words(rt.alloc(), &["/bin/sleep", "600"])?;
-    let Ok(Started { child, link }) = children.start(rt.alloc(), 0, 1, &sleep) else {
+    let sleep = words(&rt, rt.alloc(), &["/bin/sleep", "600"]);
+    let Ok(Started { mut child, link }) = children.start(rt.alloc(), 0, 1, &sleep) else {
         panic!(rt; "not as planned");
     };
+    child.stop();
     children.finish(0, 1, child, link);
-    Ok(())
 }
 
 #[test]
-fn child_that_ends_is_seen(rt: HostRuntime) -> Result<(), Fail> {
+fn child_that_ends_is_seen(rt: HostRuntime) {
     let mut children = RealChildren::new(&rt);
-    let truth = words(rt.alloc(), &["/bin/true"])?;
+    let truth = words(&rt, rt.alloc(), &["/bin/true"]);
     let Ok(
         Started {
             mut child,
@@ -99,29 +98,29 @@ fn child_that_ends_is_seen(rt: HostRuntime) -> Result<(), Fail> {
     else {
         panic!(rt; "not as planned");
     };
-    assert_eq!(rt; link.pull(&mut [0u8; 4]), Pull::End);
+    assert!(rt; link.pull(&mut [0u8; 4]) == Pull::End);
     assert!(rt; has_ended(&rt, &mut child));
+    child.stop();
     children.finish(0, 1, child, link);
-    Ok(())
 }
 
 /// Whether no child is started of these words.
-fn is_refused<C: Children>(
+fn is_refused<R: Abort, C: Children>(
+    rt: &R,
     children: &mut C,
     alloc: Global,
     texts: &[&str],
-) -> Result<bool, AllocError> {
-    let program = words(alloc, texts)?;
+) -> bool {
+    let program = words(rt, alloc, texts);
     let refused = children.start(alloc, 0, 1, &program);
-    Ok(matches!(refused, Err(MakeError::Failed)))
+    matches!(refused, Err(MakeError::Failed))
 }
 
 #[test]
-fn what_is_no_program_fails(rt: HostRuntime) -> Result<(), Fail> {
+fn what_is_no_program_fails(rt: HostRuntime) {
     let mut children = RealChildren::new(&rt);
-    assert!(rt; is_refused(&mut children, rt.alloc(), &["/nowhere/program"])?);
-    assert!(rt; is_refused(&mut children, rt.alloc(), &["/tmp"])?);
-    assert!(rt; is_refused(&mut children, rt.alloc(), &[])?);
-    assert_eq!(rt; children.faults(), 3);
-    Ok(())
+    assert!(rt; is_refused(&rt, &mut children, rt.alloc(), &["/nowhere/program"]));
+    assert!(rt; is_refused(&rt, &mut children, rt.alloc(), &["/tmp"]));
+    assert!(rt; is_refused(&rt, &mut children, rt.alloc(), &[]));
+    assert!(rt; children.faults() == 3);
 }

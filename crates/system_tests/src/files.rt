@@ -5,39 +5,37 @@ use okws_outer::sinks::Sinks;
 use okws_outer::stream::{Put, Sink};
 use okws_system::files::RealFiles;
 use okws_system::sinks::RealSinks;
-use std::test::Fail;
 use std::{fs, process};
 
 #[test]
-fn sink_goes_on_behind_what_stands_there(rt: HostRuntime) -> Result<(), Fail> {
+fn sink_goes_on_behind_what_stands_there(rt: HostRuntime) {
     let number = process::id(rt.process());
-    let path = format!(in rt.alloc(); "/tmp/okws-sink-{number}")?;
+    let path = format!(in rt.alloc(); "/tmp/okws-sink-{number}");
+    let path = path.expect(&rt, "memory was refused");
     let mut sinks = RealSinks::new(&rt);
     for bytes in [b"one\n".as_slice(), b"two\n"] {
         let Ok(mut sink) = sinks.open(path.as_str()) else {
             panic!(rt; "not as planned");
         };
-        assert_eq!(rt; sink.put(bytes), Put::Done);
+        assert!(rt; sink.put(bytes) == Put::Done);
         sinks.close(path.as_str(), sink);
     }
     assert!(rt; sinks.open("/nowhere/log").is_err());
-    assert_eq!(rt; sinks.faults(), 1);
+    assert!(rt; sinks.faults() == 1);
     let mut files = RealFiles::new(&rt);
     let read = read_file(rt.alloc(), &mut files, path.as_str(), 99);
-    fs::remove_file(&rt, path.as_str())?;
+    fs::remove_file(&rt, path.as_str()).expect(&rt, "no file");
     let Ok(bytes) = read else {
         panic!(rt; "not as planned");
     };
-    assert_eq!(rt; bytes.as_slice(), b"one\ntwo\n".as_slice());
-    Ok(())
+    assert!(rt; bytes.as_slice() == b"one\ntwo\n".as_slice());
 }
 
 #[test]
-fn what_is_no_file_is_a_fault(rt: HostRuntime) -> Result<(), Fail> {
+fn what_is_no_file_is_a_fault(rt: HostRuntime) {
     let mut files = RealFiles::new(&rt);
     for path in ["/nowhere", "/tmp"] {
         let read = read_file(rt.alloc(), &mut files, path, 99);
         assert!(rt; matches!(read, Err(ReadError::Failed)), "at {path}");
     }
-    Ok(())
 }

@@ -11,7 +11,6 @@ use okws_system::network::{RealDoor, RealNetwork};
 use std::io;
 use std::io::{Read, Write};
 use std::net::{Net, SocketAddr, TcpStream};
-use std::test::Fail;
 
 /// A client of a port, which has sent these bytes.
 fn client<R: Net<Stream = TcpStream>>(rt: &R, port: u16, bytes: &[u8]) -> io::Result<TcpStream> {
@@ -36,7 +35,7 @@ fn serve_one(door: &mut RealDoor, answer: &[u8]) -> Option<(Pull, Put)>
 }
 
 #[test]
-fn doors_share_one_port(rt: HostRuntime) -> Result<(), Fail> {
+fn doors_share_one_port(rt: HostRuntime) {
     let mut network = RealNetwork::new(&rt, rt.alloc());
     let Ok(mut doors) = network.listen(rt.alloc(), 0, 2) else {
         panic!(rt; "not as planned");
@@ -47,34 +46,27 @@ fn doors_share_one_port(rt: HostRuntime) -> Result<(), Fail> {
     let Some(port) = first.port() else {
         panic!(rt; "not as planned");
     };
-    assert_eq!(rt; second.port(), Some(port));
+    assert!(rt; second.port() == Some(port));
     let taken = network.listen(rt.alloc(), port, 1);
     assert!(rt; matches!(taken, Err(MakeError::Failed)));
-    let mut one = client(&rt, port, b"one")?;
-    let mut other = client(&rt, port, b"other")?;
-    assert_eq!(rt;
-        serve_one(&mut second, b"first"),
-        Some((Pull::Took(3), Put::Done))
-    );
-    assert_eq!(rt;
-        serve_one(&mut first, b"second"),
-        Some((Pull::Took(5), Put::Done))
-    );
+    let mut one = client(&rt, port, b"one").expect(&rt, "no connection");
+    let mut other = client(&rt, port, b"other").expect(&rt, "no connection");
+    assert!(rt; serve_one(&mut second, b"first") == Some((Pull::Took(3), Put::Done)));
+    assert!(rt; serve_one(&mut first, b"second") == Some((Pull::Took(5), Put::Done)));
     let mut heard = Vec::new(rt.alloc());
-    one.read_to_end(&mut heard)?;
-    other.read_to_end(&mut heard)?;
-    assert_eq!(rt; heard.as_slice(), b"firstsecond".as_slice());
-    doors.push(first)?;
-    doors.push(second)?;
+    one.read_to_end(&mut heard).expect(&rt, "no answer");
+    other.read_to_end(&mut heard).expect(&rt, "no answer");
+    assert!(rt; heard.as_slice() == b"firstsecond".as_slice());
+    doors.push(first).expect(&rt, "memory was refused");
+    doors.push(second).expect(&rt, "memory was refused");
     network.close(doors);
-    assert_eq!(rt; network.faults(), 1);
+    assert!(rt; network.faults() == 1);
     let again = network.listen(rt.alloc(), port, 1);
     assert!(rt; again.is_ok());
-    Ok(())
 }
 
 #[test]
-fn early_answer_is_seen(rt: HostRuntime) -> Result<(), Fail> {
+fn early_answer_is_seen(rt: HostRuntime) {
     let mut network = RealNetwork::new(&rt, rt.alloc());
     let Ok(mut doors) = network.listen(rt.alloc(), 0, 1) else {
         panic!(rt; "not as planned");
@@ -85,20 +77,16 @@ fn early_answer_is_seen(rt: HostRuntime) -> Result<(), Fail> {
     let Some(port) = door.port() else {
         panic!(rt; "not as planned");
     };
-    let mut one = client(&rt, port, &[b'a'; 40_000])?;
+    let mut one = client(&rt, port, &[b'a'; 40_000]).expect(&rt, "no connection");
     let answer = b"HTTP/1.1 413 Content Too Large\r\n";
-    assert_eq!(rt;
-        serve_one(&mut door, answer),
-        Some((Pull::Took(8), Put::Done))
-    );
+    assert!(rt; serve_one(&mut door, answer) == Some((Pull::Took(8), Put::Done)));
     let mut heard = Vec::new(rt.alloc());
-    one.read_to_end(&mut heard)?;
-    assert_eq!(rt; heard.as_slice(), answer.as_slice());
-    Ok(())
+    one.read_to_end(&mut heard).expect(&rt, "no answer");
+    assert!(rt; heard.as_slice() == answer.as_slice());
 }
 
 #[test]
-fn client_that_says_nothing_has_ended(rt: HostRuntime) -> Result<(), Fail> {
+fn client_that_says_nothing_has_ended(rt: HostRuntime) {
     let mut network = RealNetwork::new(&rt, rt.alloc());
     let Ok(mut doors) = network.listen(rt.alloc(), 0, 1) else {
         panic!(rt; "not as planned");
@@ -109,10 +97,9 @@ fn client_that_says_nothing_has_ended(rt: HostRuntime) -> Result<(), Fail> {
     let Some(port) = door.port() else {
         panic!(rt; "not as planned");
     };
-    drop(client(&rt, port, b"")?);
+    drop(client(&rt, port, b"").expect(&rt, "no connection"));
     let Some((pull, _)) = serve_one(&mut door, b"answer") else {
         panic!(rt; "not as planned");
     };
-    assert_eq!(rt; pull, Pull::End);
-    Ok(())
+    assert!(rt; pull == Pull::End);
 }

@@ -13,24 +13,30 @@ use okws_plan::configuration::{Column, Table};
 use okws_plan::statement::{Action, Answer, Operand, Statement};
 use okws_system::stores::{FileKeeper, RealStores};
 use std::alloc::{AllocError, Global};
-use std::test::Fail;
+use std::process::Abort;
 use std::{fs, process};
 
-fn identifier(alloc: Global, text: &[u8]) -> Result<Identifier, Fail>
-    ensures { IfOk result (λ name. name ≡ text.now) }
+fn identifier(rt: &impl Abort, alloc: Global, text: &[u8]) -> Identifier
+    ensures { result ≡ text.now }
 {
-    let bytes = Items::of(copies(alloc, text)?);
-    Ok(Identifier::new(bytes).ok_or("not an identifier")?)
+    let bytes = match copies(alloc, text) {
+        Ok(bytes) => bytes,
+        Err(_) => panic!(rt; "memory was refused"),
+    };
+    match Identifier::new(Items::of(bytes)) {
+        Some(name) => name,
+        None => panic!(rt; "not an identifier"),
+    }
 }
 
-fn column(alloc: Global, text: &[u8], key: bool) -> Result<Column, Fail>
-    ensures { IfOk result (λ c. c ≡ record { name = text.now; kind = Kind.Int; key = key }) }
+fn column(rt: &impl Abort, alloc: Global, text: &[u8], key: bool) -> Column
+    ensures { result ≡ record { name = text.now; kind = Kind.Int; key = key } }
 {
-    Ok(Column {
-        name: identifier(alloc, text)?,
+    Column {
+        name: identifier(rt, alloc, text),
         kind: Kind::Int,
         key,
-    })
+    }
 }
 
 fn two<T: Drop>(alloc: Global, first: T, second: T) -> Result<Items<T>, AllocError>
@@ -42,22 +48,25 @@ fn two<T: Drop>(alloc: Global, first: T, second: T) -> Result<Items<T>, AllocErr
     Ok(Items::of(items))
 }
 
-fn one_table(alloc: Global) -> Result<Vec<Table>, Fail>
-    ensures { IfOk result (λ v. v.items ≡ tables) }
+fn one_table(rt: &impl Abort, alloc: Global) -> Vec<Table>
+    ensures { result.items ≡ tables }
 {
-    let columns = two(
-        alloc,
-        column(alloc, b"id", true)?,
-        column(alloc, b"n", false)?,
-    )?;
+    let id = column(rt, alloc, b"id", true);
+    let n = column(rt, alloc, b"n", false);
+    let columns = match two(alloc, id, n) {
+        Ok(columns) => columns,
+        Err(_) => panic!(rt; "memory was refused"),
+    };
     let table = Table {
-        name: identifier(alloc, b"t")?,
+        name: identifier(rt, alloc, b"t"),
         columns,
         first: Items::of(Vec::new(alloc)),
     };
     let mut tables = Vec::new(alloc);
-    tables.push(table)?;
-    Ok(tables)
+    match tables.push(table) {
+        Ok(()) => tables,
+        Err(_) => panic!(rt; "memory was refused"),
+    }
 }
 
 fn insertion(alloc: Global) -> Result<Statement, AllocError>
@@ -82,39 +91,42 @@ fn insert(alloc: Global, keeper: &mut FileKeeper, id: i64) -> Result<Answer, Run
 
 /// Inserts a row into the rows of proxy 7, in a time of the store's own.
 fn inserted(
+    rt: &impl Abort,
     alloc: Global,
     stores: &mut RealStores<'_>,
     path: &str,
     id: i64,
-) -> Result<Option<Answer>, Fail> {
-    let tables = one_table(alloc)?;
+) -> Option<Answer> {
+    let tables = one_table(rt, alloc);
     let Ok(mut keeper) = stores.make(alloc, path, 7, &tables) else {
-        return Ok(None);
+        return None;
     };
     let answer = insert(alloc, &mut keeper, id).ok();
     // While the keeper is out nobody else has the file.
     let second = stores.make(alloc, path, 7, &tables);
     stores.finish(7, keeper);
-    Ok(if matches!(second, Err(MakeError::Failed)) {
+    if matches!(second, Err(MakeError::Failed)) {
         answer
     } else {
         None
-    })
+    }
 }
 
 /// Removes the files of proxy 7, where they are.
-fn clear(rt: &HostRuntime, path: &str) -> Result<(), AllocError> {
+fn clear(rt: &HostRuntime, path: &str) {
     for ending in ["7", "7-wal"] {
-        let _ = fs::remove_file(rt, format!(in rt.alloc(); "{path}.{ending}")?.as_str());
+        if let Ok(file) = format!(in rt.alloc(); "{path}.{ending}") {
+            let _ = fs::remove_file(rt, file.as_str());
+        }
     }
-    Ok(())
 }
 
 #[test]
-fn rows_stay_in_their_file(rt: HostRuntime) -> Result<(), Fail> {
+fn rows_stay_in_their_file(rt: HostRuntime) {
     let number = process::id(rt.process());
-    let path = format!(in rt.alloc(); "/tmp/okws-rows-{number}")?;
-    clear(&rt, &path)?;
+    let path = format!(in rt.alloc(); "/tmp/okws-rows-{number}");
+    let path = path.expect(&rt, "memory was refused");
+    clear(&rt, &path);
     let mut stores = RealStores::new(&rt);
     let all = [
         (1, Answer::Changed(1)),
@@ -122,21 +134,17 @@ fn rows_stay_in_their_file(rt: HostRuntime) -> Result<(), Fail> {
         (2, Answer::Changed(1)),
     ];
     for (id, answer) in all {
-        assert!(rt;
-            inserted(rt.alloc(), &mut stores, &path, id)? == Some(answer),
-            "at {id}"
-        );
+        let found = inserted(&rt, rt.alloc(), &mut stores, &path, id);
+        assert!(rt; found == Some(answer), "at {id}");
     }
-    clear(&rt, &path)?;
-    assert_eq!(rt; stores.faults(), 3);
-    Ok(())
+    clear(&rt, &path);
+    assert!(rt; stores.faults() == 3);
 }
 
 #[test]
-fn what_is_no_place_for_a_store_is_a_fault(rt: HostRuntime) -> Result<(), Fail> {
+fn what_is_no_place_for_a_store_is_a_fault(rt: HostRuntime) {
     let mut stores = RealStores::new(&rt);
     let refused = stores.make(rt.alloc(), "/nowhere/rows", 0, &[]);
     assert!(rt; matches!(refused, Err(MakeError::Failed)));
-    assert_eq!(rt; stores.faults(), 1);
-    Ok(())
+    assert!(rt; stores.faults() == 1);
 }

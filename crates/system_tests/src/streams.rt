@@ -8,7 +8,6 @@ use okws_system::link::PipeLink;
 use okws_system::output::Writing;
 use std::io;
 use std::io::{ErrorKind, Read, Write};
-use std::test::Fail;
 
 /// What one call of a stream does.
 #[derive(Clone, Copy)]
@@ -86,7 +85,7 @@ const WRITES: [Step; 6] = [
 ];
 
 #[test]
-fn console_goes_on_after_signals(rt: HostRuntime) -> Result<(), Fail> {
+fn console_goes_on_after_signals(rt: HostRuntime) {
     let input = Steady { steps: &READS };
     let output = Dropping { steps: &WRITES };
     let Ok(mut console) = RealConsole::new(rt.alloc(), input, output) else {
@@ -100,18 +99,17 @@ fn console_goes_on_after_signals(rt: HostRuntime) -> Result<(), Fail> {
         Pull::Took(1),
         Pull::End,
     ] {
-        assert_eq!(rt; console.pull(&mut piece), pull);
+        assert!(rt; console.pull(&mut piece) == pull);
     }
     for put in [Put::Done, Put::Stopped(2), Put::Stopped(0), Put::Stopped(0)] {
-        assert_eq!(rt; console.put(b"abc"), put);
+        assert!(rt; console.put(b"abc") == put);
     }
-    assert_eq!(rt; console.put(b""), Put::Done);
-    assert_eq!(rt; console.faults(), 4);
-    Ok(())
+    assert!(rt; console.put(b"") == Put::Done);
+    assert!(rt; console.faults() == 4);
 }
 
 #[test]
-fn link_goes_on_after_signals(rt: HostRuntime) -> Result<(), Fail> {
+fn link_goes_on_after_signals(rt: HostRuntime) {
     let input = Steady { steps: &READS };
     let output = Dropping { steps: &WRITES };
     let Ok(mut link) = PipeLink::new(rt.alloc(), input, output) else {
@@ -125,21 +123,19 @@ fn link_goes_on_after_signals(rt: HostRuntime) -> Result<(), Fail> {
         Pull::Took(1),
         Pull::End,
     ] {
-        assert_eq!(rt; link.pull(&mut piece), pull);
+        assert!(rt; link.pull(&mut piece) == pull);
     }
     for put in [Put::Done, Put::Stopped(2), Put::Stopped(0)] {
-        assert_eq!(rt; link.put(b"abc"), put);
+        assert!(rt; link.put(b"abc") == put);
     }
-    assert_eq!(rt; link.faults(), 3);
-    Ok(())
+    assert!(rt; link.faults() == 3);
 }
 
 #[test]
-fn output_stops_where_nothing_is_taken(rt: HostRuntime) -> Result<(), Fail> {
+fn output_stops_where_nothing_is_taken(rt: HostRuntime) {
     let mut out = Writing::new(Dropping { steps: &WRITES });
     for put in [Put::Done, Put::Stopped(2), Put::Stopped(0)] {
-        assert_eq!(rt; out.put(b"abc"), put);
+        assert!(rt; out.put(b"abc") == put);
     }
-    assert_eq!(rt; out.faults(), 2);
-    Ok(())
+    assert!(rt; out.faults() == 2);
 }

@@ -1,12 +1,14 @@
 //! Files in memory.
 
-ghost use Rattle.std.specs.Prelude.{◌≡◌, IfSome, None, Some};
+ghost use Rattle.std.specs.Prelude.{◌≡◌, [], IfSome, None, Some};
 ghost use Rattle.okws_outer.specs.Entries.{held_at, told_where};
 
-use crate::files::Files;
+use crate::files::{FilePath, Files};
 use crate::memory::failing::Failing;
 use crate::memory::source::MemorySource;
 use crate::stream::{Pull, Source};
+use okws_base::items::Items;
+use okws_base::told::Told;
 
 /// A file's path and content.
 #[derive(Clone, Copy)]
@@ -19,11 +21,11 @@ pub struct Entry<'a> {
 
 /// Files in memory, which come in pieces of at most `piece` bytes, and of 1 where `piece` is 0. Of
 /// entries of one path the first stands.
-#[derive(Clone, Copy)]
+#[derive(Drop)]
 pub struct MemoryFiles<'a> {
     entries: &'a [Entry<'a>],
     piece: usize,
-    opened: u64,
+    opened: Told<Items<u8>>,
     failing: Failing<'a>,
 }
 
@@ -37,12 +39,12 @@ pub struct MemoryFile<'a> {
 impl<'a> MemoryFiles<'a> {
     /// Files of these entries; the pulls, counted over all files, of the numbers in `failing` fail.
     pub fn new(entries: &'a [Entry<'a>], piece: usize, failing: &'a [u64]) -> Self
-        ensures { ⟦<MemoryFiles<'a> as Files>⟧.shelf result ≡ record { held = held_at entries.now; opened = 0; faults = 0 } }
+        ensures { ⟦<MemoryFiles<'a> as Files>⟧.shelf result ≡ record { held = held_at entries.now; opened = []; faults = 0 } }
     {
         MemoryFiles {
             entries,
             piece,
-            opened: 0,
+            opened: Told::new(),
             failing: Failing::at(failing),
         }
     }
@@ -78,10 +80,10 @@ impl<'a> Source for MemoryFile<'a> {
 impl<'a> Files for MemoryFiles<'a> {
     type File = MemoryFile<'a>;
 
-    ghost shelf = { λ s. record { held = held_at s.entries.now; opened = s.opened; faults = s.failing.faults } };
+    ghost shelf = { λ s. record { held = held_at s.entries.now; opened = s.opened.past; faults = s.failing.faults } };
 
     fn open(&mut self, path: &str) -> MemoryFile<'a> {
-        self.opened = self.opened.saturating_add(1);
+        self.opened = self.opened.and(&FilePath { path });
         let found = find(self.entries, path);
         MemoryFile {
             source: MemorySource::with(found.unwrap_or(b""), self.piece, self.failing),

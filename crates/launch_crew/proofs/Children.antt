@@ -1,5 +1,5 @@
 -- What each step makes of what is told of the children.
-use Rattle.std.proofs.Common.{◌≡◌, ◌∙◌, inl, inr, ⊎_elim, ℕ, ◌+◌, ◌-◌, ◌^◌, ◌<◌, ◌≤◌, List, [], ◌∷◌, ◌++◌, Option, Some, None, sym, ap, arith}
+use Rattle.std.proofs.Common.{◌≡◌, ◌∙◌, inl, inr, ⊎_elim, ℕ, ◌+◌, ◌-◌, ◌^◌, ◌<◌, ◌≤◌, List, [], ◌∷◌, ◌++◌, Option, Some, None, length, sym, ap, arith}
 use Rattle.std.specs.Prelude.{min}
 use Rattle.std.proofs.lemmas.List.{append_assoc}
 use Rattle.okws_outer.specs.Families.{Family, with_start, with_end}
@@ -34,7 +34,7 @@ more_on f g h a b = record {
 
 pub more_started : (s k : ℕ) (words : List (List ℕ)) (wire : Wire) (f g : Family) → g ≡ with_start s k words wire f → TellsMore f g
 more_started s k words wire f g is = record {
-  starts = record { service = s; incarnation = k; words = words; says = wire.left } ∷ [];
+  starts = record { service = s; incarnation = k; words = words; says = wire.left; after = length f.finished } ∷ [];
   ends = [];
   started_is = ap (λ (x : Family). x.started) is;
   finished_is = ap (λ (x : Family). x.finished) is;

@@ -28,7 +28,7 @@ none_here [] s = refl
 none_here (x ∷ lives) zero = refl
 none_here (x ∷ lives) (suc s) = none_here lives s
 
-some_here : (lives : List (Option Life)) (s : ℕ) (before after : Life) → running_at lives s ≡ Some before → running_at (slice_set lives s (Some after)) s ≡ Some after
+pub some_here : (lives : List (Option Life)) (s : ℕ) (before after : Life) → running_at lives s ≡ Some before → running_at (slice_set lives s (Some after)) s ≡ Some after
 some_here [] s before after is = absurd (cc)
 some_here (x ∷ lives) zero before after is = refl
 some_here (x ∷ lives) (suc s) before after is = some_here lives s before after is
@@ -189,7 +189,7 @@ stays_asked s r a answer b asks t k =
     (λ apart. still_runs (crew_of r a) (crew_of r b) t k (ap (λ lives. running_at lives t) running ∙ here_else a.running s t (Some asks.after) apart) lives))
 
 runs_is : (k : ℕ) (child : Option Life) (life : Life) → child ≡ Some life → RunsAs k child → life.incarnation ≡ k
-runs_is k child life is runs = subst (RunsAs k) is runs
+runs_is k child life is runs = (subst (RunsAs k) is runs).0
 
 -- the child of incarnation k of s answered Yes
 pub asked_ended : (s k : ℕ) (r : Recorded) (a b : StaffIs) → RunsAs k (running_at a.running s) → AsksLife s a Yes b → IsTrue (tells_ended (crew_of r b) s k)

@@ -11,5 +11,6 @@ pub mod Listing
 pub mod Retiring
 pub mod Ending
 pub mod Ended
+pub mod Stopping
 pub mod Finishing
 pub mod Counting

@@ -1,5 +1,5 @@
 -- The launcher's crew as contracts see it: what its number has seen and done, and its children.
-use Rattle.std.specs.Prelude.{◌≡◌, ◌<◌, ◌≤◌, ℕ, true, List, [], Option, Some, None, IfSome, length, slice_index, slice_index_or}
+use Rattle.std.specs.Prelude.{◌≡◌, ◌<◌, ◌≤◌, ℕ, false, true, List, [], Option, Some, None, IfSome, length, slice_index, slice_index_or}
 use Rattle.okws_plan.specs.Configuration.{grants_at}
 use Rattle.okws_plan.specs.Lines.{PlaceFits}
 use Rattle.okws_plan.specs.declared.configuration.Config.{Config}
@@ -95,12 +95,12 @@ pub record IsQuiet (C : Config) (s : ℕ) (c : CrewIs) : Type 0 where
 abbrev pub StandsAt : Config → ℕ → ℕ → Sat → Type 0
 StandsAt C s k a = (at : Place) → IsColumnOf C s at → stands_at a at s ≡ Some k
 
--- A child runs as incarnation k.
+-- A child runs as incarnation k, and wasn't stopped.
 abbrev pub RunsAs : ℕ → Option Life → Type 0
 RunsAs k None = ⊥
-RunsAs k (Some life) = life.incarnation ≡ k
+RunsAs k (Some life) = (life.incarnation ≡ k) × (life.stopped ≡ false)
 
--- Incarnation k of s is up: okd sends requests to it, it stands at each column of s, and its child was started.
+-- Incarnation k of s is up: okd sends requests to it, it stands at each column of s, and its child was started and wasn't stopped.
 pub record IsUp (C : Config) (s k : ℕ) (c : CrewIs) : Type 0 where
   pub up : up_of c.sat s ≡ Some k
   pub columns : StandsAt C s k c.sat

@@ -1,12 +1,12 @@
 -- What each step of a launch of service s makes of the crew.
-use Rattle.std.specs.Prelude.{◌≡◌, ◌≢◌, ◌<◌, ◌≤◌, ℕ, false, true, List, ◌∷◌, Option, Some, None, is_some, length, slice_set, ◌+◌}
+use Rattle.std.specs.Prelude.{◌≡◌, ◌≢◌, ◌<◌, ◌≤◌, ℕ, Bool, false, true, List, ◌∷◌, Option, Some, None, is_some, length, slice_set, ◌+◌}
 use Rattle.okws_base.specs.Past.{standing_by}
 use Rattle.okws_base.specs.declared.journal.Entry.{Entry}
 use Rattle.okws_plan.specs.Configuration.{grants_at}
 use Rattle.okws_plan.specs.declared.configuration.Config.{Config}
 use Rattle.okws_plan.specs.declared.event.ProxyEvent.{ProxyEvent}
 use Rattle.okws_plan.specs.declared.script.Place.{Place}
-use Rattle.okws_outer.specs.Lives.{Life, Asks, new_life}
+use Rattle.okws_outer.specs.Lives.{Life, Asks, new_life, stopped_life}
 use Rattle.okws_outer.specs.declared.child.Ended.{Ended}
 use Rattle.okws_outer.specs.Wire.{Wire}
 use Rattle.monitor_model.specs.declared.record.Own.TheVariants as own
@@ -193,6 +193,24 @@ pub record Misses (s k : ℕ) (c d : CrewIs) : Type 0 where
   pub cell : incarnation (seen_at d.watch s) ≡ 0
   pub own_is : d.own ≡ c.own
   pub unlinked : link_at c.watch s ≡ false → link_at d.watch s ≡ false
+
+-- The child of s, which runs, was stopped.
+pub record StopsLife (s : ℕ) (c d : StaffIs) : Type 0 where
+  pub before : Life
+  pub after : Life
+  pub was : running_at c.running s ≡ Some before
+  pub stops : after ≡ stopped_life before
+  pub is : d ≡ record c { running = slice_set c.running s (Some after) }
+
+-- The same, if one runs.
+abbrev pub StopsChild : ℕ → StaffIs → Bool → StaffIs → Type 0
+StopsChild s c false d = (running_at c.running s ≡ None) × (d ≡ c)
+StopsChild s c true d = StopsLife s c d
+
+-- A child was stopped, if there is one.
+abbrev pub HasStopped : Option Life → Type 0
+HasStopped None = Unit {0}
+HasStopped (Some life) = life.stopped ≡ true
 
 -- The child of s, which runs, was asked whether it has ended.
 pub record AsksLife (s : ℕ) (c : StaffIs) (answer : Ended) (d : StaffIs) : Type 0 where

@@ -108,7 +108,7 @@ impl<N: Backed, J: Site, C: CellNames, K: Keeper, S: Sink, F: Children> Crew<N, 
         ensures empties { Empties service (crew_of self.old.recorder self.old.staff) (crew_of self.new.recorder self.new.staff) }
         ensures ended { Attended (crew_of self.old.recorder self.old.staff) → EndsOf N.site N.run_seed self.old.recorder.watch self.new.recorder.watch (child_of (crew_of self.old.recorder self.old.staff) service) self.old.staff.family self.new.staff.family }
     {
-        self.staff.stop(service);
+        let _ = self.staff.stop(service);
         let link = self.recorder.retire(rt, cells, service);
         self.staff.release(service, link);
     }

@@ -5,7 +5,7 @@ ghost use Rattle.okws_outer.specs.Families.{IsNewLink, with_start, with_end};
 ghost use Rattle.okws_outer.specs.Lives.{new_life};
 ghost use Rattle.okws_outer.specs.Streams.{Rose};
 ghost use Rattle.launch_crew.specs.Crews.{running_at, IsStaff};
-ghost use Rattle.launch_crew.specs.Steps.{AsksChild};
+ghost use Rattle.launch_crew.specs.Steps.{AsksChild, HasStopped, StopsChild};
 ghost use Rattle.launch_crew.specs.Told.{with_end_of};
 
 use crate::answer::Missed;
@@ -113,19 +113,24 @@ impl<N: Numbered, F: Children> Staff<N, F> {
         }
     }
 
-    /// Stops the child of the service, where one runs.
-    pub fn stop(&mut self, service: u16)
+    /// Stops the child of the service, where one runs, and tells whether one does.
+    pub fn stop(&mut self, service: u16) -> bool
         requires { service < length N.site.services }
-        ensures { self.new ≡ self.old }
+        ensures { StopsChild service self.old result self.new }
     {
-        if let Some(running) = &mut self.running[service as usize] {
-            running.child.stop();
+        match &mut self.running[service as usize] {
+            None => false,
+            Some(running) => {
+                running.child.stop();
+                true
+            }
         }
     }
 
-    /// Finishes the child of the service over its link, where there are both.
+    /// Finishes the child of the service, which was stopped, over its link, where there are both.
     pub fn release(&mut self, service: u16, link: Option<F::Link>)
-        requires { service < length N.site.services }
+        requires service { service < length N.site.services }
+        requires stopped { HasStopped (running_at self.old.running service) }
         ensures running { self.new.running ≡ slice_set self.old.running service None }
         ensures family { self.new.family ≡ with_end_of (running_at self.old.running service) (option_map F.Link.wire link) self.old.family }
     {

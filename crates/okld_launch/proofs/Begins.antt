@@ -199,7 +199,7 @@ set_child (x ∷ xs) zero a b h = refl
 set_child (x ∷ xs) (suc s) a b h = set_child xs s a b h
 
 same_runs : (k : ℕ) (a b : Life) (answer : Ended) → Asks a b answer → RunsAs k (Some a) → RunsAs k (Some b)
-same_runs k a b answer asks h = ap (λ (x : Life). x.incarnation) asks.life ∙ h
+same_runs k a b answer asks h = (ap (λ (x : Life). x.incarnation) asks.life ∙ h.0, ap (λ (x : Life). x.stopped) asks.life ∙ h.1)
 
 pub asked : (s : ℕ) (answer : Ended) (r : Recorded) (a b : StaffIs) → AsksLife s a answer b → SameCrew (crew_of r a) (crew_of r b)
 asked s answer r a b h = record {

@@ -41,7 +41,7 @@ stays_asked s answer r a b h = record { attended = attended_asked s r a answer b
 -- a child that runs as incarnation k said that it has ended
 pub asked_yes : (s k : ℕ) (c d : CrewIs) (before after : Life) → child_of c s ≡ Some before → child_of d s ≡ Some after → Asks before after Yes → RunsAs k (child_of c s) → tells_ended d s k ≡ true
 asked_yes s k c d before after was is asks runs =
-    let named : before.incarnation ≡ k = subst (RunsAs k) was runs in
+    let named : before.incarnation ≡ k = (subst (RunsAs k) was runs).0 in
     or_left (life_ended (child_of d s) k) (family_ended d.family s k)
     (subst (λ (child : Option Life). life_ended child k ≡ true) (sym is)
     (and_from (after.incarnation == k) after.ended (eq-eqb after.incarnation k (ap (λ (life : Life). life.incarnation) asks.life ∙ named)) (ap (λ (life : Life). life.ended) asks.life)))

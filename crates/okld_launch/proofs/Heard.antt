@@ -121,6 +121,7 @@ children_told C seed first c R none law behind boots kin =
       ends_are = all_heard C seed c.watch c.own R kin.ends law behind boots (ends_first kin.ends (λ s k some. first_of C s k kin.starts kin.starts_are (omega (arith, some, same s k)))) kin.ends_are;
       all = same;
       once = kin.once;
+      alone = kin.alone;
       begun_are = kin.begun_are;
       booted = λ s k is. kin.booted s k (boots s k ∙ is);
     }

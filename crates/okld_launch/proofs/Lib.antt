@@ -20,7 +20,9 @@ pub mod Turning
 pub mod Attending
 pub mod Booted
 pub mod Boots
+pub mod Alone
 pub mod Kin
+pub mod KinChange
 pub mod Kept
 pub mod Gone
 pub mod Heard

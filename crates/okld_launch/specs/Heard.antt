@@ -1,5 +1,5 @@
 -- What is told of the children of a run, by its record: what they were given, and what was taken of what came from them.
-use Rattle.std.specs.Prelude.{◌≡◌, ◌⊎◌, ℕ, ◌+◌, ◌<◌, ◌≤◌, false, List, [], ◌++◌, Some, IsTrue, count_by, is_some}
+use Rattle.std.specs.Prelude.{◌≡◌, ◌⊎◌, ℕ, ◌<◌, ◌≤◌, false, List, [], ◌++◌, Some, IsTrue, count_by, is_some, length}
 use Rattle.std.specs.Io.KnownBytes.{Consumes}
 use Rattle.std.specs.List.{list_any}
 use Rattle.okws_base.specs.Runs.{Each}
@@ -17,7 +17,7 @@ use Rattle.monitor_model.specs.Merged.{cell_past}
 use Rattle.monitor_model.specs.Sent.{IsGiven, broken_in}
 use Rattle.site_cell.specs.Taken.{HasTaken}
 use Rattle.launch_crew.specs.Finished.{IsFront, is_end_of}
-use Rattle.okld_launch.specs.Kin.{IsStart, is_start_of}
+use Rattle.okld_launch.specs.Kin.{AreAlone, IsStart, is_start_of}
 
 -- Incarnation k is behind a cell: it was booted, or one above it, and it isn't there.
 pub record IsBehind (k : ℕ) (J : List CellEvent) : Type 0 where
@@ -43,7 +43,7 @@ pub record WasVain (C : Config) (seed : List ℕ) (R : Record) (e : ChildEnd) : 
 abbrev pub IsHeard : Config → List ℕ → Record → ChildEnd → Type 0
 IsHeard C seed R e = HasHeard C seed R e ⊎ WasVain C seed R e
 
--- Since `first` was told of them, children were started, each by the words of its service's program, one at most of each incarnation, and one of each that was booted by the record; and just these were finished, each of which was given what it heard by the record and said by the record what was taken of what came from it, or whose start failed.
+-- Since `first` was told of them, children were started, each by the words of its service's program, one at most of each incarnation, and one of each that was booted by the record; and just these were finished, each of which was given what it heard by the record and said by the record what was taken of what came from it, or whose start failed. Of each service one at most ran at a time.
 pub record ChildrenAreTold (C : Config) (seed : List ℕ) (R : Record) (first now : Family) : Type 0 where
   pub starts : List ChildStart
   pub started_is : now.started ≡ starts ++ first.started
@@ -53,5 +53,6 @@ pub record ChildrenAreTold (C : Config) (seed : List ℕ) (R : Record) (first no
   pub ends_are : Each (IsHeard C seed R) ends
   pub all : (s k : ℕ) → count_by (is_start_of s k) starts ≡ count_by (is_end_of s k) ends
   pub once : (s k : ℕ) → count_by (is_start_of s k) starts ≤ 1
+  pub alone : AreAlone (length first.finished) starts ends
   pub begun_are : (s k : ℕ) → begun R.launcher s < k → count_by (is_start_of s k) starts ≡ 0
   pub booted : (s k : ℕ) → IsTrue (list_any (is_boot_of k) (cell_past R s)) → 0 < count_by (is_start_of s k) starts

@@ -1,5 +1,5 @@
 -- What is told of the children of a run, as its launcher knows it.
-use Rattle.std.specs.Prelude.{◌≡◌, ◌⊎◌, ℕ, ◌+◌, ◌<◌, ◌≤◌, Bool, false, List, [], ◌++◌, Option, Some, None, IsTrue, ◌==◌, ◌&&◌, count_by, length, slice_get}
+use Rattle.std.specs.Prelude.{◌≡◌, ◌⊎◌, ⊤, ℕ, ◌+◌, ◌<◌, ◌≤◌, Bool, false, List, [], ◌∷◌, ◌++◌, Option, Some, None, IsTrue, ◌==◌, ◌&&◌, count_by, length, slice_get}
 use Rattle.std.specs.Io.KnownBytes.{Consumes}
 use Rattle.std.specs.List.{list_any}
 use Rattle.okws_base.specs.Runs.{Each}
@@ -38,6 +38,19 @@ pub record IsStart (C : Config) (e : ChildStart) : Type 0 where
 abbrev pub is_start_of : ℕ → ℕ → ChildStart → Bool
 is_start_of s k e = (e.service == s) && (e.incarnation == k)
 
+-- When the child was started, each child of its service that had been started earlier had been finished: of the children that were finished, the last one first, those of `before` had been by then, and so many others before them.
+pub record IsAlone (old : ℕ) (x : ChildStart) (earlier : List ChildStart) (ends : List ChildEnd) : Type 0 where
+  pub later : List ChildEnd
+  pub before : List ChildEnd
+  pub parts : ends ≡ later ++ before
+  pub counted : x.after ≡ length before + old
+  pub gone : (k : ℕ) → 0 < count_by (is_start_of x.service k) earlier → 0 < count_by (is_end_of x.service k) before
+
+-- It is so of each of these children, of which the last one was started first: of each service one at most ran at a time.
+abbrev pub AreAlone : ℕ → List ChildStart → List ChildEnd → Type 0
+AreAlone old [] ends = ⊤
+AreAlone old (x ∷ earlier) ends = IsAlone old x earlier ends × AreAlone old earlier ends
+
 -- The item is the Boot of incarnation k of s.
 abbrev pub is_boot : ℕ → ℕ → Own → Bool
 is_boot s k (own.Boot t j) = (t == s) && (j == k)
@@ -58,7 +71,7 @@ IsEnd C seed watch items e = EndsAt C seed watch e ⊎ IsVain C seed items e
 abbrev pub Unstarted : ℕ → ℕ → Family → Family → Type 0
 Unstarted s k first now = count_by (is_start_of s k) now.started ≡ count_by (is_start_of s k) first.started
 
--- Since `first` was told of them, children of the site were started and finished: one at most of each incarnation, which was begun by the launcher's journal J, and one of each that the launcher booted; of each incarnation as many as were started were finished so or run.
+-- Since `first` was told of them, children of the site were started and finished: one at most of each incarnation, which was begun by the launcher's journal J, and one of each that the launcher booted; of each incarnation as many as were started were finished so or run; and of each service one at most ran at a time.
 pub record AreKin (C : Config) (seed : List ℕ) (first : Family) (J : List (Entry LauncherEvent)) (c : CrewIs) : Type 0 where
   pub starts : List ChildStart
   pub started_is : c.family.started ≡ starts ++ first.started
@@ -68,5 +81,6 @@ pub record AreKin (C : Config) (seed : List ℕ) (first : Family) (J : List (Ent
   pub ends_are : Each (IsEnd C seed c.watch c.own) ends
   pub all : (s k : ℕ) → count_by (is_start_of s k) starts ≡ count_by (is_end_of s k) ends + runs_as (running_at c.running s) k
   pub once : (s k : ℕ) → count_by (is_start_of s k) starts ≤ 1
+  pub alone : AreAlone (length first.finished) starts ends
   pub begun_are : (s k : ℕ) → begun J s < k → count_by (is_start_of s k) starts ≡ 0
   pub booted : (s k : ℕ) → IsTrue (list_any (is_boot s k) c.own) → 0 < count_by (is_start_of s k) starts

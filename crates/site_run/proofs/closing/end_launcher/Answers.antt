@@ -11,7 +11,7 @@ use Rattle.launch_turns.specs.Deeds.{by_deed, ended_in, entries, up_in}
 use Rattle.launch_turns.specs.declared.deed.Deed.{Deed}
 use Rattle.launch_crew.proofs.Children.{more_finished}
 use Rattle.okld_launch.proofs.Failing.{told_more}
-use Rattle.okld_launch.proofs.Kin.{kin_ended}
+use Rattle.okld_launch.proofs.KinChange.{kin_ended}
 use Rattle.okld_launch.proofs.Faults.{faults_ended}
 use Rattle.okld_launch.specs.Pieces.{IsWhole}
 use Rattle.launch_crew.proofs.Retiring.{counted_of}

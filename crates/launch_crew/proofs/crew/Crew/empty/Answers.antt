@@ -1,11 +1,14 @@
-use Rattle.std.proofs.Common.{◌∙◌, ap}
-use Rattle.std.specs.Prelude.{None, option_map, slice_set}
-use Rattle.launch_crew.specs.Crews.{StaffIs, running_at}
-use Rattle.launch_crew.specs.Told.{with_end_of}
+use Rattle.std.proofs.Common.{◌∙◌}
+use Rattle.std.specs.Prelude.{option_map}
+use Rattle.launch_crew.specs.Crews.{running_at}
 use Rattle.cell_locks.specs.Row.{link_at}
 use Rattle.launch_crew.proofs.Ended.{linked_map}
 use Rattle.launch_crew.proofs.Finishing.{ends_of_child}
+use Rattle.launch_crew.proofs.Stopping.{emptied_alike, ended_alike, has_stopped}
 use Rattle.launch_crew.proofs.crew.Crew.empty.Goals as goal
+
+pub release-requires-clause-stopped : goal.release-requires-clause-stopped
+release-requires-clause-stopped g c = has_stopped c.args.service c.args.self.now.staff c.stop.result c.stop.new.self c.stop.ensures
 
 pub returns-clause-empties : goal.returns-clause-empties
 returns-clause-empties g c =
@@ -13,9 +16,9 @@ returns-clause-empties g c =
     record {
       sat_is = c.retire-link.ensures.columns;
       only = c.retire-link.ensures.only;
-      running_is = c.release.ensures.running ∙ ap (λ (t : StaffIs). slice_set t.running c.args.service None) c.stop.ensures;
+      running_is = c.release.ensures.running ∙ emptied_alike c.args.service c.args.self.now.staff c.stop.result c.stop.new.self c.stop.ensures;
       link = link;
-      family_is = c.release.ensures.family ∙ ap (λ (t : StaffIs). with_end_of (running_at t.running c.args.service) link t.family) c.stop.ensures;
+      family_is = c.release.ensures.family ∙ ended_alike c.args.service c.args.self.now.staff c.stop.result c.stop.new.self link c.stop.ensures;
       none = c.retire-link.ensures.empty;
       last = c.retire-link.ensures.last;
       behind = c.retire-link.ensures.behind;
@@ -32,6 +35,6 @@ returns-clause-ended g c = λ attended.
     let t = c.args.self.now.staff in
     let link = option_map g.F.Link.Link.wire c.retire-link.result in
     ends_of_child g.N.Numbered.site g.N.Numbered.run_seed s a.watch c.retire-link.new.self.watch t.family c.release.new.self.family (running_at t.running s) link (link_at a.watch s)
-    (c.release.ensures.family ∙ ap (λ (t : StaffIs). with_end_of (running_at t.running s) link t.family) c.stop.ensures)
+    (c.release.ensures.family ∙ ended_alike s t c.stop.result c.stop.new.self link c.stop.ensures)
     (linked_map g.F.Link.Link.wire c.retire-link.result ∙ c.retire-link.ensures.link)
     (attended s) c.retire-link.ensures.last c.retire-link.ensures.empty c.retire-link.ensures.holds c.retire-link.ensures.out

@@ -15,7 +15,7 @@ use Rattle.launch_crew.proofs.Retiring.{counted_of}
 use Rattle.okld_launch.specs.Children.{StaysAttended}
 use Rattle.okld_launch.proofs.Children.{stays_emptied, stays_on, stays_same}
 use Rattle.launch_crew.proofs.Ended.{attended_emptied, attended_same}
-use Rattle.okld_launch.proofs.Kin.{kin_emptied, named_at}
+use Rattle.okld_launch.proofs.KinChange.{kin_emptied, named_at}
 use Rattle.okld_launch.proofs.Kept.{kin_moved, started_emptied}
 use Rattle.okld_launch.proofs.Boots.{cleared_boots}
 use Rattle.okld_launch.proofs.Faults.{faults_emptied, faults_kept}

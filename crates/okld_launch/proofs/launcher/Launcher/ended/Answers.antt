@@ -6,7 +6,7 @@ use Rattle.okld_launch.specs.Children.{StaysAttended}
 use Rattle.okld_launch.specs.Launchers.{LauncherIs}
 use Rattle.okld_launch.proofs.Children.{stays_asked}
 use Rattle.launch_crew.proofs.Ended.{attended_asked}
-use Rattle.okld_launch.proofs.Kin.{kin_asked}
+use Rattle.okld_launch.proofs.KinChange.{kin_asked}
 use Rattle.okld_launch.proofs.Faults.{faults_asked}
 use Rattle.okld_launch.proofs.launcher.Launcher.ended.Goals as goal
 

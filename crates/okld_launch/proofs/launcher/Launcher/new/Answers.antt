@@ -2,7 +2,8 @@ use Rattle.std.proofs.Common.{◌∙◌, length, refl, ap, false}
 use Rattle.std.specs.Prelude.{replicate}
 use Rattle.okld_launch.proofs.Begins.{launcher_of, unused_kept}
 use Rattle.okld_launch.proofs.Failing.{none_failed}
-use Rattle.okld_launch.proofs.Kin.{idle_of, kin_none}
+use Rattle.okld_launch.proofs.Kin.{kin_none}
+use Rattle.okld_launch.proofs.KinChange.{idle_of}
 use Rattle.okld_launch.proofs.Caused.{unused_caused}
 use Rattle.okld_launch.proofs.Pieces.{whole_none}
 use Rattle.std.proofs.lemmas.Bool.{false≢true}

@@ -17,7 +17,7 @@ use Rattle.launch_crew.proofs.Retiring.{counted_of, go_same}
 use Rattle.okld_launch.specs.Children.{StaysAttended}
 use Rattle.okld_launch.proofs.Children.{stays_same}
 use Rattle.okws_plan.specs.declared.configuration.Config.{Config}
-use Rattle.okld_launch.proofs.Kin.{kin_tried, words_at}
+use Rattle.okld_launch.proofs.KinChange.{kin_tried, words_at}
 use Rattle.monitor_model.specs.Cell.{last_booted}
 use Rattle.cell_locks.specs.Row.{seen_at}
 use Rattle.okld_launch.specs.Kin.{Unstarted}
@@ -44,7 +44,7 @@ invariant_of-self g c = record {
 }
 
 pub returns-clause-child : goal.returns-clause-child
-returns-clause-child g c = on_ok_weaker c.start.result (λ (h : Starts c.args.service c.args.incarnation (crew_of c.self.inside.crew.recorder c.self.inside.crew.staff) (crew_of c.start.new.self.recorder c.start.new.self.staff)). subst (RunsAs c.args.incarnation) (sym h.child) refl) c.start.ensures.ok
+returns-clause-child g c = on_ok_weaker c.start.result (λ (h : Starts c.args.service c.args.incarnation (crew_of c.self.inside.crew.recorder c.self.inside.crew.staff) (crew_of c.start.new.self.recorder c.start.new.self.staff)). subst (RunsAs c.args.incarnation) (sym h.child) (refl, refl)) c.start.ensures.ok
 
 pub returns-clause-told : goal.returns-clause-told
 returns-clause-told g c = subst (λ (x : LauncherIs). TellsMore x.crew.family c.start.new.self.staff.family) c.self.view_is

@@ -32,6 +32,19 @@ last() {
     printf '%s\n' "$1" >"$folder/wanted"
 }
 
+# called LINE: keeps the last six lines that were printed, and wants this one, a blank one, and how the program is called.
+called() {
+    tail -n 6 "$folder/printed" >"$folder/last" && mv "$folder/last" "$folder/printed"
+    cat >"$folder/wanted" <<ROWS
+$1
+
+okws check CONFIG
+okws play CONFIG SCRIPT
+okws drill SEED EVENTS
+okws serve CONFIG --port PORT --serve COUNT [--doors DOORS] [--store FILE] [--log FILE] [--audit FILE]
+ROWS
+}
+
 only=${2:-}
 for script in rows/"$only"*.script; do
     row=$(basename "$script" .script)
@@ -197,13 +210,13 @@ for words in "" "play whole.okws" "check" "serve whole.okws" "--help" "Check who
     # shellcheck disable=SC2086
     run $words
     case "$words" in
-        "" | --help) last "  -h, --help  Print help" ;;
-        *) last "For more information, try '--help'." ;;
+        "" | --help) called "  -h, --help  Print help" ;;
+        *) called "For more information, try '--help'." ;;
     esac
     told "the words '$words'" 2 "$folder/wanted"
 done
 run play whole.okws $'\xff'
-last "  -h, --help  Print help"
+called "  -h, --help  Print help"
 told "a word that isn't UTF-8" 2 "$folder/wanted"
 : >"$folder/printed"
 "$okws" check whole.okws >/dev/full

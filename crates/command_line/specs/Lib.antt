@@ -4,3 +4,4 @@ pub mod Looks
 pub mod Meant
 pub mod Plain
 pub mod Asked
+pub mod Usage

@@ -1,5 +1,8 @@
 //! What is told of words that are no command.
 
+ghost use Rattle.std.specs.Prelude.{◌≡◌, ◌++◌, IfOk, string_bytes};
+ghost use Rattle.command_line.specs.Usage.{TellsUsage};
+
 use crate::command::MOST_EVENTS;
 use clap::error::ErrorKind;
 use clap::{Arg, Command, Error, value_parser};
@@ -8,6 +11,13 @@ use std::alloc::{AllocError, Global};
 
 /// Why words are no command that are one but for the spelling of a number.
 const SPELLING: &str = "a number is written in decimal digits, without sign or leading zero";
+
+/// How the program is called, which is told at the end of each answer.
+pub const USAGE: &str = "\n\
+    okws check CONFIG\n\
+    okws play CONFIG SCRIPT\n\
+    okws drill SEED EVENTS\n\
+    okws serve CONFIG --port PORT --serve COUNT [--doors DOORS] [--store FILE] [--log FILE] [--audit FILE]\n";
 
 /// The path of a file that a command needs.
 fn path<'a>(alloc: Global, name: &'a str, help: &'a str) -> Arg<'a> {
@@ -130,12 +140,27 @@ fn text_of(alloc: Global, error: &Error) -> Result<String, AllocError> {
     error.to_string(alloc)
 }
 
-/// What is told of words that are no command: the help that they ask for, or why they are none and how
-/// the program is called. Fails only where memory is refused.
-pub fn answer(alloc: Global, words: &[String]) -> Result<String, AllocError> {
+/// What `clap` tells of words that are no command: the help that they ask for, or why they are none.
+fn told(alloc: Global, words: &[String]) -> Result<String, AllocError> {
     let mut program = program(alloc)?;
     match program.try_get_matches_from_mut(words) {
         Err(error) => text_of(alloc, &error),
         Ok(_) => text_of(alloc, &program.error(ErrorKind::ValueValidation, SPELLING)?),
     }
+}
+
+/// The same text with how the program is called behind it.
+fn with_usage(mut text: String) -> Result<String, AllocError>
+    ensures { IfOk result (λ whole. string_bytes whole ≡ string_bytes text ++ USAGE.now) }
+{
+    text.push_str(USAGE)?;
+    Ok(text)
+}
+
+/// What is told of words that are no command: the help that they ask for, or why they are none, and how
+/// the program is called. Fails only where memory is refused.
+pub fn answer(alloc: Global, words: &[String]) -> Result<String, AllocError>
+    ensures { IfOk result (λ text. TellsUsage (string_bytes text)) }
+{
+    with_usage(told(alloc, words)?)
 }

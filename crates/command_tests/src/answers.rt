@@ -65,6 +65,17 @@ fn refusals_say_why(rt: HostRuntime) -> Result<(), Fail> {
     Ok(())
 }
 
+#[test]
+fn each_answer_ends_with_how_the_program_is_called(rt: HostRuntime) -> Result<(), Fail> {
+    let usage = "\nokws check CONFIG\nokws play CONFIG SCRIPT\nokws drill SEED EVENTS\n\
+        okws serve CONFIG --port PORT --serve COUNT [--doors DOORS] [--store FILE] [--log FILE] [--audit FILE]\n";
+    for line in ["", "help serve", "check", "other", "drill 01 1"] {
+        let text = told(rt.alloc(), line)?;
+        assert!(rt; text.as_str().ends_with(usage), "at {line}: {text}");
+    }
+    Ok(())
+}
+
 /// Whether `clap` takes the words of a line: all that is told of such is how numbers are written.
 fn is_taken(alloc: Global, line: &str) -> Result<bool, AllocError> {
     let text = told(alloc, line)?;

@@ -136,14 +136,14 @@ plays_whole C all text old new rose R status.NoMemory e h = (h.0, h.1, due_whole
 plays_whole C all text old new rose R _ e h = absurd h
 
 plays_files : (a b : Shelf) (config script : List ℕ) (C : Config) (text : List ℕ) (old new : Option (List ℕ)) (rose : Type 0) (R : Record) (how : Status) →
-    GivesConfig (a.held config) C × IsFrontOf (a.held script) (LONGEST_SCRIPT + 1) text × Reads a b 2 ⊥ → Plays C text old new rose R how →
+    GivesConfig (a.held config) C × IsFrontOf (a.held script) (LONGEST_SCRIPT + 1) text × Reads a b (script ∷ config ∷ []) ⊥ → Plays C text old new rose R how →
     PlaysFiles a b config script old new rose R how
 plays_files a b config script C text old new rose R how reads h =
     (C, reads.0, reads.1.0, reads.1.1, reads.2, plays_whole C reads.1.0 text old new rose R how reads.1.2 h)
 
 -- a script that was read and played
 pub played_by : (a b : Shelf) (config script : List ℕ) (C : Config) (text : List ℕ) (old new : Option (List ℕ)) (rose : Type 0) (R : Record) (how : Status) →
-    GivesConfig (a.held config) C × IsFrontOf (a.held script) (LONGEST_SCRIPT + 1) text × Reads a b 2 ⊥ → Plays C text old new rose R how →
+    GivesConfig (a.held config) C × IsFrontOf (a.held script) (LONGEST_SCRIPT + 1) text × Reads a b (script ∷ config ∷ []) ⊥ → Plays C text old new rose R how →
     Played a b config script old new rose R how
 played_by a b config script C text old new rose R status.Ok reads h = plays_files a b config script C text old new rose R status.Ok reads h
 played_by a b config script C text old new rose R status.OutFault reads h = plays_files a b config script C text old new rose R status.OutFault reads h
@@ -155,7 +155,7 @@ played_by a b config script C text old new rose R _ reads h = absurd h
 
 -- a configuration that was read and listed
 pub checked_by : (a b : Shelf) (path : List ℕ) (C : Config) (old new : Option (List ℕ)) (rose : Type 0) (how : Status) →
-    GivesConfig (a.held path) C → Reads a b 1 ⊥ → Lists C old new rose how → Checked a b path old new rose how
+    GivesConfig (a.held path) C → Reads a b (path ∷ []) ⊥ → Lists C old new rose how → Checked a b path old new rose how
 checked_by a b path C old new rose status.Ok m reads h = (C, m, reads, h)
 checked_by a b path C old new rose status.OutFault m reads h = (C, m, reads, h)
 checked_by a b path C old new rose status.NoMemory m reads h = inr (C, m, reads, h)
@@ -165,7 +165,7 @@ checked_by a b path C old new rose _ m reads h = absurd h
 
 -- a configuration that is refused
 pub refusal_checked : (a b : Shelf) (path : List ℕ) (refusal : Refusal) (old new : Option (List ℕ)) (rose : Type 0) (how : Status) →
-    IsRefusedBy (a.held path) refusal → Reads a b 1 ⊥ → TellsRefusal refusal old new rose how → Checked a b path old new rose how
+    IsRefusedBy (a.held path) refusal → Reads a b (path ∷ []) ⊥ → TellsRefusal refusal old new rose how → Checked a b path old new rose how
 refusal_checked a b path refusal old new rose status.ConfigRefused m reads h = (reads, (refusal, m, h))
 refusal_checked a b path refusal old new rose status.NoMemory m reads h = inl (reads, h)
 refusal_checked a b path refusal old new rose status.Ok m reads h = absurd h
@@ -174,7 +174,7 @@ refusal_checked a b path refusal old new rose status.ReadFault m reads h = absur
 refusal_checked a b path refusal old new rose _ m reads h = absurd h
 
 pub refusal_played : (a b : Shelf) (config script : List ℕ) (refusal : Refusal) (old new : Option (List ℕ)) (rose : Type 0) (R : Record) (how : Status) →
-    IsRefusedBy (a.held config) refusal × Reads a b 1 ⊥ → TellsRefusal refusal old new rose how → IsEmptyRecord R → Played a b config script old new rose R how
+    IsRefusedBy (a.held config) refusal × Reads a b (config ∷ []) ⊥ → TellsRefusal refusal old new rose how → IsEmptyRecord R → Played a b config script old new rose R how
 refusal_played a b config script refusal old new rose R status.ConfigRefused m h empty = (empty, m.1, (refusal, m.0, h))
 refusal_played a b config script refusal old new rose R status.NoMemory m h empty = inl (empty, inl m.1, h)
 refusal_played a b config script refusal old new rose R status.Ok m h empty = absurd h

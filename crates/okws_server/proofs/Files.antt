@@ -1,5 +1,5 @@
 -- A file that was read to one byte above its limit is judged as the whole file.
-use Rattle.std.proofs.Common.{◌≡◌, ◌∙◌, ℕ, ◌+◌, ◌≤◌, ◌<◌, List, length, take, refl, sym, arith, Bool, true, false, nat_lt, Some, ap}
+use Rattle.std.proofs.Common.{◌≡◌, ◌∙◌, ℕ, ◌+◌, ◌≤◌, ◌<◌, List, [], ◌∷◌, length, take, refl, sym, arith, Bool, true, false, nat_lt, Some, ap}
 use Rattle.std.proofs.lemmas.Bool.{ltb-true, ltb-false}
 use Rattle.std.proofs.lemmas.List.{take_all, length-take-le}
 use Rattle.std.specs.declared.option.Option.{Option}
@@ -10,7 +10,7 @@ use Rattle.config_reader.specs.Meaning.{meaning}
 use Rattle.config_reader.specs.declared.error.ConfigError.{ConfigError}
 use Rattle.config_reader.specs.declared.error.ConfigError.TheVariants as config_error
 use Rattle.config_reader.specs.Answers.{Fails}
-use Rattle.okws_outer.specs.Streams.{IsFrontOf, counted}
+use Rattle.okws_outer.specs.Streams.{IsFrontOf}
 use Rattle.okws_outer.specs.Shelf.{Shelf, Reads}
 use Rattle.okws_server.specs.Ran.{stop_of, ReadsConfig}
 use Rattle.okws_server.specs.declared.preparing.ConfigStop.{ConfigStop}
@@ -68,12 +68,12 @@ reads_whole told text (Err config_stop.NoMemory) front m = tt
 
 -- ---- one file and another
 
-pub reads_as : (a b : Shelf) (n : ℕ) (f h : Type 0) → Reads a b n f → (h → f) → Reads a b n h
-reads_as a b n f h reads is = record { held = reads.held; opened = reads.opened; faults = record { later = reads.faults.later; cause = λ x. reads.faults.cause (is x) } }
+pub reads_as : (a b : Shelf) (paths : List (List ℕ)) (f h : Type 0) → Reads a b paths f → (h → f) → Reads a b paths h
+reads_as a b paths f h reads is = record { held = reads.held; opened = reads.opened; faults = record { later = reads.faults.later; cause = λ x. reads.faults.cause (is x) } }
 
-pub reads_two : (a b c : Shelf) (f g h : Type 0) → Reads a b 1 f → Reads b c 1 g → (h → g) → Reads a c 2 h
-reads_two a b c f g h first second is = record {
+pub reads_two : (a b c : Shelf) (config script : List ℕ) (f g h : Type 0) → Reads a b (config ∷ []) f → Reads b c (script ∷ []) g → (h → g) → Reads a c (script ∷ config ∷ []) h
+reads_two a b c config script f g h first second is = record {
   held = second.held ∙ first.held;
-  opened = second.opened ∙ ap (λ n. counted n 1) first.opened ∙ omega arith;
+  opened = second.opened ∙ ap (λ (paths : List (List ℕ)). script ∷ paths) first.opened;
   faults = record { later = omega (arith, first.faults.later, second.faults.later); cause = λ x. omega (arith, first.faults.later, second.faults.cause (is x)) };
 }

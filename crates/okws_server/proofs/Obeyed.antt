@@ -1,5 +1,5 @@
 -- What is done of the words of a run, from what its parts do.
-use Rattle.std.proofs.Common.{◌≡◌, ℕ, List, refl, sym, subst, inl, inr, Some, None}
+use Rattle.std.proofs.Common.{◌≡◌, ℕ, List, [], ◌∷◌, refl, sym, subst, inl, inr, Some, None}
 use Rattle.std.specs.declared.option.Option.{Option}
 use Rattle.command_line.specs.Asked.{Asked, Serving, asked}
 use Rattle.okws_outer.specs.Conns.{ConnWire}
@@ -19,12 +19,12 @@ use Rattle.okws_server.proofs.Commands.{asked_within}
 
 -- ---- a server
 
-file_by : {X : Type 0} (wire : X → ConnWire) (tells : Type 0) (server : Serving) (a b : View) (C : Config) (R : Record) (how : Status) → GivesConfig ((a.shelf).held server.config) C → Reads a.shelf b.shelf 1 ⊥ →
+file_by : {X : Type 0} (wire : X → ConnWire) (tells : Type 0) (server : Serving) (a b : View) (C : Config) (R : Record) (how : Status) → GivesConfig ((a.shelf).held server.config) C → Reads a.shelf b.shelf (server.config ∷ []) ⊥ →
     ServesConfig wire tells server C a.seed a.gear b.gear a.given b.given (Rose a.faults b.faults) R how → ServesFile wire tells server a b R how
 file_by wire tells server a b C R how m reads h = record { config = C; gives = m; reads = reads; serves = h }
 
 -- a configuration that was read and served
-pub file_served : {X : Type 0} (wire : X → ConnWire) (tells : Type 0) (server : Serving) (a b : View) (C : Config) (R : Record) (how : Status) → GivesConfig ((a.shelf).held server.config) C → Reads a.shelf b.shelf 1 ⊥ →
+pub file_served : {X : Type 0} (wire : X → ConnWire) (tells : Type 0) (server : Serving) (a b : View) (C : Config) (R : Record) (how : Status) → GivesConfig ((a.shelf).held server.config) C → Reads a.shelf b.shelf (server.config ∷ []) ⊥ →
     ServesConfig wire tells server C a.seed a.gear b.gear a.given b.given (Rose a.faults b.faults) R how → Served wire tells server a b R how
 file_served wire tells server a b C R status.Ok m reads h = file_by wire tells server a b C R status.Ok m reads h
 file_served wire tells server a b C R status.OutFault m reads h = file_by wire tells server a b C R status.OutFault m reads h
@@ -39,7 +39,7 @@ file_served wire tells server a b C R status.ConfigRefused m reads h = absurd h.
 file_served wire tells server a b C R _ m reads h = absurd h.ends
 
 -- a configuration that is refused
-pub refusal_served : {X : Type 0} (wire : X → ConnWire) (tells : Type 0) (server : Serving) (a b : View) (refusal : Refusal) (R : Record) (how : Status) → IsRefusedBy ((a.shelf).held server.config) refusal → Reads a.shelf b.shelf 1 ⊥ →
+pub refusal_served : {X : Type 0} (wire : X → ConnWire) (tells : Type 0) (server : Serving) (a b : View) (refusal : Refusal) (R : Record) (how : Status) → IsRefusedBy ((a.shelf).held server.config) refusal → Reads a.shelf b.shelf (server.config ∷ []) ⊥ →
     b.gear ≡ a.gear → TellsRefusal refusal a.given b.given (Rose a.faults b.faults) how → IsEmptyRecord R → Served wire tells server a b R how
 refusal_served wire tells server a b refusal R status.ConfigRefused m reads gear h empty = (empty, reads, gear, (refusal, m, h))
 refusal_served wire tells server a b refusal R status.NoMemory m reads gear h empty = inl (reads, gear, record { empty = empty; told = h })
@@ -55,19 +55,20 @@ refusal_served wire tells server a b refusal R _ m reads gear h empty = absurd h
 
 -- ---- the words
 
-says_none : {X : Type 0} (wire : X → ConnWire) (tells : Type 0) (a b : View) (R : Record) (how : Status) → IsEmptyRecord R → b.shelf ≡ a.shelf → b.gear ≡ a.gear → Says a.given b.given (Rose a.faults b.faults) how → Obeys wire tells None a b R how
-says_none wire tells a b R status.Usage empty shelf gear h = inr (refl, empty, shelf, gear, h.0, h.1)
-says_none wire tells a b R status.NoMemory empty shelf gear h = inl (refl, empty, shelf, gear, h)
-says_none wire tells a b R _ empty shelf gear h = absurd h
+says_none : {X : Type 0} (wire : X → ConnWire) (tells : Type 0) (a b : View) (R : Record) (how : Status) → b.seed ≡ a.seed → IsEmptyRecord R → b.shelf ≡ a.shelf → b.gear ≡ a.gear → Says a.given b.given (Rose a.faults b.faults) how →
+    Obeys wire tells None a b R how
+says_none wire tells a b R status.Usage seed empty shelf gear h = (seed, inr (refl, empty, shelf, gear, h.0, h.1, h.2))
+says_none wire tells a b R status.NoMemory seed empty shelf gear h = (seed, inl (refl, empty, shelf, gear, h))
+says_none wire tells a b R _ seed empty shelf gear h = absurd h
 
 -- words that are no command are answered
-pub says_obeys : {X : Type 0} (wire : X → ConnWire) (tells : Type 0) (o : Option Asked) (a b : View) (R : Record) (how : Status) → None ≡ o → IsEmptyRecord R → b.shelf ≡ a.shelf → b.gear ≡ a.gear →
+pub says_obeys : {X : Type 0} (wire : X → ConnWire) (tells : Type 0) (o : Option Asked) (a b : View) (R : Record) (how : Status) → None ≡ o → b.seed ≡ a.seed → IsEmptyRecord R → b.shelf ≡ a.shelf → b.gear ≡ a.gear →
     Says a.given b.given (Rose a.faults b.faults) how → Obeys wire tells o a b R how
-says_obeys wire tells o a b R how e empty shelf gear h = subst (λ x. Obeys wire tells x a b R how) e (says_none wire tells a b R how empty shelf gear h)
+says_obeys wire tells o a b R how e seed empty shelf gear h = subst (λ x. Obeys wire tells x a b R how) e (says_none wire tells a b R how seed empty shelf gear h)
 
 -- what they ask for is done
-pub does_obey : {X : Type 0} (wire : X → ConnWire) (tells : Type 0) (o : Option Asked) (asks : Asked) (a b : View) (R : Record) (how : Status) → Some asks ≡ o → Does wire tells (Some asks) a b R how → Obeys wire tells o a b R how
-does_obey wire tells o asks a b R how e h = subst (λ x. Obeys wire tells x a b R how) e (inr h)
+pub does_obey : {X : Type 0} (wire : X → ConnWire) (tells : Type 0) (o : Option Asked) (asks : Asked) (a b : View) (R : Record) (how : Status) → Some asks ≡ o → b.seed ≡ a.seed → Does wire tells (Some asks) a b R how → Obeys wire tells o a b R how
+does_obey wire tells o asks a b R how e seed h = subst (λ x. Obeys wire tells x a b R how) e (seed, inr h)
 
 -- what they ask for is within what may be
 pub words_within : (words : List (List ℕ)) (asks : Asked) → Some asks ≡ asked words → IsWithin asks

@@ -2,6 +2,7 @@
 use Rattle.std.specs.Prelude.{◌≡◌, ◌⊎◌, ◌≤◌, ⊤, ℕ, List, None, Some}
 use Rattle.std.specs.declared.option.Option.{Option}
 use Rattle.command_line.specs.Asked.{Asked, Checks, Drills, Plays, Serves}
+use Rattle.command_line.specs.Usage.{TellsUsage}
 use Rattle.okws_outer.specs.Conns.{ConnWire}
 use Rattle.okws_outer.specs.Streams.{Rose}
 use Rattle.monitor_model.specs.declared.record.Record.{Record}
@@ -19,13 +20,13 @@ use Rattle.okws_server.specs.declared.status.Status.TheVariants as status
 abbrev pub IsStarved : View → View → Record → Status → Type 0
 IsStarved a b R how = (how ≡ status.NoMemory) × IsEmptyRecord R × (b.shelf ≡ a.shelf) × (b.gear ≡ a.gear) × Told a.given b.given no_memory_line (Rose a.faults b.faults)
 
--- The words are no command: some text says how the program is called, and nothing was opened or started.
+-- The words are no command: a text was told that ends with how the program is called, and nothing was opened or started.
 abbrev pub IsAnswered : View → View → Record → Status → Type 0
-IsAnswered a b R how = (how ≡ status.Usage) × IsEmptyRecord R × (b.shelf ≡ a.shelf) × (b.gear ≡ a.gear) × (text : List ℕ) × Told a.given b.given text (Rose a.faults b.faults)
+IsAnswered a b R how = (how ≡ status.Usage) × IsEmptyRecord R × (b.shelf ≡ a.shelf) × (b.gear ≡ a.gear) × (text : List ℕ) × TellsUsage text × Told a.given b.given text (Rose a.faults b.faults)
 
--- The words are no command, and some text says how the program is called; unless memory was refused.
+-- The words are no command, and a text was told that ends with how the program is called; unless memory was refused.
 abbrev pub Says : Option (List ℕ) → Option (List ℕ) → Type 0 → Status → Type 0
-Says old new rose status.Usage = (text : List ℕ) × Told old new text rose
+Says old new rose status.Usage = (text : List ℕ) × TellsUsage text × Told old new text rose
 Says old new rose status.NoMemory = Told old new no_memory_line rose
 Says old new rose _ = ⊥
 
@@ -37,9 +38,9 @@ Does wire tells (Some (Plays config script)) a b R how = (b.gear ≡ a.gear) × 
 Does wire tells (Some (Drills number events)) a b R how = (b.shelf ≡ a.shelf) × (b.gear ≡ a.gear) × Drilled number events a.given b.given (Rose a.faults b.faults) R how
 Does wire tells (Some (Serves server)) a b R how = ServesWords wire tells server a b R how
 
--- What a run does that these words ask for: memory may be refused before anything is read.
+-- What a run does that these words ask for, at whose end the seed is as it was: memory may be refused before anything is read.
 abbrev pub Obeys : {X : Type 0} → (X → ConnWire) → Type 0 → Option Asked → View → View → Record → Status → Type 0
-Obeys wire tells asked a b R how = IsStarved a b R how ⊎ Does wire tells asked a b R how
+Obeys wire tells asked a b R how = (b.seed ≡ a.seed) × (IsStarved a b R how ⊎ Does wire tells asked a b R how)
 
 -- What is asked for is within what may be: a drill's events, a server's doors and connections.
 abbrev pub IsWithin : Asked → Type 0

@@ -1,5 +1,5 @@
 -- What a run answers, and what it gives to out.
-use Rattle.std.specs.Prelude.{◌≡◌, ◌⊎◌, ⊤, ℕ, ◌+◌, Bool, List, [], ◌++◌, Result, Ok, Err, Some, None, replicate, if◌then◌else◌}
+use Rattle.std.specs.Prelude.{◌≡◌, ◌⊎◌, ⊤, ℕ, ◌+◌, Bool, List, [], ◌∷◌, ◌++◌, Result, Ok, Err, Some, None, replicate, if◌then◌else◌}
 use Rattle.std.specs.declared.alloc.AllocError.{AllocError}
 use Rattle.std.specs.Io.KnownBytes.{Appends}
 use Rattle.std.specs.declared.option.Option.{Option}
@@ -73,16 +73,17 @@ ReadsConfig told (Err config_stop.NoMemory) = ⊤
 -- ---- the files in their order
 
 -- The first file alone was opened, or, where it gives a configuration, the second one too; and this fault is counted.
-abbrev pub ReadsInOrder : Shelf → Shelf → List ℕ → Type 0 → Type 0
-ReadsInOrder before after config fault = Reads before after 1 fault ⊎ (((C : Config) × GivesConfig (before.held config) C) × Reads before after 2 fault)
+abbrev pub ReadsInOrder : Shelf → Shelf → List ℕ → List ℕ → Type 0 → Type 0
+ReadsInOrder before after config script fault =
+    Reads before after (config ∷ []) fault ⊎ (((C : Config) × GivesConfig (before.held config) C) × Reads before after (script ∷ config ∷ []) fault)
 
 -- What is known before a script is played.
 abbrev pub IsPrepared : Shelf → Shelf → List ℕ → List ℕ → Result Prepared Stop → Type 0
 IsPrepared before after config script (Ok both) =
-    GivesConfig (before.held config) both.config × IsFrontOf (before.held script) (LONGEST_SCRIPT + 1) both.script.items × Reads before after 2 ⊥
-IsPrepared before after config script (Err stop.ReadFault) = ReadsInOrder before after config ⊤
-IsPrepared before after config script (Err (stop.Refused refusal)) = IsRefusedBy (before.held config) refusal × Reads before after 1 ⊥
-IsPrepared before after config script (Err stop.NoMemory) = ReadsInOrder before after config ⊥
+    GivesConfig (before.held config) both.config × IsFrontOf (before.held script) (LONGEST_SCRIPT + 1) both.script.items × Reads before after (script ∷ config ∷ []) ⊥
+IsPrepared before after config script (Err stop.ReadFault) = ReadsInOrder before after config script ⊤
+IsPrepared before after config script (Err (stop.Refused refusal)) = IsRefusedBy (before.held config) refusal × Reads before after (config ∷ []) ⊥
+IsPrepared before after config script (Err stop.NoMemory) = ReadsInOrder before after config script ⊥
 
 -- ---- check
 
@@ -95,16 +96,16 @@ Lists C old new out_rose _ = ⊥
 
 -- A configuration that the file gives is listed.
 abbrev pub ListsFile : Shelf → Shelf → List ℕ → Option (List ℕ) → Option (List ℕ) → Type 0 → Status → Type 0
-ListsFile before after path old new out_rose how = (C : Config) × GivesConfig (before.held path) C × Reads before after 1 ⊥ × Lists C old new out_rose how
+ListsFile before after path old new out_rose how = (C : Config) × GivesConfig (before.held path) C × Reads before after (path ∷ []) ⊥ × Lists C old new out_rose how
 
 -- What `check` answers and gives: `old` and `new` were given to out before and after, and `out_rose` says that its count of faults rose.
 abbrev pub Checked : Shelf → Shelf → List ℕ → Option (List ℕ) → Option (List ℕ) → Type 0 → Status → Type 0
 Checked before after path old new out_rose status.Ok = ListsFile before after path old new out_rose status.Ok
 Checked before after path old new out_rose status.OutFault = ListsFile before after path old new out_rose status.OutFault
-Checked before after path old new out_rose status.ConfigRefused = Reads before after 1 ⊥ × RefusesConfig (before.held path) old new out_rose
-Checked before after path old new out_rose status.ReadFault = Reads before after 1 ⊤ × Told old new read_fault_line out_rose
+Checked before after path old new out_rose status.ConfigRefused = Reads before after (path ∷ []) ⊥ × RefusesConfig (before.held path) old new out_rose
+Checked before after path old new out_rose status.ReadFault = Reads before after (path ∷ []) ⊤ × Told old new read_fault_line out_rose
 Checked before after path old new out_rose status.NoMemory =
-    (Reads before after 1 ⊥ × Told old new no_memory_line out_rose) ⊎ ListsFile before after path old new out_rose status.NoMemory
+    (Reads before after (path ∷ []) ⊥ × Told old new no_memory_line out_rose) ⊎ ListsFile before after path old new out_rose status.NoMemory
 Checked before after path old new out_rose _ = ⊥
 
 -- ---- play
@@ -133,15 +134,15 @@ Plays C text old new out_rose R _ = ⊥
 -- A script that its file gives is played by the configuration that its file gives.
 abbrev pub PlaysFiles : Shelf → Shelf → List ℕ → List ℕ → Option (List ℕ) → Option (List ℕ) → Type 0 → Record → Status → Type 0
 PlaysFiles before after config script old new out_rose R how =
-    (C : Config) × GivesConfig (before.held config) C × (text : List ℕ) × Tells (before.held script) text × Reads before after 2 ⊥ × Plays C text old new out_rose R how
+    (C : Config) × GivesConfig (before.held config) C × (text : List ℕ) × Tells (before.held script) text × Reads before after (script ∷ config ∷ []) ⊥ × Plays C text old new out_rose R how
 
 -- What `play` answers and gives, and the record that it leaves: `old` and `new` were given to out before and after, and `out_rose` says that its count of faults rose.
 abbrev pub Played : Shelf → Shelf → List ℕ → List ℕ → Option (List ℕ) → Option (List ℕ) → Type 0 → Record → Status → Type 0
 Played before after config script old new out_rose R status.Ok = PlaysFiles before after config script old new out_rose R status.Ok
 Played before after config script old new out_rose R status.OutFault = PlaysFiles before after config script old new out_rose R status.OutFault
 Played before after config script old new out_rose R status.ScriptRefused = PlaysFiles before after config script old new out_rose R status.ScriptRefused
-Played before after config script old new out_rose R status.ConfigRefused = IsEmptyRecord R × Reads before after 1 ⊥ × RefusesConfig (before.held config) old new out_rose
-Played before after config script old new out_rose R status.ReadFault = IsEmptyRecord R × ReadsInOrder before after config ⊤ × Told old new read_fault_line out_rose
+Played before after config script old new out_rose R status.ConfigRefused = IsEmptyRecord R × Reads before after (config ∷ []) ⊥ × RefusesConfig (before.held config) old new out_rose
+Played before after config script old new out_rose R status.ReadFault = IsEmptyRecord R × ReadsInOrder before after config script ⊤ × Told old new read_fault_line out_rose
 Played before after config script old new out_rose R status.NoMemory =
-    (IsEmptyRecord R × ReadsInOrder before after config ⊥ × Told old new no_memory_line out_rose) ⊎ PlaysFiles before after config script old new out_rose R status.NoMemory
+    (IsEmptyRecord R × ReadsInOrder before after config script ⊥ × Told old new no_memory_line out_rose) ⊎ PlaysFiles before after config script old new out_rose R status.NoMemory
 Played before after config script old new out_rose R _ = ⊥

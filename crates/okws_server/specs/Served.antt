@@ -1,6 +1,7 @@
 -- What a server answers, and what it does with the objects of its run.
 use Rattle.std.specs.Prelude.{◌≡◌, ◌<◌, ◌≤◌, ◌⊎◌, ⊤, ℕ, ◌+◌, Bool, true, false, ◌||◌, List, [], ◌∷◌, ◌++◌, codes, length, map, replicate, IsSome, is_some, option_map}
 use Rattle.std.specs.Io.KnownBytes.{Appends}
+use Rattle.std.specs.List.{list_any}
 use Rattle.std.specs.declared.option.Option.{Option}
 use Rattle.std.specs.declared.option.Option.TheVariants.{Some, None}
 use Rattle.okws_base.specs.declared.limit.TheConstants.{MOST_CONNECTIONS, MOST_DOORS}
@@ -14,10 +15,11 @@ use Rattle.okws_outer.specs.Racks.{Rack, Misses, with_opened, with_closed}
 use Rattle.okws_outer.specs.Shelf.{Reads}
 use Rattle.okws_outer.specs.Streams.{AppendsPrefix, Rose}
 use Rattle.okws_plan.specs.declared.configuration.Config.{Config}
+use Rattle.okws_plan.specs.declared.configuration.ProxyPlan.{ProxyPlan}
 use Rattle.monitor_model.specs.declared.record.Record.{Record}
 use Rattle.site_making.specs.Keepers.{KeeperIs, AreKeepers, are_steady}
 use Rattle.site_making.specs.Making.{IsServable}
-use Rattle.stored_site.specs.Depots.{Beside, GivesBack, HasAsked, HasFailed, with_starts}
+use Rattle.stored_site.specs.Depots.{Beside, GivesBack, GivesKept, HasAsked, HasFailed, with_starts}
 use Rattle.stored_site.specs.Sites.{SitesAreAlike}
 use Rattle.okws_serve.specs.Runs.{Runs, StartIs}
 use Rattle.okws_serve.specs.declared.outfit.Ran.{Ran}
@@ -78,10 +80,10 @@ abbrev pub IsSited : Type 0 → Option (List ℕ) → Config → Config → Type
 IsSited tells None C site = site ≡ C
 IsSited tells (Some file) C site = SitesAreAlike site C × (tells → site ≡ C)
 
--- The keepers of so many proxies were made of the file of rows, where one is asked for.
-abbrev pub Opens : Option (List ℕ) → ℕ → Depot → Depot → Type 0
-Opens None n a b = b ≡ a
-Opens (Some file) n a b = b ≡ with_starts file n a
+-- The keepers of these proxies were made of the file of rows, where one is asked for, for their tables.
+abbrev pub Opens : Option (List ℕ) → List ProxyPlan → Depot → Depot → Type 0
+Opens None plans a b = b ≡ a
+Opens (Some file) plans a b = b ≡ with_starts file plans a
 
 -- Keepers as they are given back tell what is told of them.
 abbrev pub AreBeside : List KeeperIs → List Beside → Type 0
@@ -90,19 +92,24 @@ AreBeside [] (x ∷ besides) = ⊥
 AreBeside (k ∷ keepers) [] = ⊥
 AreBeside (k ∷ keepers) (x ∷ besides) = (x.faults ≡ k.faults) × (x.told ≡ k.told) × AreBeside keepers besides
 
--- The stores of these keepers were given back, which had counted at least their faults; where one tells its rows these are its keeper's, unless the two have parted.
-abbrev pub Closes : Option (List ℕ) → List KeeperIs → Depot → Depot → Type 0
-Closes None keepers a b = b ≡ a
-Closes (Some file) keepers a b = (besides : List Beside) × AreBeside keepers besides × GivesBack besides a b
+-- The stores of these keepers were given back, which had counted at least their faults; where one tells its rows these are its keeper's, unless the two have parted. `lost` says whether one of them has; with rows in memory none has.
+abbrev pub Closes : Option (List ℕ) → List KeeperIs → Bool → Depot → Depot → Type 0
+Closes None keepers lost a b = (lost ≡ false) × (b ≡ a)
+Closes (Some file) keepers lost a b = (besides : List Beside) × AreBeside keepers besides × (lost ≡ list_any (λ x. x.parted) besides) × GivesBack besides a b
 
--- The stores were not asked for anything; or, where rows in files are asked for, keepers of so many proxies were made of that file, or of some of the first of them, and some were given back.
-abbrev pub Asks : Option (List ℕ) → ℕ → Depot → Depot → Type 0
-Asks None n a b = b ≡ a
-Asks (Some file) n a b = HasAsked file n a b
+-- The stores of these proxies' keepers were given back as they were made, one of each.
+abbrev pub Returns : Option (List ℕ) → List ProxyPlan → Depot → Depot → Type 0
+Returns None plans a b = b ≡ a
+Returns (Some file) plans a b = GivesKept plans a b
+
+-- The stores were not asked for anything; or, where rows in files are asked for, keepers of these proxies were made of that file, or of some of the first of them, and the store of each was given back as it was made.
+abbrev pub Asks : Option (List ℕ) → List ProxyPlan → Depot → Depot → Type 0
+Asks None plans a b = b ≡ a
+Asks (Some file) plans a b = HasAsked file plans a b
 
 -- The same, and no making failed.
-pub record Spares (store : Option (List ℕ)) (n : ℕ) (a b : Depot) : Type 0 where
-  pub asks : Asks store n a b
+pub record Spares (store : Option (List ℕ)) (plans : List ProxyPlan) (a b : Depot) : Type 0 where
+  pub asks : Asks store plans a b
   pub faults : b.faults ≡ a.faults
 
 -- ---- a run
@@ -130,14 +137,19 @@ pub record IsUntouched (server : Serving) (a b : Gear) : Type 0 where
   pub gear : b ≡ record (shut server a) { rack = b.rack }
   pub log : LogUnused server.log a.rack b.rack
 
--- No run began over keepers of a site's rows: the server's doors were asked for and not opened, or they were opened and closed.
-abbrev pub NeverRan : Serving → Gear → Gear → Type 0
-NeverRan server a b = (b ≡ listened server a) ⊎ IsUntouched server (listened server a) b
+-- No run began over keepers of a site's rows, and these are left of them: the server's doors were asked for and not opened, and all keepers are left as they were; or the doors were opened and closed, and no keeper is left.
+abbrev pub NeverRan : {K : Type 0} → Serving → Gear → Gear → List K → List K → Type 0
+NeverRan server a b keepers left = ((b ≡ listened server a) × (left ≡ keepers)) ⊎ (IsUntouched server (listened server a) b × (left ≡ []))
 
--- No run began: nothing was touched but the stores, and the server's doors if all of them stood open. No making of a keeper failed.
+-- No run began, and the server's doors were not opened: they were asked for or not, and nothing else was touched but the stores. What was made of these was given back as it was made, and no making of a keeper failed.
 pub record IsSpared (server : Serving) (C : Config) (a b : Gear) : Type 0 where
-  pub gear : (b ≡ record a { depot = b.depot }) ⊎ NeverRan server a (record b { depot = a.depot })
-  pub depot : Spares server.store (length C.proxies) a.depot b.depot
+  pub gear : (b ≡ record a { depot = b.depot }) ⊎ (b ≡ record (listened server a) { depot = b.depot })
+  pub depot : Spares server.store C.proxies a.depot b.depot
+
+-- No run began over doors that were opened and closed: the keepers that had been made of the stores were lost, and none was given back.
+pub record LosesKeepers (server : Serving) (C : Config) (a b : Gear) : Type 0 where
+  pub gear : IsUntouched server (listened server a) (record b { depot = a.depot })
+  pub depot : Opens server.store C.proxies a.depot b.depot
 
 -- A site that can be served, and keepers of its rows.
 pub record IsStock (C : Config) (keepers : List KeeperIs) : Type 0 where
@@ -186,28 +198,28 @@ pub record RanAt {X : Type 0} (wire : X → ConnWire) (server : Serving) (C : Co
 pub record RanFrom {X : Type 0} (wire : X → ConnWire) (server : Serving) (C : Config) (seed : List ℕ) (a b : Gear) (keepers : List KeeperIs) (ran : Ran) (missed : Bool) : Type 0 where
   pub at : RanAt wire server C seed (record a { net = with_listened server a.net }) b keepers ran missed
 
--- The same with the stores opened for it and given back, whose keepers had counted at least the faults of those over which it ran.
-pub record HasServed {X : Type 0} (wire : X → ConnWire) (tells : Type 0) (server : Serving) (C : Config) (seed : List ℕ) (a b : Gear) (ran : Ran) (missed : Bool) : Type 0 where
+-- The same with the stores opened for it and given back, whose keepers had counted at least the faults of those over which it ran; `lost` says whether one of them had parted from its keeper.
+pub record HasServed {X : Type 0} (wire : X → ConnWire) (tells : Type 0) (server : Serving) (C : Config) (seed : List ℕ) (a b : Gear) (ran : Ran) (missed lost : Bool) : Type 0 where
   pub site : Config
   pub sited : IsSited tells server.store C site
   pub depot : Depot
-  pub opened : Opens server.store (length C.proxies) a.depot depot
+  pub opened : Opens server.store C.proxies a.depot depot
   pub keepers : List KeeperIs
   pub from : RanFrom wire server site seed (record a { depot = depot }) (record b { depot = depot }) keepers ran missed
-  pub closed : Closes server.store keepers depot b.depot
+  pub closed : Closes server.store keepers lost depot b.depot
 
--- How a run ends, and what is printed at its end: its counts, and a last line where the log or, else, the console failed. Where memory was refused, that alone.
-abbrev pub EndsAs : Ran → Bool → Option (List ℕ) → Option (List ℕ) → Type 0 → Status → Type 0
-EndsAs ran missed old new rose status.Ok =
-    (ran.starved ≡ false) × ((missed || ran.log_failed) ≡ false) × (ran.console_failed ≡ false) × Appends old new (counts_text ran.counts)
-EndsAs ran missed old new rose status.OutFault =
-    (ran.starved ≡ false) × ((missed || ran.log_failed) ≡ false) × (ran.console_failed ≡ false) × rose × AppendsPrefix old new (counts_text ran.counts)
-EndsAs ran missed old new rose status.LogFault =
-    (ran.starved ≡ false) × ((missed || ran.log_failed) ≡ true) × Told old new (counts_text ran.counts ++ log_fault_line) rose
-EndsAs ran missed old new rose status.ConsoleFault =
-    (ran.starved ≡ false) × ((missed || ran.log_failed) ≡ false) × (ran.console_failed ≡ true) × Told old new (counts_text ran.counts ++ console_fault_line) rose
-EndsAs ran missed old new rose status.NoMemory = (ran.starved ≡ true) × Told old new no_memory_line rose
-EndsAs ran missed old new rose _ = ⊥
+-- How a run ends, and what is printed at its end: its counts, and a last line where the log or, else, the console failed. Where memory was refused to the run, or a store has parted from its keeper, that alone.
+abbrev pub EndsAs : Ran → Bool → Bool → Option (List ℕ) → Option (List ℕ) → Type 0 → Status → Type 0
+EndsAs ran missed lost old new rose status.Ok =
+    ((ran.starved || lost) ≡ false) × ((missed || ran.log_failed) ≡ false) × (ran.console_failed ≡ false) × Appends old new (counts_text ran.counts)
+EndsAs ran missed lost old new rose status.OutFault =
+    ((ran.starved || lost) ≡ false) × ((missed || ran.log_failed) ≡ false) × (ran.console_failed ≡ false) × rose × AppendsPrefix old new (counts_text ran.counts)
+EndsAs ran missed lost old new rose status.LogFault =
+    ((ran.starved || lost) ≡ false) × ((missed || ran.log_failed) ≡ true) × Told old new (counts_text ran.counts ++ log_fault_line) rose
+EndsAs ran missed lost old new rose status.ConsoleFault =
+    ((ran.starved || lost) ≡ false) × ((missed || ran.log_failed) ≡ false) × (ran.console_failed ≡ true) × Told old new (counts_text ran.counts ++ console_fault_line) rose
+EndsAs ran missed lost old new rose status.NoMemory = ((ran.starved || lost) ≡ true) × Told old new no_memory_line rose
+EndsAs ran missed lost old new rose _ = ⊥
 
 -- A run that never began did nothing but to tell this line.
 pub record Tells (old new : Option (List ℕ)) (line : List ℕ) (rose : Type 0) (R : Record) : Type 0 where
@@ -220,60 +232,56 @@ pub record MissesDoors (server : Serving) (a b : Gear) : Type 0 where
   pub net : b.net ≡ record (with_listened server a.net) { faults = (b.net).faults }
   pub rose : Rose (a.net).faults (b.net).faults
 
--- The same but for the stores, which were opened and given back with the rows that they had.
-pub record MissesPort (tells : Type 0) (server : Serving) (C : Config) (a b : Gear) : Type 0 where
-  pub site : Config
-  pub sited : IsSited tells server.store C site
+-- The same but for the stores, which were opened and given back as they were made.
+pub record MissesPort (server : Serving) (C : Config) (a b : Gear) : Type 0 where
   pub depot : Depot
-  pub opened : Opens server.store (length C.proxies) a.depot depot
+  pub opened : Opens server.store C.proxies a.depot depot
   pub doors : MissesDoors server (record a { depot = depot }) (record b { depot = depot })
-  pub keepers : List KeeperIs
-  pub many : length keepers ≡ length C.proxies
-  pub keepers_are : AreKeepers site 0 keepers
-  pub closed : Closes server.store keepers depot b.depot
+  pub closed : Returns server.store C.proxies depot b.depot
 
--- A keeper of rows could not be made of the file that is asked for, which was counted, and nothing but the stores was touched.
+-- A keeper of rows could not be made of the file that is asked for, which was counted, and nothing but the stores was touched; what was made of these was given back as it was made.
 pub record MissesStore (server : Serving) (C : Config) (a b : Gear) : Type 0 where
   pub wanted : IsSome server.store
   pub gear : b ≡ record a { depot = b.depot }
-  pub asked : Asks server.store (length C.proxies) a.depot b.depot
+  pub asked : Asks server.store C.proxies a.depot b.depot
   pub failed : HasFailed a.depot b.depot
 
--- A site whose stores are open was served, and left these keepers: the record is the run's, which ended so.
-pub record ServesFrom {X : Type 0} (wire : X → ConnWire) (server : Serving) (C : Config) (seed : List ℕ) (a b : Gear) (keepers : List KeeperIs) (old new : Option (List ℕ)) (rose : Type 0) (R : Record) (how : Status) : Type 0 where
+-- A site whose stores are open was served, and left these keepers; `lost` says whether one of them has parted from its store: the record is the run's, which ended so.
+pub record ServesFrom {X : Type 0} (wire : X → ConnWire) (server : Serving) (C : Config) (seed : List ℕ) (a b : Gear) (keepers : List KeeperIs) (lost : Bool) (old new : Option (List ℕ)) (rose : Type 0) (R : Record) (how : Status) : Type 0 where
   pub ran : Ran
   pub missed : Bool
   pub from : RanFrom wire server C seed a b keepers ran missed
   pub record_is : R ≡ ran.record
-  pub ends : EndsAs ran missed old new rose how
+  pub ends : EndsAs ran missed lost old new rose how
 
 -- A site was served: the record is the run's, which ended so.
 pub record ServesSite {X : Type 0} (wire : X → ConnWire) (tells : Type 0) (server : Serving) (C : Config) (seed : List ℕ) (a b : Gear) (old new : Option (List ℕ)) (rose : Type 0) (R : Record) (how : Status) : Type 0 where
   pub ran : Ran
   pub missed : Bool
-  pub served : HasServed wire tells server C seed a b ran missed
+  pub lost : Bool
+  pub served : HasServed wire tells server C seed a b ran missed lost
   pub record_is : R ≡ ran.record
-  pub ends : EndsAs ran missed old new rose how
+  pub ends : EndsAs ran missed lost old new rose how
 
--- The same over doors that are open, which left these keepers, unless memory was refused before the run began, where none was left.
-abbrev pub ServesOpen : {X : Type 0} → (X → ConnWire) → Serving → Config → List ℕ → Gear → Gear → List KeeperIs → Option (List ℕ) → Option (List ℕ) → Type 0 → Record → Status → Type 0
-ServesOpen wire server C seed a b keepers old new rose R how =
-    ((how ≡ status.NoMemory) × IsUntouched server a b × (keepers ≡ []) × Tells old new no_memory_line rose R)
-    ⊎ ((ran : Ran) × (missed : Bool) × RanAt wire server C seed a b keepers ran missed × (R ≡ ran.record) × EndsAs ran missed old new rose how)
+-- The same over doors that are open, which left these keepers, of each of which it is told what it is and whether it has parted from its store; unless memory was refused before the run began, where none was left.
+abbrev pub ServesOpen : {X K : Type 0} → (X → ConnWire) → Serving → Config → List ℕ → Gear → Gear → (K → KeeperIs) → (K → Bool) → List K → Option (List ℕ) → Option (List ℕ) → Type 0 → Record → Status → Type 0
+ServesOpen wire server C seed a b what parted left old new rose R how =
+    ((how ≡ status.NoMemory) × IsUntouched server a b × (left ≡ []) × Tells old new no_memory_line rose R)
+    ⊎ ((ran : Ran) × (missed : Bool) × RanAt wire server C seed a b (map what left) ran missed × (R ≡ ran.record) × EndsAs ran missed (list_any parted left) old new rose how)
 
--- What is done of a site over keepers of its rows, and which of them are left: its doors could not be opened; or memory was refused before the run began; or it was served.
-abbrev pub ServesOver : {X : Type 0} → (X → ConnWire) → Serving → Config → List ℕ → Gear → Gear → List KeeperIs → List KeeperIs → Option (List ℕ) → Option (List ℕ) → Type 0 → Record → Status → Type 0
-ServesOver wire server C seed a b keepers left old new rose R status.NetFault = MissesDoors server a b × (left ≡ keepers) × Tells old new net_fault_line rose R
-ServesOver wire server C seed a b keepers left old new rose R status.NoMemory =
-    (NeverRan server a b × (length left ≤ length keepers) × Tells old new no_memory_line rose R) ⊎ ServesFrom wire server C seed a b left old new rose R status.NoMemory
-ServesOver wire server C seed a b keepers left old new rose R how = ServesFrom wire server C seed a b left old new rose R how
+-- What is done of a site over these keepers of its rows, of each of which it is told what it is and whether it has parted from its store, and which of them are left: its doors could not be opened; or memory was refused before the run began; or it was served.
+abbrev pub ServesOver : {X K : Type 0} → (X → ConnWire) → Serving → Config → List ℕ → Gear → Gear → (K → KeeperIs) → (K → Bool) → List K → List K → Option (List ℕ) → Option (List ℕ) → Type 0 → Record → Status → Type 0
+ServesOver wire server C seed a b what parted keepers left old new rose R status.NetFault = MissesDoors server a b × (left ≡ keepers) × Tells old new net_fault_line rose R
+ServesOver wire server C seed a b what parted keepers left old new rose R status.NoMemory =
+    (NeverRan server a b keepers left × Tells old new no_memory_line rose R) ⊎ ServesFrom wire server C seed a b (map what left) (list_any parted left) old new rose R status.NoMemory
+ServesOver wire server C seed a b what parted keepers left old new rose R how = ServesFrom wire server C seed a b (map what left) (list_any parted left) old new rose R how
 
 -- What is done of a site that was read: its stores or its doors could not be opened; or memory was refused before the run began; or it was served.
 abbrev pub ServesConfig : {X : Type 0} → (X → ConnWire) → Type 0 → Serving → Config → List ℕ → Gear → Gear → Option (List ℕ) → Option (List ℕ) → Type 0 → Record → Status → Type 0
 ServesConfig wire tells server C seed a b old new rose R status.StoreFault = MissesStore server C a b × Tells old new store_fault_line rose R
-ServesConfig wire tells server C seed a b old new rose R status.NetFault = MissesPort tells server C a b × Tells old new net_fault_line rose R
+ServesConfig wire tells server C seed a b old new rose R status.NetFault = MissesPort server C a b × Tells old new net_fault_line rose R
 ServesConfig wire tells server C seed a b old new rose R status.NoMemory =
-    (IsSpared server C a b × Tells old new no_memory_line rose R) ⊎ ServesSite wire tells server C seed a b old new rose R status.NoMemory
+    ((IsSpared server C a b ⊎ LosesKeepers server C a b) × Tells old new no_memory_line rose R) ⊎ ServesSite wire tells server C seed a b old new rose R status.NoMemory
 ServesConfig wire tells server C seed a b old new rose R how = ServesSite wire tells server C seed a b old new rose R how
 
 -- ---- the answers
@@ -282,7 +290,7 @@ ServesConfig wire tells server C seed a b old new rose R how = ServesSite wire t
 pub record ServesFile {X : Type 0} (wire : X → ConnWire) (tells : Type 0) (server : Serving) (a b : View) (R : Record) (how : Status) : Type 0 where
   pub config : Config
   pub gives : GivesConfig ((a.shelf).held server.config) config
-  pub reads : Reads a.shelf b.shelf 1 ⊥
+  pub reads : Reads a.shelf b.shelf (server.config ∷ []) ⊥
   pub serves : ServesConfig wire tells server config a.seed a.gear b.gear a.given b.given (Rose a.faults b.faults) R how
 
 -- A file of the record is asked for.
@@ -293,11 +301,11 @@ WantsAudit server = is_some server.audit ≡ true
 abbrev pub Served : {X : Type 0} → (X → ConnWire) → Type 0 → Serving → View → View → Record → Status → Type 0
 Served wire tells server a b R status.Usage =
     WantsAudit server × (b.shelf ≡ a.shelf) × (b.gear ≡ a.gear) × Tells a.given b.given NOT_YET.now (Rose a.faults b.faults) R
-Served wire tells server a b R status.ReadFault = Reads a.shelf b.shelf 1 (⊤) × (b.gear ≡ a.gear) × Tells a.given b.given read_fault_line (Rose a.faults b.faults) R
+Served wire tells server a b R status.ReadFault = Reads a.shelf b.shelf (server.config ∷ []) (⊤) × (b.gear ≡ a.gear) × Tells a.given b.given read_fault_line (Rose a.faults b.faults) R
 Served wire tells server a b R status.ConfigRefused =
-    IsEmptyRecord R × Reads a.shelf b.shelf 1 ⊥ × (b.gear ≡ a.gear) × RefusesConfig ((a.shelf).held server.config) a.given b.given (Rose a.faults b.faults)
+    IsEmptyRecord R × Reads a.shelf b.shelf (server.config ∷ []) ⊥ × (b.gear ≡ a.gear) × RefusesConfig ((a.shelf).held server.config) a.given b.given (Rose a.faults b.faults)
 Served wire tells server a b R status.NoMemory =
-    (Reads a.shelf b.shelf 1 ⊥ × (b.gear ≡ a.gear) × Tells a.given b.given no_memory_line (Rose a.faults b.faults) R) ⊎ ServesFile wire tells server a b R status.NoMemory
+    (Reads a.shelf b.shelf (server.config ∷ []) ⊥ × (b.gear ≡ a.gear) × Tells a.given b.given no_memory_line (Rose a.faults b.faults) R) ⊎ ServesFile wire tells server a b R status.NoMemory
 Served wire tells server a b R status.Ok = ServesFile wire tells server a b R status.Ok
 Served wire tells server a b R status.StoreFault = ServesFile wire tells server a b R status.StoreFault
 Served wire tells server a b R status.NetFault = ServesFile wire tells server a b R status.NetFault

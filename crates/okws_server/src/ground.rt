@@ -7,7 +7,7 @@ ghost use Rattle.okws_plan.specs.Sound.{IsSound};
 ghost use Rattle.config_reader.specs.Ruled.{AreRuled};
 ghost use Rattle.site_making.specs.Keepers.{AreKeepers, IsKeeper, are_steady, keeper_of};
 ghost use Rattle.stored_site.specs.Depots.{HasAsked, HasFailed, with_starts};
-ghost use Rattle.stored_site.specs.Sites.{AllTell, SitesAreAlike};
+ghost use Rattle.stored_site.specs.Sites.{AllTell, HaveFirstRows, SitesAreAlike};
 ghost use Rattle.okws_server.specs.Served.{IsStock};
 
 use index_keeper::IndexKeeper;
@@ -81,7 +81,8 @@ pub fn stock_of(alloc: Global, config: Config) -> Result<Stock<IndexKeeper>, All
 }
 
 /// A site that was read, with the rows that its stores have, and the keepers of these rows, made by the numbers
-/// of the proxies. Where one can't be made, those that were are given back.
+/// of the proxies. The stores keep the rows that they have, and where one can't be made those that were are
+/// given back so.
 pub fn stored_stock<S: Stores>(
     alloc: Global,
     stores: &mut S,
@@ -93,8 +94,9 @@ pub fn stored_stock<S: Stores>(
     ensures stock { IfOk result (λ s. IsStock (arc_value s.site) (map (keeper_of ⟦<StoredKeeper<S::Keeper> as Keeper>⟧.tables ⟦<StoredKeeper<S::Keeper> as Keeper>⟧.told ⟦<StoredKeeper<S::Keeper> as Keeper>⟧.faults ⟦<StoredKeeper<S::Keeper> as Keeper>⟧.steady) s.keepers.items)) }
     ensures alike { IfOk result (λ s. SitesAreAlike (arc_value s.site) config) }
     ensures same { IfOk result (λ s. AllTell S.Keeper.told → arc_value s.site ≡ config) }
-    ensures made { IfOk result (λ _. S.depot stores.new ≡ with_starts file.now (length config.proxies) (S.depot stores.old)) }
-    ensures asked { OnErr result (HasAsked file.now (length config.proxies) (S.depot stores.old) (S.depot stores.new)) }
+    ensures held { IfOk result (λ s. HaveFirstRows config.proxies (map (λ k. S.Keeper.told k.store) s.keepers.items)) }
+    ensures made { IfOk result (λ _. S.depot stores.new ≡ with_starts file.now config.proxies (S.depot stores.old)) }
+    ensures asked { OnErr result (HasAsked file.now config.proxies (S.depot stores.old) (S.depot stores.new)) }
     ensures failed { IsErrOf result MakeError.Failed → HasFailed (S.depot stores.old) (S.depot stores.new) }
     ensures spared { IsErrOf result MakeError.NoMemory → (S.depot stores.new).faults ≡ (S.depot stores.old).faults }
 {

@@ -1,6 +1,6 @@
 //! The files of a run, read and judged before anything of them is done.
 
-ghost use Rattle.std.specs.Prelude.{◌≡◌, IfOk, IsErrOf, Some};
+ghost use Rattle.std.specs.Prelude.{◌≡◌, [], ◌∷◌, IfOk, IsErrOf, Some};
 ghost use Rattle.okws_plan.specs.Sound.{IsSound};
 ghost use Rattle.okws_outer.specs.Shelf.{Reads};
 ghost use Rattle.config_reader.specs.Ruled.{AreRuled};
@@ -52,7 +52,7 @@ pub fn read_config<F: Files>(alloc: Global, files: &mut F, path: &str) -> Result
     ensures is { ReadsConfig ((F.shelf files.old).held path.now) result }
     ensures sound { IfOk result IsSound }
     ensures rules { IfOk result AreRuled }
-    ensures reads { Reads (F.shelf files.old) (F.shelf files.new) 1 (IsErrOf result ConfigStop.ReadFault) }
+    ensures reads { Reads (F.shelf files.old) (F.shelf files.new) (path.now ∷ []) (IsErrOf result ConfigStop.ReadFault) }
 {
     match read_file(alloc, files, path, LONGEST_CONFIGURATION) {
         Err(ReadError::NoMemory) => Err(ConfigStop::NoMemory),

@@ -2,6 +2,7 @@
 
 ghost use Rattle.std.specs.Prelude.{◌≡◌, ◌||◌, IsSome, None, Some, is_some, map, true};
 ghost use Rattle.std.specs.Arc.{arc_value};
+ghost use Rattle.std.specs.List.{list_any};
 ghost use Rattle.okws_plan.specs.Sound.{IsSound};
 ghost use Rattle.config_reader.specs.Ruled.{AreRuled};
 ghost use Rattle.okws_outer.specs.Streams.{Rose};
@@ -57,12 +58,27 @@ fn lacks_log(ran: &Ran, missed: bool) -> bool
     missed || ran.log_failed
 }
 
-// Prints the counts of a run, and the last line of one that ends with a fault; answers how it ends.
-fn print_end<O: Sink>(out: &mut O, ran: &Ran, missed: bool) -> Status
-    ensures { EndsAs ran.now missed (O.given out.old) (O.given out.new) (Rose (O.faults out.old) (O.faults out.new)) result }
+// Whether a store has parted from the keeper that has its rows.
+fn has_lost<K: Keeper>(keepers: &[K]) -> bool
+    ensures { result ≡ list_any K.parted keepers.now }
+{
+    keepers.iter().any(|keeper| keeper.has_parted())
+}
+
+// Whether memory was refused to a run, or a store has parted from its keeper, which is want of memory too.
+fn lacks_memory(ran: &Ran, lost: bool) -> bool
+    ensures { result ≡ (ran.now.starved || lost) }
+{
+    ran.starved || lost
+}
+
+// Prints the counts of a run, and the last line of one that ends with a fault, or no more than that memory was
+// refused; answers how it ends.
+fn print_end<O: Sink>(out: &mut O, ran: &Ran, missed: bool, lost: bool) -> Status
+    ensures { EndsAs ran.now missed lost (O.given out.old) (O.given out.new) (Rose (O.faults out.old) (O.faults out.new)) result }
 {
     let mut stopped = false;
-    if ran.starved {
+    if lacks_memory(ran, lost) {
         print(out, &mut stopped, NO_MEMORY);
         return Status::NoMemory;
     }
@@ -110,19 +126,19 @@ where
     K: Keeper + Send + Drop,
     K::Pin: Send,
     requires { IsGround (serving_of server.now) (arc_value ground.stock.site) (map (keeper_of K.tables K.told K.faults K.steady) ground.stock.keepers.items) (map E.Network.Door.entrance ground.doors.items) }
-    ensures { ServesOpen E.Network.Door.Conn.wire (serving_of server.now) (arc_value ground.stock.site) ground.seed (gear_of E.Network.net E.Children.family E.Console.wire E.Stores.depot E.Sinks.rack things) (gear_of E.Network.net E.Children.family E.Console.wire E.Stores.depot E.Sinks.rack result.0.2) (map (keeper_of K.tables K.told K.faults K.steady) result.1.items) (O.given out.old) (O.given out.new) (Rose (O.faults out.old) (O.faults out.new)) result.0.1 result.0.0 }
+    ensures { ServesOpen E.Network.Door.Conn.wire (serving_of server.now) (arc_value ground.stock.site) ground.seed (gear_of E.Network.net E.Children.family E.Console.wire E.Stores.depot E.Sinks.rack things) (gear_of E.Network.net E.Children.family E.Console.wire E.Stores.depot E.Sinks.rack result.0.2) (keeper_of K.tables K.told K.faults K.steady) K.parted result.1.items (O.given out.old) (O.given out.new) (Rose (O.faults out.old) (O.faults out.new)) result.0.1 result.0.0 }
 {
     let (things, ran, missed, keepers) = serve_doors::<R, E, K>(rt, alloc, server, ground, things);
     let Some(ran) = ran else {
         let ended = refused::<O, E>(alloc, out, NO_MEMORY, Status::NoMemory, things);
         return (ended, Vec::new(alloc));
     };
-    let status = print_end(out, &ran, missed);
+    let status = print_end(out, &ran, missed, has_lost(&keepers));
     ((status, ran.record, things), keepers)
 }
 
-// Serves a site over keepers of its rows: its doors are opened. The keepers come back, but where memory was
-// refused.
+// Serves a site over keepers of its rows: its doors are opened. The keepers come back, as they were where no
+// run began; but none does where memory was refused once the doors were open.
 fn serve_stock<R, O, E, K>(
     rt: &R,
     alloc: Global,
@@ -141,7 +157,7 @@ where
     requires stock { IsStock (arc_value stock.site) (map (keeper_of K.tables K.told K.faults K.steady) stock.keepers.items) }
     requires steady { (serving_of server.now).store ≡ None → are_steady (map (keeper_of K.tables K.told K.faults K.steady) stock.keepers.items) ≡ true }
     requires words { IsServing (serving_of server.now) }
-    ensures { ServesOver E.Network.Door.Conn.wire (serving_of server.now) (arc_value stock.site) seed (gear_of E.Network.net E.Children.family E.Console.wire E.Stores.depot E.Sinks.rack things) (gear_of E.Network.net E.Children.family E.Console.wire E.Stores.depot E.Sinks.rack result.0.2) (map (keeper_of K.tables K.told K.faults K.steady) stock.keepers.items) (map (keeper_of K.tables K.told K.faults K.steady) result.1.items) (O.given out.old) (O.given out.new) (Rose (O.faults out.old) (O.faults out.new)) result.0.1 result.0.0 }
+    ensures { ServesOver E.Network.Door.Conn.wire (serving_of server.now) (arc_value stock.site) seed (gear_of E.Network.net E.Children.family E.Console.wire E.Stores.depot E.Sinks.rack things) (gear_of E.Network.net E.Children.family E.Console.wire E.Stores.depot E.Sinks.rack result.0.2) (keeper_of K.tables K.told K.faults K.steady) K.parted stock.keepers.items result.1.items (O.given out.old) (O.given out.new) (Rose (O.faults out.old) (O.faults out.new)) result.0.1 result.0.0 }
 {
     match things.network.listen(alloc, server.port, server.doors) {
         Ok(doors) => {
@@ -178,7 +194,7 @@ where
     requires stock { IsStock (arc_value stock.site) (map (keeper_of ⟦<StoredKeeper<K> as Keeper>⟧.tables ⟦<StoredKeeper<K> as Keeper>⟧.told ⟦<StoredKeeper<K> as Keeper>⟧.faults ⟦<StoredKeeper<K> as Keeper>⟧.steady) stock.keepers.items) }
     requires stores { IsSome (serving_of server.now).store }
     requires words { IsServing (serving_of server.now) }
-    ensures { ServesOver E.Network.Door.Conn.wire (serving_of server.now) (arc_value stock.site) seed (gear_of E.Network.net E.Children.family E.Console.wire E.Stores.depot E.Sinks.rack things) (gear_of E.Network.net E.Children.family E.Console.wire E.Stores.depot E.Sinks.rack result.0.2) (map (keeper_of ⟦<StoredKeeper<K> as Keeper>⟧.tables ⟦<StoredKeeper<K> as Keeper>⟧.told ⟦<StoredKeeper<K> as Keeper>⟧.faults ⟦<StoredKeeper<K> as Keeper>⟧.steady) stock.keepers.items) (map (keeper_of ⟦<StoredKeeper<K> as Keeper>⟧.tables ⟦<StoredKeeper<K> as Keeper>⟧.told ⟦<StoredKeeper<K> as Keeper>⟧.faults ⟦<StoredKeeper<K> as Keeper>⟧.steady) result.1.items) (O.given out.old) (O.given out.new) (Rose (O.faults out.old) (O.faults out.new)) result.0.1 result.0.0 }
+    ensures { ServesOver E.Network.Door.Conn.wire (serving_of server.now) (arc_value stock.site) seed (gear_of E.Network.net E.Children.family E.Console.wire E.Stores.depot E.Sinks.rack things) (gear_of E.Network.net E.Children.family E.Console.wire E.Stores.depot E.Sinks.rack result.0.2) (keeper_of ⟦<StoredKeeper<K> as Keeper>⟧.tables ⟦<StoredKeeper<K> as Keeper>⟧.told ⟦<StoredKeeper<K> as Keeper>⟧.faults ⟦<StoredKeeper<K> as Keeper>⟧.steady) ⟦<StoredKeeper<K> as Keeper>⟧.parted stock.keepers.items result.1.items (O.given out.old) (O.given out.new) (Rose (O.faults out.old) (O.faults out.new)) result.0.1 result.0.0 }
 {
     serve_stock::<R, O, E, StoredKeeper<K>>(rt, alloc, server, stock, seed, out, things)
 }

@@ -13,7 +13,7 @@ use Rattle.okws_plan.specs.declared.configuration.Config.{Config}
 use Rattle.okws_plan.specs.declared.configuration.ProxyPlan.{ProxyPlan}
 use Rattle.okws_plan.specs.declared.configuration.Table.{Table}
 use Rattle.store_keeper.specs.Alike.{bare, AreAlike, HasRows}
-use Rattle.stored_site.specs.Sites.{bare_plan, rows_of_plan, AreOf, SitesAreAlike}
+use Rattle.stored_site.specs.Sites.{bare_plan, rows_of_plan, AreOf, HasFirstRows, HaveFirstRows, SitesAreAlike}
 
 -- the plans behind those that were opened are as they were
 pub plans_next : (old done plans next : List ProxyPlan) (at : ℕ) (p q : ProxyPlan) → plans ≡ done ++ drop at old → length done ≡ at → at < length old → next ≡ slice_set plans at q → next ≡ (done ++ q ∷ []) ++ drop (at + 1) old
@@ -75,7 +75,12 @@ get_or_any [] at p q below = absurd (omega (arith, below))
 get_or_any (x ∷ xs) zero p q below = refl
 get_or_any (x ∷ xs) (suc at) p q below = get_or_any xs at p q (omega (arith, below))
 
--- the next proxy is sound
+-- the next proxy is the site's
+pub opened_here : {K : Type 0} (tables : K → List Table) (told : K → Option (List (List (List Value)))) (tells : Type 0) (old plans : List ProxyPlan) (at : ℕ) (ks : List K) (p : ProxyPlan) → at < length old → p ≡ get_or plans at p →
+    IsOpened tables told tells old plans at ks → p ≡ get_or old at p
+opened_here tables told tells old plans at ks p below there h = plan_at old h.done plans at p h.parts h.many below there
+
+-- it is sound
 pub opened_sound : {K : Type 0} (tables : K → List Table) (told : K → Option (List (List (List Value)))) (tells : Type 0) (old plans : List ProxyPlan) (at : ℕ) (ks : List K) (p : ProxyPlan) → list_all is_sound_plan old ≡ true → at < length old →
     p ≡ get_or plans at p → IsOpened tables told tells old plans at ks → is_sound_plan p ≡ true
 opened_sound tables told tells old plans at ks p all below there h = plan_sound old at p all below (plan_at old h.done plans at p h.parts h.many below there)
@@ -96,13 +101,31 @@ opened_next tables told tells old plans next at p q ts ks more k below there aga
       keepers = areof_next tables told h.done ks more k (record p { tables = ts }) more_is t d h.keepers;
     }
 
+-- the store of a proxy more stands as it was made
+first_push : (plans : List ProxyPlan) (tolds : List (Option (List (List (List Value))))) (plan : ProxyPlan) (told : Option (List (List (List Value)))) → HaveFirstRows plans tolds → HasFirstRows plan told → HaveFirstRows (plans ++ plan ∷ []) (tolds ++ told ∷ [])
+first_push [] [] plan told h one = (one, tt)
+first_push [] (t ∷ tolds) plan told h one = absurd h
+first_push (p ∷ plans) [] plan told h one = absurd h
+first_push (p ∷ plans) (t ∷ tolds) plan told h one = (h.0, first_push plans tolds plan told h.1 one)
+
+pub first_next : {K : Type 0} (held : K → Option (List (List (List Value)))) (old : List ProxyPlan) (at : ℕ) (p : ProxyPlan) (ks more : List K) (k : K) → at < length old → p ≡ get_or old at p → more ≡ ks ++ k ∷ [] → HasFirstRows p (held k) →
+    HaveFirstRows (take at old) (map held ks) → HaveFirstRows (take (at + 1) old) (map held more)
+first_next held old at p ks more k below mine is one h =
+    subst (λ (xs : List ProxyPlan). HaveFirstRows xs (map held more)) (sym (take_more old at p below))
+    (subst (λ (ts : List (Option (List (List (List Value))))). HaveFirstRows (take at old ++ get_or old at p ∷ []) ts) (sym (ap (map held) is ∙ map-append held ks (k ∷ [])))
+    (first_push (take at old) (map held ks) (get_or old at p) (held k) h (subst (λ (x : ProxyPlan). HasFirstRows x (held k)) mine one)))
+
 drop_all : (xs : List ProxyPlan) → drop (length xs) xs ≡ []
 drop_all [] = refl
 drop_all (x ∷ xs) = drop_all xs
 
-take_all : (xs : List ProxyPlan) → take (length xs) xs ≡ xs
+pub take_all : (xs : List ProxyPlan) → take (length xs) xs ≡ xs
 take_all [] = refl
 take_all (x ∷ xs) = ap (λ (ys : List ProxyPlan). x ∷ ys) (take_all xs)
+
+-- those of all stand so
+pub first_all : (old : List ProxyPlan) (at : ℕ) (tolds : List (Option (List (List (List Value))))) → at ≡ length old → HaveFirstRows (take at old) tolds → HaveFirstRows old tolds
+first_all old at tolds end h = subst (λ (ps : List ProxyPlan). HaveFirstRows ps tolds) (ap (λ (n : ℕ). take n old) end ∙ take_all old) h
 
 nothing_behind : (xs : List ProxyPlan) → xs ++ [] ≡ xs
 nothing_behind [] = refl

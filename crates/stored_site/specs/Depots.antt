@@ -1,36 +1,44 @@
 -- What a run asks of its stores, and gives back to them.
-use Rattle.std.specs.Prelude.{◌≡◌, ◌≤◌, ◌⊎◌, ℕ, zero, suc, Bool, false, List, [], ◌∷◌, ◌++◌, length}
+use Rattle.std.specs.Prelude.{◌≡◌, ◌≤◌, ◌⊎◌, ℕ, suc, Bool, false, List, [], ◌∷◌, ◌++◌, length, take}
 use Rattle.std.specs.declared.option.Option.{Option}
 use Rattle.okws_base.specs.declared.value.Value.{Value}
 use Rattle.okws_outer.specs.Depots.{Depot}
 use Rattle.okws_outer.specs.Streams.{Rose}
 use Rattle.okws_outer.specs.declared.stores.KeeperEnd.{KeeperEnd}
 use Rattle.okws_outer.specs.declared.stores.KeeperStart.{KeeperStart}
+use Rattle.okws_plan.specs.declared.configuration.ProxyPlan.{ProxyPlan}
 use Rattle.store_keeper.specs.Alike.{HasRows}
+use Rattle.stored_site.specs.Sites.{HasFirstRows}
 
--- The making of a keeper of each of the first n proxies for a file, the last one first.
-abbrev pub starts : List ℕ → ℕ → List KeeperStart
-starts file zero = []
-starts file (suc n) = record { file = file; proxy = n } ∷ starts file n
+-- The making of a proxy's keeper for a file.
+abbrev pub start_of : List ℕ → ℕ → ProxyPlan → KeeperStart
+start_of file p plan = record { file = file; proxy = p; tables = plan.tables }
 
--- The keepers of so many proxies were made.
-abbrev pub with_starts : List ℕ → ℕ → Depot → Depot
-with_starts file n depot = record depot { made = starts file n ++ depot.made }
+-- The makings of the keepers of these proxies, which have the numbers from p on, for a file, the last one first.
+abbrev pub starts : List ℕ → ℕ → List ProxyPlan → List KeeperStart
+starts file p [] = []
+starts file p (plan ∷ plans) = starts file (suc p) plans ++ start_of file p plan ∷ []
 
--- A keeper beside a store as it is given back: how many faults it has counted, the rows that it tells, and whether the two have parted.
+-- The keepers of these proxies were made, for their tables.
+abbrev pub with_starts : List ℕ → List ProxyPlan → Depot → Depot
+with_starts file plans depot = record depot { made = starts file 0 plans ++ depot.made }
+
+-- A keeper beside a store as it is given back: how many faults it has counted, the rows that it tells and those that its store tells, and whether the two have parted.
 pub record Beside : Type 0 where
   pub faults : ℕ
   pub told : Option (List (List (List Value)))
+  pub held : Option (List (List (List Value)))
   pub parted : Bool
 
 -- What a keeper is as it is given back, by what its type tells of it.
-abbrev pub beside_of : {K : Type 0} → (K → ℕ) → (K → Option (List (List (List Value)))) → (K → Bool) → K → Beside
-beside_of faults told parted k = record { faults = faults k; told = told k; parted = parted k }
+abbrev pub beside_of : {K : Type 0} → (K → ℕ) → (K → Option (List (List (List Value)))) → (K → Bool) → (K → Option (List (List (List Value)))) → K → Beside
+beside_of faults told parted held k = record { faults = faults k; told = told k; held = held k; parted = parted k }
 
--- The store of a keeper is that of proxy p, and had counted at least its faults; where it tells its rows these are the keeper's, unless the two have parted.
+-- The store of a keeper is that of proxy p, and had counted at least its faults; the rows that it tells are those that it told beside the keeper, and the keeper's, unless the two have parted.
 pub record IsEnd (p : ℕ) (k : Beside) (e : KeeperEnd) : Type 0 where
   pub proxy_is : e.proxy ≡ p
   pub faults : k.faults ≤ e.faults
+  pub held : e.rows ≡ k.held
   pub rows : k.parted ≡ false → HasRows e.rows k.told
 
 -- These are of the proxies from p on, one of each.
@@ -48,6 +56,26 @@ pub record GivesBack (keepers : List Beside) (a b : Depot) : Type 0 where
   pub made : b.made ≡ a.made
   pub faults : b.faults ≡ a.faults
 
+-- The store of a proxy is given back as it was made: it is that of proxy p, and where it tells its rows these are those with which the proxy's tables begin.
+pub record IsKept (p : ℕ) (plan : ProxyPlan) (e : KeeperEnd) : Type 0 where
+  pub proxy_is : e.proxy ≡ p
+  pub rows : HasFirstRows plan e.rows
+
+-- These are of the first ones of these proxies, which have the numbers from p on, one of each.
+abbrev pub AreKept : ℕ → List KeeperEnd → List ProxyPlan → Type 0
+AreKept p [] plans = Unit {0}
+AreKept p (e ∷ es) [] = ⊥
+AreKept p (e ∷ es) (plan ∷ plans) = IsKept p plan e × AreKept (suc p) es plans
+
+-- The stores of these proxies were given back as they were made, one of each, and nothing else was done.
+pub record GivesKept (plans : List ProxyPlan) (a b : Depot) : Type 0 where
+  pub ends : List KeeperEnd
+  pub finished : b.finished ≡ ends ++ a.finished
+  pub all : length ends ≡ length plans
+  pub kept : AreKept 0 ends plans
+  pub made : b.made ≡ a.made
+  pub faults : b.faults ≡ a.faults
+
 -- A keeper was given back which had counted a fault.
 pub record HasFaulty (a b : Depot) : Type 0 where
   pub front : List KeeperEnd
@@ -60,19 +88,15 @@ pub record HasFaulty (a b : Depot) : Type 0 where
 abbrev pub HasFailed : Depot → Depot → Type 0
 HasFailed a b = Rose a.faults b.faults ⊎ HasFaulty a b
 
--- Of the keepers of the proxies, those of the first ones were made for the file, at most so many; of these some were given back, the first ones; and nothing else was asked.
-pub record HasAsked (file : List ℕ) (most : ℕ) (a b : Depot) : Type 0 where
-  pub count : ℕ
-  pub few : count ≤ most
-  pub made : b.made ≡ starts file count ++ a.made
+-- Of the keepers of these proxies, those of the first ones were made for the file and their tables, and the store of each that was made was given back as it was made; and nothing else was asked.
+pub record HasAsked (file : List ℕ) (plans : List ProxyPlan) (a b : Depot) : Type 0 where
   pub ends : List KeeperEnd
+  pub made : b.made ≡ starts file 0 (take (length ends) plans) ++ a.made
   pub finished : b.finished ≡ ends ++ a.finished
-  pub keepers : List Beside
-  pub whose : AreEnds 0 keepers ends
-  pub back : length keepers ≤ count
+  pub kept : AreKept 0 ends plans
 
--- The keeper of a proxy could not be made for the file; or it was made, and given back at once.
-abbrev pub HasTried : List ℕ → ℕ → Depot → Depot → Type 0
-HasTried file p a b =
+-- The keeper of a proxy could not be made for the file; or its store was made, and given back as it was made.
+abbrev pub HasTried : List ℕ → ℕ → ProxyPlan → Depot → Depot → Type 0
+HasTried file p plan a b =
     ((b.made ≡ a.made) × (b.finished ≡ a.finished))
-    ⊎ ((e : KeeperEnd) × (e.proxy ≡ p) × (b.made ≡ record { file = file; proxy = p } ∷ a.made) × (b.finished ≡ e ∷ a.finished))
+    ⊎ ((e : KeeperEnd) × IsKept p plan e × (b.made ≡ start_of file p plan ∷ a.made) × (b.finished ≡ e ∷ a.finished))

@@ -1,5 +1,5 @@
 -- Sites with the rows that stores have, and keepers of these rows.
-use Rattle.std.specs.Prelude.{◌≡◌, List, Option, Some, IsSome, map}
+use Rattle.std.specs.Prelude.{◌≡◌, List, [], ◌∷◌, Option, Some, IfSome, IsSome, map}
 use Rattle.okws_base.specs.declared.value.Value.{Value}
 use Rattle.okws_plan.specs.declared.configuration.Config.{Config}
 use Rattle.okws_plan.specs.declared.configuration.ProxyPlan.{ProxyPlan}
@@ -21,6 +21,17 @@ SitesAreAlike some others = bare_site some ≡ bare_site others
 -- The rows with which a proxy's tables begin.
 abbrev pub rows_of_plan : ProxyPlan → List (List (List Value))
 rows_of_plan plan = map (λ (t : Table). t.first) plan.tables
+
+-- Where a store tells its rows, these are those with which the proxy's tables begin.
+abbrev pub HasFirstRows : ProxyPlan → Option (List (List (List Value))) → Type 0
+HasFirstRows plan told = IfSome told (λ rows. rows ≡ rows_of_plan plan)
+
+-- The same of the stores of these proxies, one of each.
+abbrev pub HaveFirstRows : List ProxyPlan → List (Option (List (List (List Value)))) → Type 0
+HaveFirstRows [] [] = Unit {0}
+HaveFirstRows [] (told ∷ tolds) = ⊥
+HaveFirstRows (plan ∷ plans) [] = ⊥
+HaveFirstRows (plan ∷ plans) (told ∷ tolds) = HasFirstRows plan told × HaveFirstRows plans tolds
 
 -- The keepers of these proxies, by what is told of them: each was made for a proxy's tables, and tells their first rows.
 pub record AreOf (plans : List ProxyPlan) (tables : List (List Table)) (told : List (Option (List (List (List Value))))) : Type 0 where

@@ -1,12 +1,12 @@
 //! The rows of a site's stores.
 
-ghost use Rattle.std.specs.Prelude.{◌≡◌, Some, true, map, length, IfOk, IfErr, IsErrOf, IsSome, OnErr};
+ghost use Rattle.std.specs.Prelude.{◌≡◌, Some, true, map, IfOk, IfErr, IsErrOf, IsSome, OnErr};
 ghost use Rattle.okws_plan.specs.Sound.{IsSound, is_sound_plan};
 ghost use Rattle.okws_outer.specs.Depots.{IsNewKeeper, with_made};
 ghost use Rattle.okws_outer.specs.Streams.{Rose};
 ghost use Rattle.store_keeper.specs.Alike.{AreAlike};
 ghost use Rattle.stored_site.specs.Depots.{HasAsked, HasFailed, HasTried, with_starts};
-ghost use Rattle.stored_site.specs.Sites.{AllTell, AreOf, SitesAreAlike};
+ghost use Rattle.stored_site.specs.Sites.{AllTell, AreOf, HasFirstRows, HaveFirstRows, SitesAreAlike};
 
 use crate::giving::give_back;
 use okws_base::items::Items;
@@ -44,7 +44,7 @@ fn refusal(error: RunError) -> MakeError
     }
 }
 
-// The rows of a new store, in memory beside it.
+// The rows of a new store, in memory beside it. The store keeps them.
 fn beside<K: Keeper>(
     alloc: Global,
     mut store: K,
@@ -57,6 +57,8 @@ fn beside<K: Keeper>(
     ensures same { IfOk result (λ o. IsSome (K.told store) → o.tables.items ≡ plan.now.tables) }
     ensures tables { IfOk result (λ o. ⟦<StoredKeeper<K> as Keeper>⟧.tables o.keeper ≡ o.tables.items) }
     ensures told { IfOk result (λ o. ⟦<StoredKeeper<K> as Keeper>⟧.told o.keeper ≡ Some (map (λ t. t.first) o.tables.items)) }
+    ensures held { IfOk result (λ o. K.told o.keeper.store ≡ K.told store) }
+    ensures back { IfErr result (λ e. K.told e.1 ≡ K.told store) }
     ensures failed { IfErr result (λ e. e.0 ≡ MakeError.Failed → Rose 0 (K.faults e.1)) }
 {
     let tables = match read_tables(alloc, &mut store, plan.tables.as_slice()) {
@@ -69,7 +71,8 @@ fn beside<K: Keeper>(
     }
 }
 
-// The rows of a proxy's store, in memory beside it. Where they could not be read the store is given back.
+// The rows of a proxy's store, in memory beside it. Where they could not be read the store is given back with
+// them.
 fn open_proxy<S: Stores>(
     alloc: Global,
     stores: &mut S,
@@ -82,8 +85,9 @@ fn open_proxy<S: Stores>(
     ensures same { IfOk result (λ o. AllTell S.Keeper.told → o.tables.items ≡ plan.now.tables) }
     ensures tables { IfOk result (λ o. ⟦<StoredKeeper<S::Keeper> as Keeper>⟧.tables o.keeper ≡ o.tables.items) }
     ensures told { IfOk result (λ o. ⟦<StoredKeeper<S::Keeper> as Keeper>⟧.told o.keeper ≡ Some (map (λ t. t.first) o.tables.items)) }
-    ensures made { IfOk result (λ _. S.depot stores.new ≡ with_made file.now proxy (S.depot stores.old)) }
-    ensures tried { OnErr result (HasTried file.now proxy (S.depot stores.old) (S.depot stores.new)) }
+    ensures held { IfOk result (λ o. HasFirstRows plan.now (S.Keeper.told o.keeper.store)) }
+    ensures made { IfOk result (λ _. S.depot stores.new ≡ with_made file.now proxy plan.now.tables (S.depot stores.old)) }
+    ensures tried { OnErr result (HasTried file.now proxy plan.now (S.depot stores.old) (S.depot stores.new)) }
     ensures failed { IsErrOf result MakeError.Failed → HasFailed (S.depot stores.old) (S.depot stores.new) }
     ensures spared { IsErrOf result MakeError.NoMemory → (S.depot stores.new).faults ≡ (S.depot stores.old).faults }
 {
@@ -98,7 +102,7 @@ fn open_proxy<S: Stores>(
 }
 
 /// Makes the keepers of a site's rows over stores in a file, by the proxies' numbers. Where one can't be made,
-/// those that were are given back.
+/// those that were are given back. The stores keep the rows that they have.
 pub fn open_site<S: Stores>(
     alloc: Global,
     stores: &mut S,
@@ -109,8 +113,9 @@ pub fn open_site<S: Stores>(
     ensures alike { IfOk result (λ s. SitesAreAlike s.config config) }
     ensures same { IfOk result (λ s. AllTell S.Keeper.told → s.config ≡ config) }
     ensures keepers { IfOk result (λ s. AreOf s.config.proxies (map ⟦<StoredKeeper<S::Keeper> as Keeper>⟧.tables s.keepers.items) (map ⟦<StoredKeeper<S::Keeper> as Keeper>⟧.told s.keepers.items)) }
-    ensures made { IfOk result (λ _. S.depot stores.new ≡ with_starts file.now (length config.proxies) (S.depot stores.old)) }
-    ensures asked { OnErr result (HasAsked file.now (length config.proxies) (S.depot stores.old) (S.depot stores.new)) }
+    ensures held { IfOk result (λ s. HaveFirstRows config.proxies (map (λ k. S.Keeper.told k.store) s.keepers.items)) }
+    ensures made { IfOk result (λ _. S.depot stores.new ≡ with_starts file.now config.proxies (S.depot stores.old)) }
+    ensures asked { OnErr result (HasAsked file.now config.proxies (S.depot stores.old) (S.depot stores.new)) }
     ensures failed { IsErrOf result MakeError.Failed → HasFailed (S.depot stores.old) (S.depot stores.new) }
     ensures spared { IsErrOf result MakeError.NoMemory → (S.depot stores.new).faults ≡ (S.depot stores.old).faults }
 {

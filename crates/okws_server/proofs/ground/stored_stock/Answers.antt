@@ -1,11 +1,10 @@
-use Rattle.std.proofs.Common.{◌≤◌, arith, length, map}
+use Rattle.std.proofs.Common.{◌≤◌, arith, length}
 use Rattle.std.specs.Arc.{arc_value}
 use Rattle.okws_base.specs.declared.limit.TheConstants.{MOST_PROXIES}
 use Rattle.site_making.specs.Keepers.{keeper_of}
-use Rattle.std.proofs.lemmas.List.{length-map}
 use Rattle.store_keeper.specs.contracts.stored.StoredKeeperKeeper.TheImpl as stored
 use Rattle.stored_site.specs.Depots.{beside_of}
-use Rattle.stored_site.proofs.Given.{asked_all, on_err}
+use Rattle.stored_site.proofs.Given.{asked_all, gives_kept, on_err}
 use Rattle.okws_server.proofs.Grounds.{few_stored, servable_by, stock_at, stock_stored}
 use Rattle.okws_server.proofs.ground.stored_stock.Goals as goal
 
@@ -26,7 +25,6 @@ returns-in_err-stored-clause-asked g c = on_err c.from_residual.result _ c.in_er
 
 pub returns-clause-asked : goal.returns-clause-asked
 returns-clause-asked g c =
-    let few : length c.in_ok-stored.stored.keepers.items ≤ length c.args.config.proxies =
-    few_stored (stored.tables-value g.row.S-Keeper g.row.S-Keeper-Pin g.S.Keeper.Keeper g.S.Keeper.Keeper-dict g.S.Keeper.Pin.Pinned g.S.Keeper.Pin.Pinned-dict g.S.Keeper.Pin.Destruct-dict).it _ c.args.config c.in_ok-stored.stored.config c.in_ok-stored.stored.keepers.items (length c.args.config.proxies) c.in_ok-stored.ensures.alike (omega arith) c.in_ok-stored.ensures.keepers in
-    asked_all c.args.file.now (length c.args.config.proxies) (length c.args.config.proxies) (map (beside_of (stored.faults-value g.row.S-Keeper g.row.S-Keeper-Pin g.S.Keeper.Keeper g.S.Keeper.Keeper-dict g.S.Keeper.Pin.Pinned g.S.Keeper.Pin.Pinned-dict g.S.Keeper.Pin.Destruct-dict).it (stored.told-value g.row.S-Keeper g.row.S-Keeper-Pin g.S.Keeper.Keeper g.S.Keeper.Keeper-dict g.S.Keeper.Pin.Pinned g.S.Keeper.Pin.Pinned-dict g.S.Keeper.Pin.Destruct-dict).it (λ k. k.parted)) c.in_ok-stored.stored.keepers.items) (g.S.Stores.depot c.args.stores.now) (g.S.Stores.depot c.open_site.new.stores) (g.S.Stores.depot c.give_back.new.stores)
-    c.in_ok-stored.ensures.made (omega arith) (omega (arith, few, length-map c.in_ok-stored.stored.keepers.items (beside_of (stored.faults-value g.row.S-Keeper g.row.S-Keeper-Pin g.S.Keeper.Keeper g.S.Keeper.Keeper-dict g.S.Keeper.Pin.Pinned g.S.Keeper.Pin.Pinned-dict g.S.Keeper.Pin.Destruct-dict).it (stored.told-value g.row.S-Keeper g.row.S-Keeper-Pin g.S.Keeper.Keeper g.S.Keeper.Keeper-dict g.S.Keeper.Pin.Pinned g.S.Keeper.Pin.Pinned-dict g.S.Keeper.Pin.Destruct-dict).it (λ k. k.parted)))) c.give_back.ensures
+    asked_all c.args.file.now c.args.config.proxies (g.S.Stores.depot c.args.stores.now) (g.S.Stores.depot c.open_site.new.stores) (g.S.Stores.depot c.give_back.new.stores) c.in_ok-stored.ensures.made
+    (gives_kept (beside_of (stored.faults-value g.row.S-Keeper g.row.S-Keeper-Pin g.S.Keeper.Keeper g.S.Keeper.Keeper-dict g.S.Keeper.Pin.Pinned g.S.Keeper.Pin.Pinned-dict g.S.Keeper.Pin.Destruct-dict).it (stored.told-value g.row.S-Keeper g.row.S-Keeper-Pin g.S.Keeper.Keeper g.S.Keeper.Keeper-dict g.S.Keeper.Pin.Pinned g.S.Keeper.Pin.Pinned-dict g.S.Keeper.Pin.Destruct-dict).it (λ k. k.parted) (λ k. g.S.Keeper.Keeper.told k.store)) c.args.config.proxies c.in_ok-stored.stored.keepers.items
+    (g.S.Stores.depot c.open_site.new.stores) (g.S.Stores.depot c.give_back.new.stores) c.in_ok-stored.ensures.held c.give_back.ensures)

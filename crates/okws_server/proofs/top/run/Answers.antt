@@ -15,11 +15,11 @@ returns-in-Ok-Some g c =
     let before : View = view_of g.F.Files.shelf g.O.Sink.given g.O.Sink.faults c.args.files.now c.args.out.now (gear_of g.E.Network.Network.net g.E.Children.Children.family g.E.Console.Conn.wire g.E.Stores.Stores.depot g.E.Sinks.Sinks.rack c.args.things) c.args.seed in
     let after : View = view_of g.F.Files.shelf g.O.Sink.given g.O.Sink.faults c.obey.new.files c.obey.new.out (gear_of g.E.Network.Network.net g.E.Children.Children.family g.E.Console.Conn.wire g.E.Stores.Stores.depot g.E.Sinks.Sinks.rack c.obey.result.2) c.args.seed in
     does_obey g.E.Network.Door.Conn.Conn.wire (AllTell g.E.Stores.Keeper.Keeper.told) (asked (map string_bytes c.args.words.now)) (meant c.in-Ok-Some.command) before after c.obey.result.1 c.obey.result.0
-    (sym (ap (option_map meant) c.in-Ok-Some.field-0-is) ∙ c.in-Ok-Some.ensures) c.obey.ensures
+    (sym (ap (option_map meant) c.in-Ok-Some.field-0-is) ∙ c.in-Ok-Some.ensures) refl c.obey.ensures
 
 pub returns-in-Ok-None : goal.returns-in-Ok-None
 returns-in-Ok-None g c =
     let before : View = view_of g.F.Files.shelf g.O.Sink.given g.O.Sink.faults c.args.files.now c.args.out.now (gear_of g.E.Network.Network.net g.E.Children.Children.family g.E.Console.Conn.wire g.E.Stores.Stores.depot g.E.Sinks.Sinks.rack c.args.things) c.args.seed in
     let after : View = view_of g.F.Files.shelf g.O.Sink.given g.O.Sink.faults c.args.files.now c.answer_words.new.out (gear_of g.E.Network.Network.net g.E.Children.Children.family g.E.Console.Conn.wire g.E.Stores.Stores.depot g.E.Sinks.Sinks.rack c.args.things) c.args.seed in
     says_obeys g.E.Network.Door.Conn.Conn.wire (AllTell g.E.Stores.Keeper.Keeper.told) (asked (map string_bytes c.args.words.now)) before after c.empty_record.result c.answer_words.result
-    (sym (ap (option_map meant) c.in-Ok-None.field-0-is) ∙ c.in-Ok-None.ensures) c.empty_record.ensures refl refl c.answer_words.ensures
+    (sym (ap (option_map meant) c.in-Ok-None.field-0-is) ∙ c.in-Ok-None.ensures) refl c.empty_record.ensures refl refl c.answer_words.ensures

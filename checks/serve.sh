@@ -14,7 +14,7 @@ for name in svc_guest svc_probe; do
 done
 cd "$folder" || exit 1
 python3 - "$program" "$only" <<'P'
-import os, signal, socket, struct, subprocess, sys, threading, time
+import fcntl, os, signal, socket, struct, subprocess, sys, termios, threading, time
 
 PROGRAM, ONLY = sys.argv[1], sys.argv[2]
 
@@ -50,19 +50,29 @@ class Server:
     """A server of a site for so many connections, whose console is a pipe. It and its children are ended at the end of the block."""
     def __init__(self, site, connections, *options, doors=2, port=None):
         write('site', site)
-        self.port = port or a_port()
-        words = [PROGRAM, 'serve', 'site', '--port', str(self.port), '--doors', str(doors), '--serve', str(connections), *options]
-        self.process = subprocess.Popen(words, stdin=subprocess.PIPE, stdout=subprocess.PIPE)
-        self.limit = threading.Timer(60, self.process.kill)
-        self.limit.start()
+        self.ports = [port] if port else [a_port() for _ in range(5)]
+        self.words = ['--doors', str(doors), '--serve', str(connections), *options]
 
-    def __enter__(self):
-        for _ in range(500):
+    def start(self, port):
+        """Starts the server at a port, and waits until it listens there or has ended."""
+        self.port = port
+        self.process = subprocess.Popen([PROGRAM, 'serve', 'site', '--port', str(port), *self.words], stdin=subprocess.PIPE, stdout=subprocess.PIPE)
+        self.limit = threading.Timer(120, self.process.kill)
+        self.limit.start()
+        for _ in range(1500):
             if self.process.poll() is not None or self.listens():
-                return self
+                return
             time.sleep(0.02)
         self.__exit__()
         raise AssertionError('the server opened no door')
+
+    def __enter__(self):
+        """Where somebody else has taken its port meanwhile, it is started at the next one."""
+        for port in self.ports:
+            self.start(port)
+            if self.process.poll() != 5 or port == self.ports[-1]:
+                return self
+            self.__exit__()
 
     def listens(self):
         wanted = '0100007F:%04X' % self.port
@@ -106,6 +116,19 @@ def said(*words):
     """What the program prints with these words and no input, and its status."""
     run = subprocess.run([PROGRAM, *words], capture_output=True, stdin=subprocess.DEVNULL, timeout=60)
     return run.stdout.decode(), run.returncode
+
+def heard(pid):
+    """How many bytes stand in a process's input that it hasn't taken."""
+    with open(f'/proc/{pid}/fd/0', 'rb', buffering=0) as f:
+        return struct.unpack('i', fcntl.ioctl(f, termios.FIONREAD, bytes(4)))[0]
+
+def wait_until(holds):
+    """Waits until this holds, for thirty seconds at most."""
+    for _ in range(3000):
+        if holds():
+            return
+        time.sleep(0.01)
+    raise AssertionError('waited in vain')
 
 def gone(pid):
     """Whether a process has ended, waited for or not."""
@@ -232,8 +255,7 @@ def a_killed_child_is_launched_again():
         killed = server.children()
         for pid in killed:
             os.kill(pid, signal.SIGKILL)
-        while not all(gone(pid) for pid in killed):
-            time.sleep(0.01)
+        wait_until(lambda: all(gone(pid) for pid in killed))
         same(get(server.port), BAD_GATEWAY)
         same(get(server.port), ANN_AND_BOB)
         same(get(server.port, '/other'), OK)
@@ -249,11 +271,13 @@ def a_service_that_cannot_start_is_given_up():
         same(server.ends(), (counts(2, 2, 1, 0, 0), 0))
 
 def a_held_dialog_keeps_no_other_client_waiting():
-    with Server(SITE % '/bin/sleep 60', 2) as server:
+    with Server(SITE % '/bin/sleep 600', 2) as server:
+        wait_until(lambda: len(server.children()) == 2)
         held = []
         client = threading.Thread(target=lambda: held.append(get(server.port, '/other')))
         client.start()
-        time.sleep(0.2)
+        # Boot has 34 bytes; the sleeping child takes neither it nor the Request behind it.
+        wait_until(lambda: any(heard(pid) > 34 for pid in server.children()))
         same(get(server.port), ANN_AND_BOB)
         same(server.answers(b'relaunch other\n'), b'relaunched 2\n')
         client.join(30)

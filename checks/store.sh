@@ -43,14 +43,22 @@ def listens(port):
 
 class Server:
     def __init__(self):
-        self.port = a_port()
-        self.process = subprocess.Popen(words(self.port), stdin=subprocess.PIPE, stdout=subprocess.PIPE)
-        for _ in range(1500):
-            if self.process.poll() is not None or listens(self.port):
+        # Where somebody else has taken its port meanwhile, it is started at another one.
+        for _ in range(5):
+            self.start(a_port())
+            if self.process.poll() != 5:
                 break
-            time.sleep(0.02)
         if self.process.poll() is not None:
             raise AssertionError(f'the server ended at once, status {self.process.returncode}: {self.process.stdout.read()!r}')
+
+    def start(self, port):
+        """Starts the server at a port, and waits until it listens there or has ended."""
+        self.port = port
+        self.process = subprocess.Popen(words(port), stdin=subprocess.PIPE, stdout=subprocess.PIPE)
+        for _ in range(1500):
+            if self.process.poll() is not None or listens(port):
+                return
+            time.sleep(0.02)
 
     def end(self):
         """Kills it and its children, at once."""
@@ -103,6 +111,12 @@ def round_of(number, next_number, answered):
         missing = sorted(({0} | answered) - set(found))
         if missing or len(found) != len(set(found)):
             raise AssertionError(f'round {number}: lost {missing[:5]}, found {len(found)} of which {len(set(found))} differ')
+        if not answered:
+            # The first run's first write is answered, however slow the disk is.
+            tried, next_number = next_number, next_number + 1
+            if not post(server.port, tried).startswith(b'HTTP/1.1 303'):
+                raise AssertionError('the first write was not answered')
+            answered.add(tried)
         killer = threading.Timer(DRAWN.uniform(0, 0.4), server.end)
         killer.start()
         try:
@@ -123,8 +137,6 @@ def each_answered_write_is_there():
     next_number, answered = 1, set()
     for number in range(TIMES):
         next_number = round_of(number, next_number, answered)
-    if not answered:
-        raise AssertionError('no write was answered')
     print(f'{len(answered)} of {next_number - 1} writes were answered in {TIMES} runs')
 
 def a_second_server_is_refused():

@@ -130,6 +130,20 @@ fn supersede(plain: &mut Plain<'_>) -> Option<()> {
     Some(())
 }
 
+/// Takes away what was written to the first client that was answered, at whichever door: one door may have served
+/// all clients.
+fn lose_answer(plain: &mut Plain<'_>) -> Option<()> {
+    for door in &mut plain.doors {
+        for exchange in door {
+            if !exchange.written.is_empty() {
+                exchange.written = &[];
+                return Some(());
+            }
+        }
+    }
+    None
+}
+
 /// Changes one thing.
 pub fn change(plain: &mut Plain<'_>, edit: Edit) -> Option<()> {
     match edit {
@@ -141,10 +155,7 @@ pub fn change(plain: &mut Plain<'_>, edit: Edit) -> Option<()> {
         Edit::OrderDropped | Edit::OrderMissing => drop_first(plain, At::Launcher, Deed::Asked),
         Edit::ShownChanged => supersede(plain),
         Edit::CallDropped => drop_first(plain, At::Proxy(0), Deed::Call),
-        Edit::AnswerLost => {
-            plain.doors.first_mut()?.first_mut()?.written = &[];
-            Some(())
-        }
+        Edit::AnswerLost => lose_answer(plain),
         Edit::RevokeSkipped => skip_revoke(plain),
         Edit::AcceptFirst => accept_first(plain),
     }

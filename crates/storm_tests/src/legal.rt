@@ -9,13 +9,15 @@ use record_judge::judge::{Part, broken};
 use record_lines::case::Case;
 use record_lines::plain::{Line, Plain};
 use std::alloc::Global;
+use std::process::Abort;
 use std::sync::Wait;
-use std::test::Fail;
 use std::thread::Threads;
 
 /// A storm in which nothing fails.
 const CALM: Weather = Weather {
     relaunches: 200,
+    relaunched: 0,
+    order: b"relaunch guest\n",
     requests: 200,
     short: 0,
     torn: 0,
@@ -41,21 +43,25 @@ const FAILING: Weather = Weather {
     ..CALM
 };
 
-/// A small storm.
+/// A small storm, in which guest is up all the time, and fewer texts are logged than there are relaunches: so there
+/// is something to change for each edit, however the threads take turns.
 const SMALL: Weather = Weather {
     relaunches: 20,
+    relaunched: 1,
+    order: b"relaunch other\n",
     requests: 20,
     ..CALM
 };
 
 /// The parts of what a storm left, as it stands in these lines, that are not legal.
 fn judged<'a>(
+    rt: &impl Abort,
     alloc: Global,
     storm: &Storm,
     orders: &[Line<'a>],
     plain: &Plain<'a>,
-) -> Result<Vec<Part>, Fail> {
-    Ok(broken(&Case {
+) -> Vec<Part> {
+    let parts = broken(&Case {
         alloc,
         site: &storm.site,
         seed: &SEED,
@@ -64,58 +70,51 @@ fn judged<'a>(
         failures: storm.failures,
         faults: &[],
         plain,
-    })?)
+    });
+    parts.expect(rt, "memory was refused")
 }
 
-/// Whether a storm ends well, with a legal record.
-fn is_legal<R: Wait + Threads + Sync>(
-    rt: &R,
-    alloc: Global,
-    weather: &Weather,
-) -> Result<bool, Fail> {
-    let storm = rage(rt, alloc, weather)?;
-    let (ran, count) = (&storm.ran, storm.ran.counts.connections);
-    if ran.starved || ran.console_failed || ran.log_failed || count != u64::from(weather.requests) {
-        return Err(Fail::new("the storm did not end well"));
-    }
-    let plain = storm.plain(alloc).ok_or("no record")?;
-    Ok(judged(alloc, &storm, &orders(alloc, weather)?, &plain)?.is_empty())
+/// Whether a storm, which ends well, has a legal record.
+fn is_legal<R: Abort + Wait + Threads + Sync>(rt: &R, alloc: Global, weather: &Weather) -> bool {
+    let storm = rage(rt, alloc, weather);
+    let ran = &storm.ran;
+    assert!(rt; !ran.starved && !ran.console_failed && !ran.log_failed);
+    assert!(rt; ran.counts.connections == u64::from(weather.requests));
+    let plain = storm.plain(rt, alloc);
+    let orders = orders(alloc, weather).expect(rt, "memory was refused");
+    judged(rt, alloc, &storm, &orders, &plain).is_empty()
 }
 
 #[test]
-fn a_storm_leaves_a_legal_record(rt: HostRuntime) -> Result<(), Fail> {
-    assert!(rt; is_legal(&rt, rt.alloc(), &CALM)?);
-    Ok(())
+fn a_storm_leaves_a_legal_record(rt: HostRuntime) {
+    assert!(rt; is_legal(&rt, rt.alloc(), &CALM));
 }
 
 #[test]
-fn a_storm_of_crashes_leaves_a_legal_record(rt: HostRuntime) -> Result<(), Fail> {
-    assert!(rt; is_legal(&rt, rt.alloc(), &SHORT)?);
-    Ok(())
+fn a_storm_of_crashes_leaves_a_legal_record(rt: HostRuntime) {
+    assert!(rt; is_legal(&rt, rt.alloc(), &SHORT));
 }
 
 #[test]
-fn a_storm_of_failing_starts_and_links_leaves_a_legal_record(rt: HostRuntime) -> Result<(), Fail> {
-    assert!(rt; is_legal(&rt, rt.alloc(), &FAILING)?);
-    Ok(())
+fn a_storm_of_failing_starts_and_links_leaves_a_legal_record(rt: HostRuntime) {
+    assert!(rt; is_legal(&rt, rt.alloc(), &FAILING));
 }
 
 /// The first part that an edit of a storm's record breaks.
-fn broken_by(alloc: Global, storm: &Storm, edit: Edit) -> Result<Option<Part>, Fail> {
-    let mut plain = storm.plain(alloc).ok_or("no record")?;
-    change(&mut plain, edit).ok_or("nothing to change")?;
-    let all = orders(alloc, &SMALL)?;
+fn broken_by(rt: &impl Abort, alloc: Global, storm: &Storm, edit: Edit) -> Option<Part> {
+    let mut plain = storm.plain(rt, alloc);
+    change(&mut plain, edit).expect(rt, "nothing to change");
+    let all = orders(alloc, &SMALL).expect(rt, "memory was refused");
     let skipped = usize::from(edit == Edit::OrderMissing);
-    let orders = all.get(skipped..).ok_or("no order")?;
-    Ok(judged(alloc, storm, orders, &plain)?.first().copied())
+    let orders = all.get(skipped..).expect(rt, "no order");
+    judged(rt, alloc, storm, orders, &plain).first().copied()
 }
 
 #[test]
-fn each_change_of_a_record_breaks_a_part(rt: HostRuntime) -> Result<(), Fail> {
-    let storm = rage(&rt, rt.alloc(), &SMALL)?;
+fn each_change_of_a_record_breaks_a_part(rt: HostRuntime) {
+    let storm = rage(&rt, rt.alloc(), &SMALL);
     for (edit, part) in EDITS {
-        let broken = broken_by(rt.alloc(), &storm, edit)?;
-        assert_eq!(rt; broken, Some(part), "{edit:?}");
+        let broken = broken_by(&rt, rt.alloc(), &storm, edit);
+        assert!(rt; broken == Some(part), "{edit:?}: {broken:?}");
     }
-    Ok(())
 }

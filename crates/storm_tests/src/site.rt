@@ -13,8 +13,8 @@ use okws_outer::keeper::Keeper;
 use okws_plan::configuration::Config;
 use site_columns::opening::{queries_at, read_names, tables_at};
 use std::alloc::{AllocError, Global};
+use std::process::Abort;
 use std::sync::Arc;
-use std::test::Fail;
 use token_core::Seed;
 
 /// Two services, of which one has a path, sessions, a template and the log, and the other a path and the log.
@@ -72,13 +72,18 @@ fn ground_of(alloc: Global, config: Config) -> Result<Ground, AllocError>
 }
 
 /// The site, and the keepers of its rows.
-pub fn read_ground(alloc: Global) -> Result<Ground, Fail>
-    ensures servable { IfOk result (λ g. IsServable (arc_value g.site)) }
-    ensures declared { IfOk result (λ g. vec_len g.keepers ≡ length (arc_value g.site).proxies) }
-    ensures keepers { IfOk result (λ g. AreKeepers (arc_value g.site) 0 (map (keeper_of ⟦<IndexKeeper as Keeper>⟧.tables ⟦<IndexKeeper as Keeper>⟧.told ⟦<IndexKeeper as Keeper>⟧.faults ⟦<IndexKeeper as Keeper>⟧.steady) g.keepers.items)) }
+pub fn read_ground(rt: &impl Abort, alloc: Global) -> Ground
+    ensures servable { IsServable (arc_value result.site) }
+    ensures declared { vec_len result.keepers ≡ length (arc_value result.site).proxies }
+    ensures keepers { AreKeepers (arc_value result.site) 0 (map (keeper_of ⟦<IndexKeeper as Keeper>⟧.tables ⟦<IndexKeeper as Keeper>⟧.told ⟦<IndexKeeper as Keeper>⟧.faults ⟦<IndexKeeper as Keeper>⟧.steady) result.keepers.items) }
 {
-    match read(alloc, SITE) {
-        Ok(config) if config.proxies.as_slice().len() == 1 => Ok(ground_of(alloc, config)?),
-        _ => Err(Fail::new("no site of one proxy")),
+    let config = match read(alloc, SITE) {
+        Ok(config) => config,
+        Err(_) => panic!(rt; "no lawful configuration"),
+    };
+    assert!(rt; config.proxies.as_slice().len() == 1);
+    match ground_of(alloc, config) {
+        Ok(ground) => ground,
+        Err(_) => panic!(rt; "memory was refused"),
     }
 }

@@ -10,7 +10,7 @@ use crate::says::{all_says, other_says};
 use crate::site::{Ground, SEED, read_ground};
 use crate::weather::{Weather, clients, console, plans};
 use index_keeper::IndexKeeper;
-use okws_outer::door::Door;
+use okws_outer::door::{Door, Served};
 use okws_outer::gate::NoGate;
 use okws_outer::keeper::Keeper;
 use okws_outer::memory::conn::MemoryConn;
@@ -23,9 +23,9 @@ use outer_memory::children::MemoryChildren;
 use outer_memory::door::{Client, MemoryDoor, MemoryNetwork};
 use record_lines::case::Incarnation;
 use record_lines::plain::{Exchange, Plain, plain_of};
-use std::alloc::{AllocError, Global};
+use std::alloc::Global;
+use std::process::Abort;
 use std::sync::{Arc, Wait};
-use std::test::Fail;
 use std::thread::Threads;
 
 /// What was read from a connection, and what was written on it.
@@ -47,80 +47,88 @@ pub struct Storm {
 }
 
 /// What went over the connections of a door.
-fn exchanges(alloc: Global, door: &[Exchanged]) -> Result<Vec<Exchange<'_>>, AllocError> {
+fn exchanges<'a>(rt: &impl Abort, alloc: Global, door: &'a [Exchanged]) -> Vec<Exchange<'a>> {
     let mut all = Vec::new(alloc);
     for told in door {
         let (read, written) = (told.read.as_slice(), told.written.as_slice());
-        all.push(Exchange { read, written })?;
+        all.push(Exchange { read, written })
+            .expect(rt, "memory was refused");
     }
-    Ok(all)
+    all
 }
 
 impl Storm {
     /// The lines of its record.
-    pub fn plain(&self, alloc: Global) -> Option<Plain<'_>> {
+    pub fn plain(&self, rt: &impl Abort, alloc: Global) -> Plain<'_> {
         let mut doors = Vec::new(alloc);
         for door in &self.doors {
-            doors.push(exchanges(alloc, door).ok()?).ok()?;
+            doors
+                .push(exchanges(rt, alloc, door))
+                .expect(rt, "memory was refused");
         }
-        plain_of(alloc, &self.ran.record, doors)
+        plain_of(alloc, &self.ran.record, doors).expect(rt, "no record")
     }
 }
 
 /// Which children have ended.
-fn ended(alloc: Global, children: &MemoryChildren<'_>) -> Result<Vec<Incarnation>, Fail> {
+fn ended(rt: &impl Abort, alloc: Global, children: &MemoryChildren<'_>) -> Vec<Incarnation> {
     let mut all = Vec::new(alloc);
-    for end in children.finished().ok_or("memory was refused")? {
+    for end in children.finished().expect(rt, "memory was refused") {
         if end.ended {
             all.push(Incarnation {
                 service: end.service,
                 number: end.incarnation,
-            })?;
+            })
+            .expect(rt, "memory was refused");
         }
     }
-    Ok(all)
+    all
 }
 
 /// How many starts and links have failed.
-fn failures(children: &MemoryChildren<'_>) -> Result<u64, Fail> {
+fn failures(rt: &impl Abort, children: &MemoryChildren<'_>) -> u64 {
     let mut count = children.faults();
-    for end in children.finished().ok_or("memory was refused")? {
+    for end in children.finished().expect(rt, "memory was refused") {
         count = count.saturating_add(end.faults);
     }
-    Ok(count)
+    count
+}
+
+/// What went over a connection that was served.
+fn exchange_of(rt: &impl Abort, alloc: Global, served: &Served) -> Exchanged {
+    let (Some(came), Some(left), Some(given)) = (&served.came, &served.left, &served.given) else {
+        panic!(rt; "memory was refused");
+    };
+    let read = came.as_slice().strip_suffix(left.as_slice());
+    let read = read.expect(rt, "other bytes are left");
+    Exchanged {
+        read: Vec::from_slice(alloc, read).expect(rt, "memory was refused"),
+        written: Vec::from_slice(alloc, given.as_slice()).expect(rt, "memory was refused"),
+    }
 }
 
 /// What went over a door.
-fn told_at(alloc: Global, door: &MemoryDoor<'_>) -> Result<Vec<Exchanged>, Fail> {
+fn told_at(rt: &impl Abort, alloc: Global, door: &MemoryDoor<'_>) -> Vec<Exchanged> {
     let mut all = Vec::new(alloc);
-    for served in door.finished().ok_or("memory was refused")? {
-        let came = served.came.as_ref().ok_or("memory was refused")?.as_slice();
-        let left = served.left.as_ref().ok_or("memory was refused")?.as_slice();
-        let given = served
-            .given
-            .as_ref()
-            .ok_or("memory was refused")?
-            .as_slice();
-        let read = came.strip_suffix(left).ok_or("other bytes are left")?;
-        all.push(Exchanged {
-            read: Vec::from_slice(alloc, read)?,
-            written: Vec::from_slice(alloc, given)?,
-        })?;
+    for served in door.finished().expect(rt, "memory was refused") {
+        all.push(exchange_of(rt, alloc, served))
+            .expect(rt, "memory was refused");
     }
-    Ok(all)
+    all
 }
 
 /// What went over each door.
-fn told(alloc: Global, doors: &[MemoryDoor<'_>]) -> Result<Vec<Vec<Exchanged>>, Fail> {
+fn told(rt: &impl Abort, alloc: Global, doors: &[MemoryDoor<'_>]) -> Vec<Vec<Exchanged>> {
     let mut all = Vec::new(alloc);
     for door in doors {
-        all.push(told_at(alloc, door)?)?;
+        all.push(told_at(rt, alloc, door))
+            .expect(rt, "memory was refused");
     }
-    Ok(all)
+    all
 }
 
 /// Serves a site over these doors, children and console.
-fn serve<'a, R: Wait + Threads + Sync>(
+fn serve<'a, R: Abort + Wait + Threads + Sync>(
     rt: &R,
     alloc: Global,
     ground: Ground,
@@ -128,7 +136,7 @@ fn serve<'a, R: Wait + Threads + Sync>(
     children: MemoryChildren<'a>,
     console: MemoryConn<'a>,
     requests: u32,
-) -> Result<Storm, Fail>
+) -> Storm
     requires servable { IsServable (arc_value ground.site) }
     requires declared { vec_len ground.keepers ≡ length (arc_value ground.site).proxies }
     requires keepers { AreKeepers (arc_value ground.site) 0 (map (keeper_of ⟦<IndexKeeper as Keeper>⟧.tables ⟦<IndexKeeper as Keeper>⟧.told ⟦<IndexKeeper as Keeper>⟧.faults ⟦<IndexKeeper as Keeper>⟧.steady) ground.keepers.items) }
@@ -141,7 +149,7 @@ fn serve<'a, R: Wait + Threads + Sync>(
         console,
         children,
         keepers,
-        log: MemorySink::new(alloc, 65_536, &[])?,
+        log: MemorySink::new(alloc, 65_536, &[]).expect(rt, "memory was refused"),
         gate: NoGate,
     };
     let limits = Limits {
@@ -149,42 +157,43 @@ fn serve<'a, R: Wait + Threads + Sync>(
         keeps: true,
     };
     let left = serve_site(rt, alloc, &site, &SEED, limits, outfit);
-    Ok(Storm {
+    Storm {
         site,
-        ran: left.ran.ok_or("memory was refused")?,
-        doors: told(alloc, &left.doors)?,
-        ended: ended(alloc, &left.children)?,
-        failures: failures(&left.children)?,
-    })
+        doors: told(rt, alloc, &left.doors),
+        ended: ended(rt, alloc, &left.children),
+        failures: failures(rt, &left.children),
+        ran: left.ran.expect(rt, "memory was refused"),
+    }
 }
 
 /// Serves the site over these clients, children and console.
-fn serve_clients<'a, R: Wait + Threads + Sync>(
+fn serve_clients<'a, R: Abort + Wait + Threads + Sync>(
     rt: &R,
     alloc: Global,
     clients: &'a [Client<'a>],
     children: MemoryChildren<'a>,
     console: &'a [u8],
     requests: u32,
-) -> Result<Storm, Fail> {
-    let ground = read_ground(alloc)?;
+) -> Storm {
+    let ground = read_ground(rt, alloc);
+    let console = MemoryConn::new(alloc, console, &[], 65_536, &[]).expect(
+        rt,
+        "memory was refused",
+    );
     let mut network = MemoryNetwork::new(alloc, clients, &[], &[]);
-    let doors = network.listen(alloc, 8_080, 2)?;
-    let console = MemoryConn::new(alloc, console, &[], 65_536, &[])?;
-    serve(rt, alloc, ground, doors, children, console, requests)
+    match network.listen(alloc, 8_080, 2) {
+        Ok(doors) => serve(rt, alloc, ground, doors, children, console, requests),
+        Err(_) => panic!(rt; "memory was refused"),
+    }
 }
 
 /// A storm.
-pub fn rage<R: Wait + Threads + Sync>(
-    rt: &R,
-    alloc: Global,
-    weather: &Weather,
-) -> Result<Storm, Fail> {
-    let says = all_says(alloc, weather)?;
-    let other = other_says(alloc, weather)?;
-    let plans = plans(alloc, &says, &other, weather)?;
+pub fn rage<R: Abort + Wait + Threads + Sync>(rt: &R, alloc: Global, weather: &Weather) -> Storm {
+    let says = all_says(alloc, weather).expect(rt, "memory was refused");
+    let other = other_says(alloc, weather).expect(rt, "memory was refused");
+    let plans = plans(alloc, &says, &other, weather).expect(rt, "memory was refused");
     let children = MemoryChildren::new(alloc, &plans, weather.starts);
-    let clients = clients(alloc, weather)?;
-    let console = console(alloc, weather)?;
+    let clients = clients(alloc, weather).expect(rt, "memory was refused");
+    let console = console(alloc, weather).expect(rt, "memory was refused");
     serve_clients(rt, alloc, &clients, children, &console, weather.requests)
 }

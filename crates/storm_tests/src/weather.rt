@@ -11,6 +11,10 @@ use std::alloc::{AllocError, Global};
 pub struct Weather {
     /// How many relaunches are ordered, at most 200.
     pub relaunches: u32,
+    /// The service that is relaunched.
+    pub relaunched: u16,
+    /// The order of a relaunch.
+    pub order: &'static [u8],
     /// How many requests come, at most 200.
     pub requests: u32,
     /// Each incarnation of guest whose number this divides ends after a dialog; where it is 0 none does.
@@ -60,7 +64,7 @@ pub fn plans<'a>(
         incarnation = incarnation.saturating_add(1);
         plans.push(child(0, incarnation, says, weather))?;
     }
-    for incarnation in 1..=20 {
+    for incarnation in 1..=40 {
         plans.push(child(1, incarnation, other, weather))?;
     }
     Ok(plans)
@@ -102,7 +106,7 @@ pub fn console(alloc: Global, weather: &Weather) -> Result<Vec<u8>, AllocError> 
         if publishes(number) {
             console.extend_from_slice(b"publish page 3\nabc")?;
         }
-        console.extend_from_slice(b"relaunch guest\n")?;
+        console.extend_from_slice(weather.order)?;
     }
     console.extend_from_slice(b"end\n")?;
     Ok(console)
@@ -117,7 +121,7 @@ pub fn orders<'a>(alloc: Global, weather: &Weather) -> Result<Vec<Line<'a>>, All
             let line = Line::new(At::Pubd, Deed::Publish, 0, 0).with(b"abc");
             orders.push(Line { worker, ..line })?;
         }
-        let line = Line::new(At::Launcher, Deed::Asked, 0, 0);
+        let line = Line::new(At::Launcher, Deed::Asked, weather.relaunched, 0);
         orders.push(Line { worker, ..line })?;
     }
     Ok(orders)

@@ -1,12 +1,11 @@
 //! The dispatcher's column. Not tested here: many paths and many entries.
 
-use crate::site::{bytes, config};
+use crate::site::{bytes, config, shared};
 use monitor_model::verdict::Way;
 use okd_dispatch::Okd;
 use std::alloc::Global;
 use std::marker::Model;
-use std::sync::Arc;
-use std::test::Fail;
+use std::process::Abort;
 use turn_lock::Journaled;
 
 const GUEST: u16 = 0;
@@ -54,20 +53,21 @@ impl Model for Column {
 
 impl Column {
     // Its entries are kept or not.
-    fn new(alloc: Global, keeps: bool) -> Result<Self, Fail> {
-        let config = config(alloc, SITE)?;
-        if config.services.as_slice().len() != 2 {
-            return Err(Fail::from("not two services"));
+    fn new(rt: &impl Abort, alloc: Global, keeps: bool) -> Self {
+        let config = config(rt, alloc, SITE);
+        assert!(rt; config.services.as_slice().len() == 2);
+        match Okd::new(alloc, shared(rt, alloc, config), keeps) {
+            Ok(okd) => Column { okd },
+            Err(_) => panic!(rt; "memory was refused"),
         }
-        let okd = Okd::new(alloc, Arc::new(alloc, config)?, keeps)?;
-        Ok(Column { okd })
     }
 
-    fn up(&mut self, service: u16, incarnation: u32) -> Result<(), Fail> {
-        if service > OTHER || incarnation == 0 {
-            return Err(Fail::from("no such incarnation"));
+    fn up(&mut self, rt: &impl Abort, service: u16, incarnation: u32) {
+        assert!(rt; service <= OTHER && incarnation != 0);
+        match self.okd.up(service, incarnation) {
+            Ok(()) => {}
+            Err(_) => panic!(rt; "memory was refused"),
         }
-        Ok(self.okd.up(service, incarnation)?)
     }
 
     fn down(&mut self, service: u16, incarnation: u32) {
@@ -76,8 +76,11 @@ impl Column {
         }
     }
 
-    fn accept(&mut self, alloc: Global, path: &[u8]) -> Result<Way, Fail> {
-        Ok(self.okd.accept(bytes(alloc, path)?)?)
+    fn accept(&mut self, rt: &impl Abort, alloc: Global, path: &[u8]) -> Way {
+        match self.okd.accept(bytes(rt, alloc, path)) {
+            Ok(way) => way,
+            Err(_) => panic!(rt; "memory was refused"),
+        }
     }
 
     fn hold(&mut self, number: u16) {
@@ -93,40 +96,37 @@ fn to(incarnation: u32) -> Way {
 }
 
 #[test]
-fn the_longest_path_owns(rt: HostRuntime) -> Result<(), Fail> {
-    let column = Column::new(rt.alloc(), true)?;
+fn the_longest_path_owns(rt: HostRuntime) {
+    let column = Column::new(&rt, rt.alloc(), true);
     for (path, owner) in &OWNERS {
-        assert_eq!(rt; column.okd.owner(path), *owner);
+        assert!(rt; column.okd.owner(path) == *owner);
     }
-    Ok(())
 }
 
 #[test]
-fn requests_go_where_the_owner_is_up(rt: HostRuntime) -> Result<(), Fail> {
+fn requests_go_where_the_owner_is_up(rt: HostRuntime) {
     let alloc = rt.alloc();
-    let mut column = Column::new(alloc, false)?;
-    assert!(rt; column.accept(alloc, b"/guest")? == Way::Down(GUEST));
-    column.up(GUEST, 1)?;
-    assert!(rt; column.accept(alloc, b"/guest/x")? == to(1));
-    assert!(rt; column.accept(alloc, b"/guestx")? == Way::NotOwned);
-    column.up(GUEST, 2)?;
+    let mut column = Column::new(&rt, alloc, false);
+    assert!(rt; column.accept(&rt, alloc, b"/guest") == Way::Down(GUEST));
+    column.up(&rt, GUEST, 1);
+    assert!(rt; column.accept(&rt, alloc, b"/guest/x") == to(1));
+    assert!(rt; column.accept(&rt, alloc, b"/guestx") == Way::NotOwned);
+    column.up(&rt, GUEST, 2);
     column.down(GUEST, 1);
-    assert!(rt; column.accept(alloc, b"/guest")? == to(2));
+    assert!(rt; column.accept(&rt, alloc, b"/guest") == to(2));
     column.down(GUEST, 2);
-    assert!(rt; column.accept(alloc, b"/guest")? == Way::Down(GUEST));
-    Ok(())
+    assert!(rt; column.accept(&rt, alloc, b"/guest") == Way::Down(GUEST));
 }
 
 #[test]
-fn entries_are_kept_in_order(rt: HostRuntime) -> Result<(), Fail> {
-    let mut column = Column::new(rt.alloc(), true)?;
+fn entries_are_kept_in_order(rt: HostRuntime) {
+    let mut column = Column::new(&rt, rt.alloc(), true);
     column.hold(7);
-    column.up(OTHER, 3)?;
-    assert_eq!(rt; column.okd.standing(OTHER), Some(3));
+    column.up(&rt, OTHER, 3);
+    assert!(rt; column.okd.standing(OTHER) == Some(3));
     column.down(OTHER, 3);
-    assert_eq!(rt; column.okd.standing(OTHER), None);
-    assert_eq!(rt; column.okd.holder(), 7);
+    assert!(rt; column.okd.standing(OTHER) == None);
+    assert!(rt; column.okd.holder() == 7);
     let past = column.okd.close();
-    assert_eq!(rt; past.as_slice().map(|entries| entries.len()), Some(2));
-    Ok(())
+    assert!(rt; past.as_slice().map(|entries| entries.len()) == Some(2));
 }

@@ -1,9 +1,9 @@
 //! Rows that a call of a service leaves to be found, over the columns of a site: what another service
 //! enters meanwhile doesn't change them.
 
-ghost use Rattle.std.specs.Prelude.{◌≡◌, ◌<◌, IfOk, length};
+ghost use Rattle.std.specs.Prelude.{◌≡◌, ◌<◌, length};
 
-use crate::site::{config, first_value};
+use crate::site::{config, first_value, shared};
 use monitor_model::verdict::Verdict;
 use okws_base::items::Items;
 use okws_base::limit::MOST_INCARNATIONS;
@@ -14,8 +14,7 @@ use service_cell::columns::Columns;
 use site_columns::columns::SiteColumns;
 use started_call::{Finished, Started, finish};
 use std::alloc::Global;
-use std::sync::Arc;
-use std::test::Fail;
+use std::process::Abort;
 use token_core::{Seed, token};
 
 const GUEST: u16 = 0;
@@ -40,58 +39,60 @@ grant other main 1
 const SEED: Seed = [0; 32];
 
 // The columns of the site, at which nothing happened.
-fn columns(alloc: Global) -> Result<SiteColumns, Fail>
-    ensures services { IfOk result (λ c. length c.config.services ≡ 2) }
-    ensures proxies { IfOk result (λ c. length c.config.proxies ≡ 1) }
+fn columns(rt: &impl Abort, alloc: Global) -> SiteColumns
+    ensures services { length result.config.services ≡ 2 }
+    ensures proxies { length result.config.proxies ≡ 1 }
 {
-    let config = config(alloc, SITE)?;
-    if config.services.as_slice().len() != 2 {
-        return Err(Fail::from("not two services"));
+    let config = config(rt, alloc, SITE);
+    assert!(rt; config.services.as_slice().len() == 2);
+    assert!(rt; config.proxies.as_slice().len() == 1);
+    let config = shared(rt, alloc, config);
+    match SiteColumns::new(alloc, &config, SEED, true) {
+        Ok(columns) => columns,
+        Err(_) => panic!(rt; "memory was refused"),
     }
-    if config.proxies.as_slice().len() != 1 {
-        return Err(Fail::from("not one proxy"));
-    }
-    let config = Arc::new(alloc, config)?;
-    Ok(SiteColumns::new(alloc, &config, SEED, true)?)
 }
 
 // The next incarnation of a service stands at the proxy.
-fn install(columns: &mut SiteColumns, service: u16) -> Result<(), Fail>
+fn install(rt: &impl Abort, columns: &mut SiteColumns, service: u16)
     requires service { service < length columns.old.config.services }
     requires proxy { 0 < length columns.old.config.proxies }
     ensures { columns.new.config ≡ columns.old.config }
 {
-    if columns.greatest(service) >= MOST_INCARNATIONS {
-        return Err(Fail::from("no incarnation is left"));
+    assert!(rt; columns.greatest(service) < MOST_INCARNATIONS);
+    match columns.begin(service) {
+        Ok(_) => {}
+        Err(_) => panic!(rt; "memory was refused"),
     }
-    columns.begin(service)?;
     let begun = columns.greatest(service);
-    if begun == 0 || columns.last(service, Place::Proxy(0)) >= begun {
-        return Err(Fail::from("an earlier incarnation"));
+    assert!(rt; begun != 0 && columns.last(service, Place::Proxy(0)) < begun);
+    match columns.install(service, Place::Proxy(0)) {
+        Ok(()) => {}
+        Err(_) => panic!(rt; "memory was refused"),
     }
-    Ok(columns.install(service, Place::Proxy(0))?)
 }
 
 // The first incarnation of a service opens a session.
-fn open<C: Columns>(columns: &mut C, service: u16) -> Result<(), Fail>
+fn open<R: Abort, C: Columns>(rt: &R, columns: &mut C, service: u16)
     requires service { service < length (C.asker columns.old).config.services }
     requires proxy { 0 < length (C.asker columns.old).config.proxies }
     ensures { (C.asker columns.new).config ≡ (C.asker columns.old).config }
 {
     let shown = token(&SEED, service, 1, 0);
-    match columns.open_session(0, service, 1, shown)? {
-        Verdict::Opened(0) => Ok(()),
-        _ => Err(Fail::from("no session")),
+    match columns.open_session(0, service, 1, shown) {
+        Ok(Verdict::Opened(0)) => {}
+        _ => panic!(rt; "no session"),
     }
 }
 
 // A call on the first session of a service.
-fn call<C: Columns>(
+fn call<R: Abort, C: Columns>(
+    rt: &R,
     columns: &mut C,
     service: u16,
     query: u16,
     args: Vec<Value>,
-) -> Result<Started<C::Pin>, Fail>
+) -> Started<C::Pin>
     requires service { service < length (C.asker columns.old).config.services }
     requires proxy { 0 < length (C.asker columns.old).config.proxies }
     ensures { (C.asker columns.new).config ≡ (C.asker columns.old).config }
@@ -103,58 +104,62 @@ fn call<C: Columns>(
         query,
         args: Items::of(args),
     };
-    Ok(columns.call(0, call)?)
+    match columns.call(0, call) {
+        Ok(started) => started,
+        Err(_) => panic!(rt; "memory was refused"),
+    }
 }
 
 // A call of other's that lists all rows, which are not found yet.
-fn list<C: Columns>(alloc: Global, columns: &mut C) -> Result<C::Pin, Fail>
+fn list<R: Abort, C: Columns>(rt: &R, alloc: Global, columns: &mut C) -> C::Pin
     requires service { 1 < length (C.asker columns.old).config.services }
     requires proxy { 0 < length (C.asker columns.old).config.proxies }
     ensures { (C.asker columns.new).config ≡ (C.asker columns.old).config }
 {
-    match call(columns, OTHER, 1, Vec::new(alloc))? {
-        Started::Ready(pin) => Ok(pin),
-        _ => Err(Fail::from("no rows")),
+    match call(rt, columns, OTHER, 1, Vec::new(alloc)) {
+        Started::Ready(pin) => pin,
+        _ => panic!(rt; "no rows"),
     }
 }
 
 // Guest deletes the row with this id.
-fn delete<C: Columns>(alloc: Global, columns: &mut C, id: i64) -> Result<(), Fail>
+fn delete<R: Abort, C: Columns>(rt: &R, alloc: Global, columns: &mut C, id: i64)
     requires service { 0 < length (C.asker columns.old).config.services }
     requires proxy { 0 < length (C.asker columns.old).config.proxies }
     ensures { (C.asker columns.new).config ≡ (C.asker columns.old).config }
 {
     let mut args = Vec::new(alloc);
-    args.push(Value::Int(id))?;
-    match call(columns, GUEST, 3, args)? {
-        Started::Changed(1) => Ok(()),
-        _ => Err(Fail::from("not deleted")),
+    if args.push(Value::Int(id)).is_err() {
+        panic!(rt; "memory was refused");
+    }
+    match call(rt, columns, GUEST, 3, args) {
+        Started::Changed(1) => {}
+        _ => panic!(rt; "not deleted"),
     }
 }
 
 // What other finds that asked before guest deleted a row, and after it.
-fn found<C: Columns>(alloc: Global, columns: &mut C) -> Result<(C::Pin, C::Pin), Fail>
+fn found<R: Abort, C: Columns>(rt: &R, alloc: Global, columns: &mut C) -> (C::Pin, C::Pin)
     requires service { 1 < length (C.asker columns.old).config.services }
     requires proxy { 0 < length (C.asker columns.old).config.proxies }
 {
-    open(columns, GUEST)?;
-    open(columns, OTHER)?;
-    let before = list(alloc, columns)?;
-    delete(alloc, columns, 1)?;
-    let after = list(alloc, columns)?;
-    Ok((before, after))
+    open(rt, columns, GUEST);
+    open(rt, columns, OTHER);
+    let before = list(rt, alloc, columns);
+    delete(rt, alloc, columns, 1);
+    let after = list(rt, alloc, columns);
+    (before, after)
 }
 
 #[test]
-fn rows_that_are_ready_outlast_a_delete_of_another(rt: HostRuntime) -> Result<(), Fail> {
+fn rows_that_are_ready_outlast_a_delete_of_another(rt: HostRuntime) {
     let alloc = rt.alloc();
-    let mut columns = columns(alloc)?;
-    install(&mut columns, GUEST)?;
-    install(&mut columns, OTHER)?;
-    let (mut before, mut after) = found(alloc, &mut columns)?;
+    let mut columns = columns(&rt, alloc);
+    install(&rt, &mut columns, GUEST);
+    install(&rt, &mut columns, OTHER);
+    let (mut before, mut after) = found(&rt, alloc, &mut columns);
     assert!(rt; finish(&mut before) == Finished::Rows(2));
     assert!(rt; finish(&mut after) == Finished::Rows(1));
     assert!(rt; first_value(&mut before) == Some(&Value::Int(1)));
     assert!(rt; first_value(&mut after) == Some(&Value::Int(2)));
-    Ok(())
 }

@@ -1,6 +1,7 @@
 //! Lawful configurations from their texts, bytes, and answers that were pinned.
 
-ghost use Rattle.std.specs.Prelude.{◌≡◌, ◌≤◌, IfOk, length};
+ghost use Rattle.std.specs.Prelude.{◌≡◌, ◌≤◌, length};
+ghost use Rattle.std.specs.Arc.{arc_value};
 ghost use Rattle.config_reader.specs.Ruled.{AreRuled};
 ghost use Rattle.okws_plan.specs.Sound.{IsSound};
 ghost use Rattle.okws_base.specs.declared.limit.TheConstants.{MOST_SERVICES, MOST_TEMPLATES};
@@ -11,26 +12,40 @@ use okws_base::value::Value;
 use okws_outer::pinned::Pinned;
 use okws_plan::configuration::Config;
 use started_call::{Finished, finish};
-use std::alloc::{AllocError, Global};
-use std::test::Fail;
+use std::alloc::Global;
+use std::process::Abort;
+use std::sync::Arc;
 
 /// The configuration of this text.
-pub(crate) fn config(alloc: Global, text: &str) -> Result<Config, Fail>
-    ensures services { IfOk result (λ config. length config.services ≤ MOST_SERVICES) }
-    ensures templates { IfOk result (λ config. length config.templates ≤ MOST_TEMPLATES) }
-    ensures sound { IfOk result IsSound }
-    ensures ruled { IfOk result AreRuled }
+pub(crate) fn config(rt: &impl Abort, alloc: Global, text: &str) -> Config
+    ensures services { length result.services ≤ MOST_SERVICES }
+    ensures templates { length result.templates ≤ MOST_TEMPLATES }
+    ensures sound { IsSound result }
+    ensures ruled { AreRuled result }
 {
     match read(alloc, text.as_bytes()) {
-        Ok(config) => Ok(config),
-        Err(_) => Err(Fail::from("no lawful configuration")),
+        Ok(config) => config,
+        Err(_) => panic!(rt; "no lawful configuration"),
     }
 }
 
-pub(crate) fn bytes(alloc: Global, bytes: &[u8]) -> Result<Items<u8>, AllocError>
-    ensures { IfOk result (λ v. v ≡ bytes.now) }
+/// The same configuration, shared.
+pub(crate) fn shared(rt: &impl Abort, alloc: Global, config: Config) -> Arc<Config, Global>
+    ensures { arc_value result ≡ config }
 {
-    Ok(Items::of(copies(alloc, bytes)?))
+    match Arc::new(alloc, config) {
+        Ok(shared) => shared,
+        Err(_) => panic!(rt; "memory was refused"),
+    }
+}
+
+pub(crate) fn bytes(rt: &impl Abort, alloc: Global, bytes: &[u8]) -> Items<u8>
+    ensures { result ≡ bytes.now }
+{
+    match copies(alloc, bytes) {
+        Ok(copy) => Items::of(copy),
+        Err(_) => panic!(rt; "memory was refused"),
+    }
 }
 
 /// The first value of the answer, which is found here.

@@ -1,14 +1,13 @@
 //! The template column. Not tested here: the greatest sizes and counts of editions.
 
-use crate::site::{bytes, config};
+use crate::site::{bytes, config, shared};
 use monitor_model::verdict::{Got, Published, Push};
 use okws_base::denial::Rule;
 use okws_base::limit::{LONGEST_TEMPLATE, MOST_EDITIONS};
 use pubd_core::Pubd;
-use std::alloc::{AllocError, Global};
+use std::alloc::Global;
 use std::marker::Model;
-use std::sync::Arc;
-use std::test::Fail;
+use std::process::Abort;
 use turn_lock::Journaled;
 
 const GUEST: u16 = 0;
@@ -44,34 +43,45 @@ impl Model for Column {
 
 impl Column {
     // Its entries are kept or not.
-    fn new(alloc: Global, keeps: bool) -> Result<Self, Fail> {
-        let config = config(alloc, SITE)?;
-        if config.services.as_slice().len() != 1 || config.templates.as_slice().len() != 3 {
-            return Err(Fail::from("not one service and three templates"));
+    fn new(rt: &impl Abort, alloc: Global, keeps: bool) -> Self {
+        let config = config(rt, alloc, SITE);
+        assert!(rt; config.services.as_slice().len() == 1);
+        assert!(rt; config.templates.as_slice().len() == 3);
+        match Pubd::new(alloc, shared(rt, alloc, config), keeps) {
+            Ok(pubd) => Column { pubd },
+            Err(_) => panic!(rt; "memory was refused"),
         }
-        let pubd = Pubd::new(alloc, Arc::new(alloc, config)?, keeps)?;
-        Ok(Column { pubd })
     }
 
-    fn publish_at(&mut self, alloc: Global, template: u16, content: &[u8]) -> Result<(), Fail> {
-        if template > 2
-            || self.pubd.edition(template) >= MOST_EDITIONS
-            || content.len() > LONGEST_TEMPLATE
-        {
-            return Err(Fail::from("no such edition"));
+    fn publish_at(&mut self, rt: &impl Abort, alloc: Global, template: u16, content: &[u8]) {
+        assert!(rt; template <= 2 && content.len() <= LONGEST_TEMPLATE);
+        assert!(rt; self.pubd.edition(template) < MOST_EDITIONS);
+        let content = bytes(rt, alloc, content);
+        match self.pubd.publish_at(template, content) {
+            Ok(()) => {}
+            Err(_) => panic!(rt; "memory was refused"),
         }
-        Ok(self.pubd.publish_at(template, bytes(alloc, content)?)?)
     }
 
-    fn publish(&mut self, alloc: Global, name: &[u8], content: &[u8]) -> Result<Published, Fail> {
-        Ok(self.pubd.publish(name, bytes(alloc, content)?)?)
+    fn publish(
+        &mut self,
+        rt: &impl Abort,
+        alloc: Global,
+        name: &[u8],
+        content: &[u8],
+    ) -> Published {
+        match self.pubd.publish(name, bytes(rt, alloc, content)) {
+            Ok(published) => published,
+            Err(_) => panic!(rt; "memory was refused"),
+        }
     }
 
-    fn install(&mut self, incarnation: u32) -> Result<(), Fail> {
-        if self.pubd.last(GUEST) >= incarnation {
-            return Err(Fail::from("no such incarnation"));
+    fn install(&mut self, rt: &impl Abort, incarnation: u32) {
+        assert!(rt; self.pubd.last(GUEST) < incarnation);
+        match self.pubd.install(GUEST, incarnation) {
+            Ok(()) => {}
+            Err(_) => panic!(rt; "memory was refused"),
         }
-        Ok(self.pubd.install(GUEST, incarnation)?)
     }
 
     fn revoke(&mut self, incarnation: u32) {
@@ -81,16 +91,22 @@ impl Column {
     // Whether a Drain gives these editions of page.
     fn hears(
         &mut self,
+        rt: &impl Abort,
         alloc: Global,
         incarnation: u32,
         editions: &[(u32, &[u8])],
-    ) -> Result<bool, AllocError> {
-        let want = pushes(alloc, editions)?;
-        Ok(self.pubd.drain(GUEST, incarnation)? == want)
+    ) -> bool {
+        match self.pubd.drain(GUEST, incarnation) {
+            Ok(pushes) => are_editions(rt, alloc, &pushes, editions),
+            Err(_) => panic!(rt; "memory was refused"),
+        }
     }
 
-    fn get(&mut self, alloc: Global, incarnation: u32, name: &[u8]) -> Result<Got, AllocError> {
-        self.pubd.get(GUEST, incarnation, bytes(alloc, name)?)
+    fn get(&mut self, rt: &impl Abort, alloc: Global, incarnation: u32, name: &[u8]) -> Got {
+        match self.pubd.get(GUEST, incarnation, bytes(rt, alloc, name)) {
+            Ok(got) => got,
+            Err(_) => panic!(rt; "memory was refused"),
+        }
     }
 
     fn hold(&mut self, number: u16) {
@@ -98,92 +114,97 @@ impl Column {
     }
 }
 
-// Pushes of these editions of page.
-fn pushes(alloc: Global, editions: &[(u32, &[u8])]) -> Result<Vec<Push>, AllocError> {
-    let mut pushes = Vec::new(alloc);
-    for (edition, content) in editions {
-        pushes.push(Push {
-            template: bytes(alloc, b"page")?,
-            edition: *edition,
-            content: bytes(alloc, content)?,
-        })?;
+// A push of this edition of page.
+fn push(rt: &impl Abort, alloc: Global, edition: u32, content: &[u8]) -> Push {
+    Push {
+        template: bytes(rt, alloc, b"page"),
+        edition,
+        content: bytes(rt, alloc, content),
     }
-    Ok(pushes)
+}
+
+// Whether these are pushes of these editions of page.
+fn are_editions(
+    rt: &impl Abort,
+    alloc: Global,
+    pushes: &[Push],
+    editions: &[(u32, &[u8])],
+) -> bool {
+    let mut same = pushes.len() == editions.len();
+    for (found, (edition, content)) in pushes.iter().zip(editions) {
+        same = same && *found == push(rt, alloc, *edition, content);
+    }
+    same
 }
 
 // The column with two editions of page.
-fn published(alloc: Global) -> Result<Column, Fail> {
-    let mut column = Column::new(alloc, true)?;
-    column.publish_at(alloc, PAGE, b"a")?;
-    column.publish_at(alloc, PAGE, b"bb")?;
-    Ok(column)
+fn published(rt: &impl Abort, alloc: Global) -> Column {
+    let mut column = Column::new(rt, alloc, true);
+    column.publish_at(rt, alloc, PAGE, b"a");
+    column.publish_at(rt, alloc, PAGE, b"bb");
+    column
 }
 
 #[test]
-fn editions_reach_running_incarnations(rt: HostRuntime) -> Result<(), Fail> {
+fn editions_reach_running_incarnations(rt: HostRuntime) {
     let alloc = rt.alloc();
-    let mut column = Column::new(alloc, false)?;
-    column.install(1)?;
-    assert!(rt; column.hears(alloc, 1, &[])?);
-    assert!(rt; column.publish(alloc, b"page", b"a")? == Published::Edition(1));
-    assert!(rt; column.publish(alloc, b"page", b"bb")? == Published::Edition(2));
-    assert!(rt; column.hears(alloc, 1, &[(1, b"a"), (2, b"bb")])?);
-    assert!(rt; column.hears(alloc, 1, &[])?);
-    Ok(())
+    let mut column = Column::new(&rt, alloc, false);
+    column.install(&rt, 1);
+    assert!(rt; column.hears(&rt, alloc, 1, &[]));
+    assert!(rt; column.publish(&rt, alloc, b"page", b"a") == Published::Edition(1));
+    assert!(rt; column.publish(&rt, alloc, b"page", b"bb") == Published::Edition(2));
+    assert!(rt; column.hears(&rt, alloc, 1, &[(1, b"a"), (2, b"bb")]));
+    assert!(rt; column.hears(&rt, alloc, 1, &[]));
 }
 
 #[test]
-fn publications_are_answered(rt: HostRuntime) -> Result<(), Fail> {
+fn publications_are_answered(rt: HostRuntime) {
     let alloc = rt.alloc();
-    let mut column = Column::new(alloc, true)?;
-    let long = vec![in alloc; b'z'; LONGEST_TEMPLATE + 1]?;
-    assert!(rt; column.publish(alloc, b"page", &long)? == Published::TooLong);
-    assert!(rt; column.publish(alloc, b"nowhere", b"a")? == Published::NoSuchTemplate);
-    assert!(rt; column.publish(alloc, b"secret", b"a")? == Published::Edition(1));
-    Ok(())
+    let mut column = Column::new(&rt, alloc, true);
+    let long = vec![in alloc; b'z'; LONGEST_TEMPLATE + 1].expect(&rt, "memory was refused");
+    assert!(rt; column.publish(&rt, alloc, b"page", &long) == Published::TooLong);
+    assert!(rt; column.publish(&rt, alloc, b"nowhere", b"a") == Published::NoSuchTemplate);
+    assert!(rt; column.publish(&rt, alloc, b"secret", b"a") == Published::Edition(1));
 }
 
 // A second incarnation of the guest stands in the place of the first, which is then revoked.
 #[test]
-fn a_new_incarnation_hears_what_is_current(rt: HostRuntime) -> Result<(), Fail> {
+fn a_new_incarnation_hears_what_is_current(rt: HostRuntime) {
     let alloc = rt.alloc();
-    let mut column = published(alloc)?;
-    assert_eq!(rt; column.pubd.edition(PAGE), 2);
-    column.install(1)?;
-    column.install(2)?;
+    let mut column = published(&rt, alloc);
+    assert!(rt; column.pubd.edition(PAGE) == 2);
+    column.install(&rt, 1);
+    column.install(&rt, 2);
     column.revoke(1);
-    assert_eq!(rt; column.pubd.standing(GUEST), Some(2));
-    assert_eq!(rt; column.pubd.last(GUEST), 2);
-    assert!(rt; column.hears(alloc, 1, &[])?);
-    assert!(rt; column.hears(alloc, 2, &[(2, b"bb")])?);
-    Ok(())
+    assert!(rt; column.pubd.standing(GUEST) == Some(2));
+    assert!(rt; column.pubd.last(GUEST) == 2);
+    assert!(rt; column.hears(&rt, alloc, 1, &[]));
+    assert!(rt; column.hears(&rt, alloc, 2, &[(2, b"bb")]));
 }
 
 #[test]
-fn gets_are_denied(rt: HostRuntime) -> Result<(), Fail> {
+fn gets_are_denied(rt: HostRuntime) {
     let alloc = rt.alloc();
-    let mut column = published(alloc)?;
-    column.install(2)?;
-    assert!(rt; column.get(alloc, 1, b"page")? == Got::Denied(Rule::StaleAtPubd));
-    assert!(rt; column.get(alloc, 2, b"secret")? == Got::Denied(Rule::TemplateNotGranted));
-    assert!(rt; column.get(alloc, 2, b"blank")? == Got::Denied(Rule::TemplateUnpublished));
-    Ok(())
+    let mut column = published(&rt, alloc);
+    column.install(&rt, 2);
+    assert!(rt; column.get(&rt, alloc, 1, b"page") == Got::Denied(Rule::StaleAtPubd));
+    assert!(rt; column.get(&rt, alloc, 2, b"secret") == Got::Denied(Rule::TemplateNotGranted));
+    assert!(rt; column.get(&rt, alloc, 2, b"blank") == Got::Denied(Rule::TemplateUnpublished));
 }
 
 #[test]
-fn gets_are_answered_and_entered(rt: HostRuntime) -> Result<(), Fail> {
+fn gets_are_answered_and_entered(rt: HostRuntime) {
     let alloc = rt.alloc();
-    let mut column = published(alloc)?;
-    column.install(2)?;
+    let mut column = published(&rt, alloc);
+    column.install(&rt, 2);
     column.hold(7);
-    let _ = column.get(alloc, 1, b"page")?;
+    column.get(&rt, alloc, 1, b"page");
     let want = Got::Template {
         edition: 2,
-        content: bytes(alloc, b"bb")?,
+        content: bytes(&rt, alloc, b"bb"),
     };
-    assert!(rt; column.get(alloc, 2, b"page")? == want);
-    assert_eq!(rt; column.pubd.holder(), 7);
+    assert!(rt; column.get(&rt, alloc, 2, b"page") == want);
+    assert!(rt; column.pubd.holder() == 7);
     let past = column.pubd.close();
-    assert_eq!(rt; past.as_slice().map(|entries| entries.len()), Some(5));
-    Ok(())
+    assert!(rt; past.as_slice().map(|entries| entries.len()) == Some(5));
 }

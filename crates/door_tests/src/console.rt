@@ -12,9 +12,9 @@ use okws_base::limit::{MOST_SERVICES, MOST_TEMPLATES};
 use okws_base::name::Name;
 use okws_outer::memory::conn::MemoryConn;
 use okws_plan::configuration::{Config, ServicePlan};
-use std::alloc::{AllocError, Global};
+use std::alloc::Global;
+use std::process::Abort;
 use std::sync::Wait;
-use std::test::Fail;
 
 /// The site that is steered: what publications and relaunches come to, and what was asked last.
 #[derive(Drop)]
@@ -60,34 +60,44 @@ fn none<T>(alloc: Global) -> Items<T> {
     Items::of(Vec::new(alloc))
 }
 
-fn name(alloc: Global, text: &[u8]) -> Result<Name, Fail> {
-    match Name::new(Items::of(Vec::from_slice(alloc, text)?)) {
-        Some(name) => Ok(name),
-        None => Err(Fail::new("not as planned")),
-    }
+fn name(rt: &impl Abort, alloc: Global, text: &[u8]) -> Name {
+    let text = Vec::from_slice(alloc, text).expect(rt, "memory was refused");
+    Name::new(Items::of(text)).expect(rt, "no name")
 }
 
-fn service(alloc: Global, text: &[u8]) -> Result<ServicePlan, Fail> {
-    Ok(ServicePlan {
-        name: name(alloc, text)?,
-        words: none(alloc),
-    })
+fn names(rt: &impl Abort, alloc: Global, texts: [&[u8]; 2]) -> Items<Name> {
+    let mut names = Vec::new(alloc);
+    for text in texts {
+        let name = name(rt, alloc, text);
+        names.push(name).expect(rt, "memory was refused");
+    }
+    Items::of(names)
+}
+
+fn services(rt: &impl Abort, alloc: Global, texts: [&[u8]; 2]) -> Items<ServicePlan> {
+    let mut services = Vec::new(alloc);
+    for text in texts {
+        let service = ServicePlan {
+            name: name(rt, alloc, text),
+            words: none(alloc),
+        };
+        services.push(service).expect(rt, "memory was refused");
+    }
+    Items::of(services)
 }
 
 /// A site with the services guest and other, and the templates page and secret.
-fn declared(alloc: Global) -> Result<Config, Fail> {
-    let services = vec![in alloc; service(alloc, b"guest")?, service(alloc, b"other")?]?;
-    let templates = vec![in alloc; name(alloc, b"page")?, name(alloc, b"secret")?]?;
-    Ok(Config {
+fn declared(rt: &impl Abort, alloc: Global) -> Config {
+    Config {
         proxies: none(alloc),
-        services: Items::of(services),
-        templates: Items::of(templates),
+        services: services(rt, alloc, [b"guest", b"other"]),
+        templates: names(rt, alloc, [b"page", b"secret"]),
         retry: 3,
         paths: none(alloc),
         grants: none(alloc),
         readables: none(alloc),
         loggers: none(alloc),
-    })
+    }
 }
 
 fn site_of(config: &Config) -> Site<'_> {
@@ -121,28 +131,40 @@ fn next<R: Wait>(
     step(rt, alloc, console, reader, config, site)
 }
 
+/// A console of these bytes, with room for so many that are given to it, whose calls of these numbers fail.
+fn conn<'a>(
+    rt: &impl Abort,
+    alloc: Global,
+    bytes: &'a [u8],
+    room: usize,
+    failing: &'a [u64],
+) -> MemoryConn<'a> {
+    MemoryConn::new(alloc, bytes, &[], room, failing).expect(rt, "memory was refused")
+}
+
 /// What a console of these bytes is given in at most twelve steps, and whether it then finished.
-fn answers<R: Wait>(
+fn answers<R: Abort + Wait>(
     rt: &R,
     alloc: Global,
     bytes: &[u8],
     site: &mut Site<'_>,
-) -> Result<(Vec<u8>, bool), AllocError> {
-    let mut console = MemoryConn::new(alloc, bytes, &[], 400, &[])?;
-    let mut reader = Reader::new(alloc)?;
+) -> (Vec<u8>, bool) {
+    let mut console = conn(rt, alloc, bytes, 400, &[]);
+    let mut reader = Reader::new(alloc).expect(rt, "memory was refused");
     let mut finished = false;
     for _ in 0..12 {
         if !finished {
             finished = next(rt, alloc, &mut console, &mut reader, site) == Stepped::Finished;
         }
     }
-    Ok((Vec::from_slice(alloc, console.given())?, finished))
+    let given = Vec::from_slice(alloc, console.given());
+    (given.expect(rt, "memory was refused"), finished)
 }
 
 #[test]
-fn commands_are_answered(rt: HostRuntime) -> Result<(), Fail> {
+fn commands_are_answered(rt: HostRuntime) {
     let alloc = rt.alloc();
-    let config = declared(alloc)?;
+    let config = declared(&rt, alloc);
     let rows = [
         (
             b"publish page 1\na\nrelaunch nobody\nrelaunch guest\nend\nrelaunch guest\n".as_slice(),
@@ -168,34 +190,32 @@ fn commands_are_answered(rt: HostRuntime) -> Result<(), Fail> {
         (b"", b""),
     ];
     for (bytes, wanted) in rows {
-        let (given, finished) = answers(&rt, alloc, bytes, &mut site_of(&config))?;
-        assert_eq!(rt; given.as_slice(), wanted, "at {bytes:?}");
+        let (given, finished) = answers(&rt, alloc, bytes, &mut site_of(&config));
+        assert!(rt; given.as_slice() == wanted, "at {bytes:?}");
         assert!(rt; finished, "at {bytes:?}");
     }
-    Ok(())
 }
 
 #[test]
-fn the_site_is_told(rt: HostRuntime) -> Result<(), Fail> {
+fn the_site_is_told(rt: HostRuntime) {
     let alloc = rt.alloc();
-    let config = declared(alloc)?;
+    let config = declared(&rt, alloc);
     let mut steered = site_of(&config);
     let bytes = b"publish secret 5\na\n\r\nbrelaunch other\nend\n";
-    let (_, finished) = answers(&rt, alloc, bytes, &mut steered)?;
+    let (_, finished) = answers(&rt, alloc, bytes, &mut steered);
     assert!(rt; finished);
-    assert_eq!(rt; (steered.template, steered.service), (1, 1));
-    assert_eq!(rt; (steered.published, steered.relaunched), (1, 1));
+    assert!(rt; (steered.template, steered.service) == (1, 1));
+    assert!(rt; (steered.published, steered.relaunched) == (1, 1));
     let Some(content) = steered.content else {
         panic!(rt; "not as planned");
     };
-    assert_eq!(rt; content.as_slice(), b"a\n\r\nb".as_slice());
-    Ok(())
+    assert!(rt; content.as_slice() == b"a\n\r\nb".as_slice());
 }
 
 #[test]
-fn what_they_come_to_is_answered(rt: HostRuntime) -> Result<(), Fail> {
+fn what_they_come_to_is_answered(rt: HostRuntime) {
     let alloc = rt.alloc();
-    let config = declared(alloc)?;
+    let config = declared(&rt, alloc);
     let bytes = b"relaunch guest\npublish page 1\naend\n";
     let rows = [
         (
@@ -223,27 +243,28 @@ fn what_they_come_to_is_answered(rt: HostRuntime) -> Result<(), Fail> {
         let mut steered = site_of(&config);
         steered.relaunching = relaunching;
         steered.publishing = publishing;
-        let (given, _) = answers(&rt, alloc, bytes, &mut steered)?;
-        assert_eq!(rt; given.as_slice(), wanted);
+        let (given, _) = answers(&rt, alloc, bytes, &mut steered);
+        assert!(rt; given.as_slice() == wanted);
     }
-    Ok(())
 }
 
 /// A line of so many bytes that is a relaunch of guest, and its end.
-fn padded(alloc: Global, len: usize, end: &[u8]) -> Result<Vec<u8>, AllocError> {
-    let mut line = Vec::from_slice(alloc, b"relaunch ")?;
+fn padded(rt: &impl Abort, alloc: Global, len: usize, end: &[u8]) -> Vec<u8> {
+    let mut line = Vec::from_slice(alloc, b"relaunch ").expect(rt, "memory was refused");
     for _ in 14..len {
-        line.push(b' ')?;
+        line.push(b' ').expect(rt, "memory was refused");
     }
-    line.extend_from_slice(b"guest")?;
-    line.extend_from_slice(end)?;
-    Ok(line)
+    for part in [b"guest".as_slice(), end] {
+        line.extend_from_slice(part)
+            .expect(rt, "memory was refused");
+    }
+    line
 }
 
 #[test]
-fn lines_have_a_greatest_length(rt: HostRuntime) -> Result<(), Fail> {
+fn lines_have_a_greatest_length(rt: HostRuntime) {
     let alloc = rt.alloc();
-    let config = declared(alloc)?;
+    let config = declared(&rt, alloc);
     let rows = [
         (256, b"\n".as_slice(), b"relaunched 2\n".as_slice()),
         (256, b"\r\n", b"relaunched 2\n"),
@@ -252,42 +273,40 @@ fn lines_have_a_greatest_length(rt: HostRuntime) -> Result<(), Fail> {
         (1_000, b"\nend\n", b"refused 1 1\n"),
     ];
     for (len, end, wanted) in rows {
-        let line = padded(alloc, len, end)?;
-        let (given, finished) = answers(&rt, alloc, &line, &mut site_of(&config))?;
-        assert_eq!(rt; given.as_slice(), wanted, "at {len}");
+        let line = padded(&rt, alloc, len, end);
+        let (given, finished) = answers(&rt, alloc, &line, &mut site_of(&config));
+        assert!(rt; given.as_slice() == wanted, "at {len}");
         assert!(rt; finished, "at {len}");
     }
-    Ok(())
 }
 
 #[test]
-fn faults_of_a_console_are_told(rt: HostRuntime) -> Result<(), Fail> {
+fn faults_of_a_console_are_told(rt: HostRuntime) {
     let alloc = rt.alloc();
-    let config = declared(alloc)?;
+    let config = declared(&rt, alloc);
     let mut steered = site_of(&config);
-    let mut reader = Reader::new(alloc)?;
-    let mut deaf = MemoryConn::new(alloc, b"relaunch guest\n", &[], 9, &[3])?;
+    let mut reader = Reader::new(alloc).expect(&rt, "memory was refused");
+    let mut deaf = conn(&rt, alloc, b"relaunch guest\n", 9, &[3]);
     let unread = next(&rt, alloc, &mut deaf, &mut reader, &mut steered);
     assert!(rt; unread == Stepped::ConsoleFault(None));
-    assert_eq!(rt; (steered.relaunched, deaf.faults()), (0, 1));
-    let mut mute = MemoryConn::new(alloc, b"relaunch guest\n", &[], 9, &[])?;
+    assert!(rt; (steered.relaunched, deaf.faults()) == (0, 1));
+    let mut mute = conn(&rt, alloc, b"relaunch guest\n", 9, &[]);
     let untold = next(&rt, alloc, &mut mute, &mut reader, &mut steered);
     assert!(rt; untold == Stepped::ConsoleFault(Some(Answer::Relaunched(2))));
-    assert_eq!(rt; mute.given(), b"relaunche".as_slice());
-    assert_eq!(rt; (steered.relaunched, mute.faults()), (1, 1));
-    Ok(())
+    assert!(rt; mute.given() == b"relaunche".as_slice());
+    assert!(rt; (steered.relaunched, mute.faults()) == (1, 1));
 }
 
 #[test]
-fn nothing_behind_the_end_is_taken(rt: HostRuntime) -> Result<(), Fail> {
+fn nothing_behind_the_end_is_taken(rt: HostRuntime) {
     let alloc = rt.alloc();
-    let config = declared(alloc)?;
+    let config = declared(&rt, alloc);
     let mut steered = site_of(&config);
-    let mut reader = Reader::new(alloc)?;
-    let mut console = MemoryConn::new(alloc, b"\npublish page 2\nabcd\nend\nmore", &[], 99, &[])?;
+    let mut reader = Reader::new(alloc).expect(&rt, "memory was refused");
+    let mut console = conn(&rt, alloc, b"\npublish page 2\nabcd\nend\nmore", 99, &[]);
     let first = next(&rt, alloc, &mut console, &mut reader, &mut steered);
     assert!(rt; first == Stepped::Answered(Answer::Published(1)));
-    assert_eq!(rt; console.left(), b"cd\nend\nmore".as_slice());
+    assert!(rt; console.left() == b"cd\nend\nmore".as_slice());
     let second = next(&rt, alloc, &mut console, &mut reader, &mut steered);
     assert!(rt;
         second
@@ -298,7 +317,6 @@ fn nothing_behind_the_end_is_taken(rt: HostRuntime) -> Result<(), Fail> {
     );
     let last = next(&rt, alloc, &mut console, &mut reader, &mut steered);
     assert!(rt; last == Stepped::Finished);
-    assert_eq!(rt; console.left(), b"more".as_slice());
-    assert_eq!(rt; Rule::NoCommand.number(), 1);
-    Ok(())
+    assert!(rt; console.left() == b"more".as_slice());
+    assert!(rt; Rule::NoCommand.number() == 1);
 }

@@ -1,7 +1,7 @@
 //! What a client of a door gets, for each thing that can become of its request, and what a door tells of
 //! it. The responses are those of RFC 9110 and RFC 9112 with the phrases that the server writes.
 
-ghost use Rattle.std.specs.Prelude.{IfOk, IsNone};
+ghost use Rattle.std.specs.Prelude.{IsNone};
 
 use door_worker::answer::Answer;
 use door_worker::handler::{Handler, Outcome};
@@ -15,7 +15,7 @@ use okws_outer::door::{Door, Served};
 use okws_outer::network::Network;
 use outer_memory::door::{Client, MemoryDoor, MemoryNetwork};
 use std::alloc::{AllocError, Global};
-use std::test::Fail;
+use std::process::Abort;
 
 const GET: &[u8] = b"GET /guest HTTP/1.1\r\nHost: localhost\r\n\r\n";
 
@@ -103,41 +103,37 @@ fn told(told: &Option<Items<u8>>) -> &[u8] {
     }
 }
 
-fn turn_of(
-    alloc: Global,
-    serving: Serving,
-    served: &Served,
-    faults: u64,
-) -> Result<Turn, AllocError> {
-    Ok(Turn {
+fn turn_of(rt: &impl Abort, alloc: Global, serving: Serving, served: &Served, faults: u64) -> Turn {
+    let given = Vec::from_slice(alloc, told(&served.given));
+    Turn {
         serving,
-        given: Vec::from_slice(alloc, told(&served.given))?,
+        given: given.expect(rt, "memory was refused"),
         left: told(&served.left).len(),
         faults,
-    })
+    }
 }
 
 /// One turn at a door of these clients.
-fn one_turn(alloc: Global, clients: &[Client<'_>], site: &mut Site) -> Result<Turn, Fail> {
-    let mut door = door(alloc, clients, &[])?;
-    let mut kept = Kept::new(alloc)?;
-    let mut reply = Reply::new(alloc)?;
+fn one_turn(rt: &impl Abort, alloc: Global, clients: &[Client<'_>], site: &mut Site) -> Turn {
+    let mut door = door(rt, alloc, clients, &[]);
+    let mut kept = Kept::new(alloc).expect(rt, "memory was refused");
+    let mut reply = Reply::new(alloc).expect(rt, "memory was refused");
     let serving = serve_one(alloc, &mut door, site, &mut kept, &mut reply);
     match door.finished() {
-        Some([served]) => Ok(turn_of(alloc, serving, served, door.faults())?),
-        _ => Err(Fail::new("not as planned")),
+        Some([served]) => turn_of(rt, alloc, serving, served, door.faults()),
+        _ => panic!(rt; "not as planned"),
     }
 }
 
 /// One turn at a door of a client that sends this.
-fn turn_at(alloc: Global, bytes: &[u8], site: &mut Site) -> Result<Turn, Fail> {
+fn turn_at(rt: &impl Abort, alloc: Global, bytes: &[u8], site: &mut Site) -> Turn {
     let client = Client {
         bytes,
         sizes: &[],
         room: 400,
         failing: &[],
     };
-    one_turn(alloc, &[client], site)
+    one_turn(rt, alloc, &[client], site)
 }
 
 const OK: &[u8] =
@@ -156,7 +152,7 @@ const NOT_FOUND: &[u8] =
     b"HTTP/1.1 404 Not Found\r\nContent-Type: text/plain\r\nContent-Length: 14\r\nConnection: close\r\n\r\n404 Not Found\n";
 
 #[test]
-fn outcomes_have_their_responses(rt: HostRuntime) -> Result<(), Fail> {
+fn outcomes_have_their_responses(rt: HostRuntime) {
     let rows = [
         (Outcome::NotOwned, NOT_FOUND),
         (Outcome::Down, UNAVAILABLE),
@@ -172,16 +168,15 @@ fn outcomes_have_their_responses(rt: HostRuntime) -> Result<(), Fail> {
     ];
     for (outcome, response) in rows {
         let mut behind = site_of(outcome);
-        let turn = turn_at(rt.alloc(), GET, &mut behind)?;
+        let turn = turn_at(&rt, rt.alloc(), GET, &mut behind);
         assert!(rt; matches!(turn.serving, Serving::Served(_)));
-        assert_eq!(rt; turn.given.as_slice(), response);
-        assert_eq!(rt; (turn.left, turn.faults, behind.handled), (0, 0, 1));
+        assert!(rt; turn.given.as_slice() == response);
+        assert!(rt; (turn.left, turn.faults, behind.handled) == (0, 0, 1));
     }
-    Ok(())
 }
 
 #[test]
-fn refused_bytes_reach_nobody(rt: HostRuntime) -> Result<(), Fail> {
+fn refused_bytes_reach_nobody(rt: HostRuntime) {
     let rows = [
         (
             b"".as_slice(),
@@ -206,16 +201,15 @@ fn refused_bytes_reach_nobody(rt: HostRuntime) -> Result<(), Fail> {
     ];
     for (bytes, response) in rows {
         let mut behind = site_of(Outcome::Ended(End::Reply));
-        let turn = turn_at(rt.alloc(), bytes, &mut behind)?;
+        let turn = turn_at(&rt, rt.alloc(), bytes, &mut behind);
         assert!(rt; matches!(turn.serving, Serving::Served(Answer::Own(_))));
-        assert_eq!(rt; turn.given.as_slice(), response);
-        assert_eq!(rt; (turn.faults, behind.handled, behind.starved), (0, 0, 0));
+        assert!(rt; turn.given.as_slice() == response);
+        assert!(rt; (turn.faults, behind.handled, behind.starved) == (0, 0, 0));
     }
-    Ok(())
 }
 
 #[test]
-fn requests_are_handed_on(rt: HostRuntime) -> Result<(), Fail> {
+fn requests_are_handed_on(rt: HostRuntime) {
     let bytes =
         b"POST /guest?a HTTP/1.1\r\nHost: h\r\nContent-Length: 3\r\nExpect: 100-continue\r\n\r\nabcd";
     let head =
@@ -223,31 +217,34 @@ fn requests_are_handed_on(rt: HostRuntime) -> Result<(), Fail> {
     let mut behind = site_of(Outcome::Ended(End::Reply));
     behind.location = b"/guest";
     behind.content = b"";
-    let turn = turn_at(rt.alloc(), bytes, &mut behind)?;
+    let turn = turn_at(&rt, rt.alloc(), bytes, &mut behind);
     assert!(rt; matches!(turn.serving, Serving::Served(Answer::Reply)));
-    assert_eq!(rt;
-        turn.given.as_slice(),
-        b"HTTP/1.1 100 Continue\r\n\r\nHTTP/1.1 303 See Other\r\nContent-Type: text/plain\r\nLocation: /guest\r\nContent-Length: 0\r\nConnection: close\r\n\r\n".as_slice()
+    assert!(rt;
+        turn.given.as_slice()
+            == b"HTTP/1.1 100 Continue\r\n\r\nHTTP/1.1 303 See Other\r\nContent-Type: text/plain\r\nLocation: /guest\r\nContent-Length: 0\r\nConnection: close\r\n\r\n".as_slice()
     );
     let Some(request) = behind.last else {
         panic!(rt; "not as planned");
     };
-    assert_eq!(rt; request.method, b"POST".as_slice());
-    assert_eq!(rt; request.path(), b"/guest".as_slice());
-    assert_eq!(rt; request.head.as_slice(), head.as_slice());
-    assert_eq!(rt; request.content.as_slice(), b"abc".as_slice());
-    Ok(())
+    assert!(rt; request.method == b"POST".as_slice());
+    assert!(rt; request.path() == b"/guest".as_slice());
+    assert!(rt; request.head.as_slice() == head.as_slice());
+    assert!(rt; request.content.as_slice() == b"abc".as_slice());
 }
 
 #[test]
-fn head_gets_no_content(rt: HostRuntime) -> Result<(), Fail> {
+fn head_gets_no_content(rt: HostRuntime) {
     let mut behind = site_of(Outcome::Ended(End::Reply));
-    let turn = turn_at(rt.alloc(), b"HEAD /guest HTTP/1.0\r\n\r\n", &mut behind)?;
-    assert_eq!(rt;
-        turn.given.as_slice(),
-        b"HTTP/1.1 200 OK\r\nContent-Type: text/plain\r\nContent-Length: 2\r\nConnection: close\r\n\r\n".as_slice()
+    let turn = turn_at(
+        &rt,
+        rt.alloc(),
+        b"HEAD /guest HTTP/1.0\r\n\r\n",
+        &mut behind,
     );
-    Ok(())
+    assert!(rt;
+        turn.given.as_slice()
+            == b"HTTP/1.1 200 OK\r\nContent-Type: text/plain\r\nContent-Length: 2\r\nConnection: close\r\n\r\n".as_slice()
+    );
 }
 
 /// A client whose calls of these numbers fail, with room for so many bytes.
@@ -261,50 +258,49 @@ fn failing<'a>(room: usize, failing: &'a [u64]) -> Client<'a> {
 }
 
 #[test]
-fn faults_end_their_connection(rt: HostRuntime) -> Result<(), Fail> {
+fn faults_end_their_connection(rt: HostRuntime) {
     let mut behind = site_of(Outcome::Ended(End::Reply));
-    let unread = one_turn(rt.alloc(), &[failing(400, &[0])], &mut behind)?;
+    let unread = one_turn(&rt, rt.alloc(), &[failing(400, &[0])], &mut behind);
     assert!(rt; matches!(unread.serving, Serving::ConnFault(None)));
-    assert_eq!(rt; unread.given.as_slice(), b"".as_slice());
-    assert_eq!(rt;
-        (unread.left, unread.faults, behind.handled),
-        (GET.len(), 1, 0)
-    );
-    let unsent = one_turn(rt.alloc(), &[failing(400, &[1])], &mut behind)?;
+    assert!(rt; unread.given.as_slice() == b"".as_slice());
+    assert!(rt; (unread.left, unread.faults, behind.handled) == (GET.len(), 1, 0));
+    let unsent = one_turn(&rt, rt.alloc(), &[failing(400, &[1])], &mut behind);
     assert!(rt; matches!(unsent.serving, Serving::ConnFault(Some(Answer::Reply))));
-    assert_eq!(rt; unsent.given.as_slice(), b"".as_slice());
-    assert_eq!(rt; (unsent.faults, behind.handled), (1, 1));
-    let cut = one_turn(rt.alloc(), &[failing(12, &[])], &mut behind)?;
+    assert!(rt; unsent.given.as_slice() == b"".as_slice());
+    assert!(rt; (unsent.faults, behind.handled) == (1, 1));
+    let cut = one_turn(&rt, rt.alloc(), &[failing(12, &[])], &mut behind);
     assert!(rt; matches!(cut.serving, Serving::ConnFault(Some(Answer::Reply))));
-    assert_eq!(rt; cut.given.as_slice(), b"HTTP/1.1 200".as_slice());
-    assert_eq!(rt; (cut.faults, behind.handled), (1, 2));
-    Ok(())
+    assert!(rt; cut.given.as_slice() == b"HTTP/1.1 200".as_slice());
+    assert!(rt; (cut.faults, behind.handled) == (1, 2));
 }
 
 /// A door of one client, whose accepts of these numbers fail.
 fn door<'a>(
+    rt: &impl Abort,
     alloc: Global,
     clients: &'a [Client<'a>],
     refusals: &'a [u64],
-) -> Result<MemoryDoor<'a>, Fail>
-    ensures { IfOk result (λ d. IsNone (⟦<MemoryDoor<'a> as Door>⟧.entrance d).out) }
+) -> MemoryDoor<'a>
+    ensures { IsNone (⟦<MemoryDoor<'a> as Door>⟧.entrance result).out }
 {
     let mut network = MemoryNetwork::new(alloc, clients, refusals, &[]);
-    let Ok(mut doors) = network.listen(alloc, 8080, 1) else {
-        return Err(Fail::new("not as planned"));
+    let mut doors = match network.listen(alloc, 8080, 1) {
+        Ok(doors) => doors,
+        Err(_) => panic!(rt; "not as planned"),
     };
     match doors.pop() {
-        Some(door) => Ok(door),
-        None => Err(Fail::new("not as planned")),
+        Some(door) => door,
+        None => panic!(rt; "not as planned"),
     }
 }
 
 #[test]
-fn a_door_goes_on_after_a_fault(rt: HostRuntime) -> Result<(), Fail> {
+fn a_door_goes_on_after_a_fault(rt: HostRuntime) {
     let alloc = rt.alloc();
     let clients = [failing(400, &[0]), failing(400, &[])];
-    let mut door = door(alloc, &clients, &[0])?;
-    let (mut kept, mut reply) = (Kept::new(alloc)?, Reply::new(alloc)?);
+    let mut door = door(&rt, alloc, &clients, &[0]);
+    let mut kept = Kept::new(alloc).expect(&rt, "memory was refused");
+    let mut reply = Reply::new(alloc).expect(&rt, "memory was refused");
     let mut behind = site_of(Outcome::NotOwned);
     let none = serve_one(alloc, &mut door, &mut behind, &mut kept, &mut reply);
     assert!(rt; matches!(none, Serving::NoConn));
@@ -318,11 +314,10 @@ fn a_door_goes_on_after_a_fault(rt: HostRuntime) -> Result<(), Fail> {
     assert!(rt; matches!(served, Serving::Served(Answer::Own(_))));
     let last = serve_one(alloc, &mut door, &mut behind, &mut kept, &mut reply);
     assert!(rt; matches!(last, Serving::NoConn));
-    assert_eq!(rt; (door.faults(), behind.handled), (3, 1));
+    assert!(rt; (door.faults(), behind.handled) == (3, 1));
     let Some([first, second]) = door.finished() else {
         panic!(rt; "not as planned");
     };
-    assert_eq!(rt; told(&first.given), b"".as_slice());
-    assert_eq!(rt; told(&second.given), NOT_FOUND);
-    Ok(())
+    assert!(rt; told(&first.given) == b"".as_slice());
+    assert!(rt; told(&second.given) == NOT_FOUND);
 }

@@ -6,8 +6,8 @@ ghost use Rattle.std.specs.Prelude.{◌≡◌};
 use crate::site::{bytes, call, config, found, indexed, pin, plain, query_at, text};
 use okws_base::value::{Kind, Value};
 use okws_plan::configuration::Config;
-use std::alloc::{AllocError, Global};
-use std::test::Fail;
+use std::alloc::Global;
+use std::process::Abort;
 
 const SITE: &str = "okws 1
 proxy main
@@ -34,70 +34,65 @@ fn next(state: u64) -> u64 {
         .wrapping_add(1_442_695_040_888_963_407)
 }
 
-fn drawn(alloc: Global, kind: Kind, number: u64) -> Result<Value, AllocError> {
+fn drawn(rt: &impl Abort, alloc: Global, kind: Kind, number: u64) -> Value {
     let small = (number / 65_536 % 11) as u8;
     match kind {
-        Kind::Int => Ok(Value::Int(i64::from(small))),
-        Kind::Text => {
-            if small < 4 {
-                text(alloc, "a")
-            } else {
-                text(alloc, "b")
-            }
-        }
-        Kind::Bytes => bytes(alloc, &[small / 4]),
+        Kind::Int => Value::Int(i64::from(small)),
+        Kind::Text => text(rt, alloc, if small < 4 { "a" } else { "b" }),
+        Kind::Bytes => bytes(rt, alloc, &[small / 4]),
     }
 }
 
 fn arguments(
+    rt: &impl Abort,
     alloc: Global,
     config: &Config,
     query: u16,
     mut number: u64,
-) -> Result<Vec<Value>, AllocError> {
+) -> Vec<Value> {
     let mut args = Vec::new(alloc);
     if let Some(query) = query_at(config, query) {
         for kind in query.statement.parameters.as_slice() {
             number = next(number);
-            args.push(drawn(alloc, *kind, number)?)?;
+            args.push(drawn(rt, alloc, *kind, number))
+                .expect(rt, "memory was refused");
         }
     }
-    Ok(args)
+    args
 }
 
 #[test]
-fn the_answers_are_the_same(rt: HostRuntime) -> Result<(), Fail> {
+fn the_answers_are_the_same(rt: HostRuntime) {
     let alloc = rt.alloc();
-    let config = config(alloc, SITE)?;
-    let mut one = indexed(alloc, &config)?;
-    let mut other = plain(alloc, &config)?;
+    let config = config(&rt, alloc, SITE);
+    let mut one = indexed(&rt, alloc, &config);
+    let mut other = plain(&rt, alloc, &config);
     let mut number = 1;
     for _ in 0..4_000 {
         number = next(number);
         let query = (number / 4_294_967_296 % 16) as u16;
-        let args = arguments(alloc, &config, query, number)?;
+        let args = arguments(&rt, alloc, &config, query, number);
         let found = call(alloc, &mut one, &config, query, &args);
         assert!(rt; found == call(alloc, &mut other, &config, query, &args));
     }
-    Ok(())
 }
 
 #[test]
-fn the_pins_outlast_later_statements(rt: HostRuntime) -> Result<(), Fail> {
+fn the_pins_outlast_later_statements(rt: HostRuntime) {
     let alloc = rt.alloc();
-    let config = config(alloc, SITE)?;
-    let mut one = indexed(alloc, &config)?;
-    let mut other = plain(alloc, &config)?;
+    let config = config(&rt, alloc, SITE);
+    let mut one = indexed(&rt, alloc, &config);
+    let mut other = plain(&rt, alloc, &config);
     let mut number = 1;
     let mut held = None;
     for _ in 0..2_000 {
         number = next(number);
         let query = (number / 4_294_967_296 % 16) as u16;
-        let args = arguments(alloc, &config, query, number)?;
+        let args = arguments(&rt, alloc, &config, query, number);
         if let Some(Ok(mine)) = pin(alloc, &mut one, &config, query, &args) {
             if let Some(Ok(theirs)) = pin(alloc, &mut other, &config, query, &args) {
                 if let Some((mut mine, mut theirs)) = held {
-                    assert!(rt; found(alloc, &mut mine)? == found(alloc, &mut theirs)?);
+                    assert!(rt; found(&rt, alloc, &mut mine) == found(&rt, alloc, &mut theirs));
                 }
                 held = Some((mine, theirs));
             }
@@ -106,5 +101,4 @@ fn the_pins_outlast_later_statements(rt: HostRuntime) -> Result<(), Fail> {
             assert!(rt; answer == call(alloc, &mut other, &config, query, &args));
         }
     }
-    Ok(())
 }

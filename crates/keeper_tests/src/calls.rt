@@ -17,8 +17,8 @@ use okws_plan::meaning::fit;
 use okws_plan::statement::{Answer, Statement};
 use std::alloc::{AllocError, Global};
 use std::marker::Brand;
+use std::process::Abort;
 use std::sync::ledger::{Blank, Ledger};
-use std::test::Fail;
 
 const MESSAGES: &str = "okws 1
 proxy main
@@ -32,41 +32,55 @@ query main 4 UPDATE msgs SET note = ?1 WHERE note = 'hi'
 query main 5 SELECT id FROM msgs WHERE note = 'hi'
 ";
 
-fn list(alloc: Global, first: Value) -> Result<Vec<Value>, AllocError> {
+fn list(rt: &impl Abort, alloc: Global, first: Value) -> Vec<Value> {
     let mut values = Vec::new(alloc);
-    values.push(first)?;
-    Ok(values)
+    values.push(first).expect(rt, "memory was refused");
+    values
 }
 
-fn message(alloc: Global, id: i64, who: &str, note: &str) -> Result<Vec<Value>, AllocError> {
-    let mut values = list(alloc, Value::Int(id))?;
-    values.push(text(alloc, who)?)?;
-    values.push(text(alloc, note)?)?;
-    Ok(values)
+fn message(rt: &impl Abort, alloc: Global, id: i64, who: &str, note: &str) -> Vec<Value> {
+    let mut values = list(rt, alloc, Value::Int(id));
+    for field in [who, note] {
+        let value = text(rt, alloc, field);
+        values.push(value).expect(rt, "memory was refused");
+    }
+    values
 }
 
-fn entry(alloc: Global, id: i64, who: &str) -> Result<Row, AllocError> {
-    let mut values = list(alloc, Value::Int(id))?;
-    values.push(text(alloc, who)?)?;
-    Ok(Items::of(values))
+fn entry(rt: &impl Abort, alloc: Global, id: i64, who: &str) -> Row {
+    let mut values = list(rt, alloc, Value::Int(id));
+    let value = text(rt, alloc, who);
+    values.push(value).expect(rt, "memory was refused");
+    Items::of(values)
 }
 
-// The places of a query's hits, where nobody asks how many rows are tested.
+// The rows of two entries.
+fn entries(rt: &impl Abort, alloc: Global, first: &str, second: &str) -> Vec<Row> {
+    let mut all = Vec::new(alloc);
+    for (id, who) in [(1, first), (2, second)] {
+        let row = entry(rt, alloc, id, who);
+        all.push(row).expect(rt, "memory was refused");
+    }
+    all
+}
+
+// The places of a query's hits, where nobody asks how many rows are tested; nothing where there is none of this
+// number, its arguments are wrong, or memory is refused.
 fn hits(
     alloc: Global,
     keeper: &IndexKeeper,
     config: &Config,
     number: u16,
     args: &[Value],
-) -> Result<Vec<u64>, Fail>
+) -> Option<Vec<u64>>
     requires tables { ⟦<IndexKeeper as Keeper>⟧.tables keeper.now ≡ tables config.now 0 }
     requires ruled { AreRuled config.now }
 {
-    let query = query_at(config, number).ok_or("no such query")?;
+    let query = query_at(config, number)?;
     if !fit(query.statement.parameters.as_slice(), args) {
-        return Err(Fail::from("wrong arguments"));
+        return None;
     }
-    Ok(hits_of::<Brand>(alloc, keeper, &query.statement, args, Blank::new(1))?)
+    hits_of::<Brand>(alloc, keeper, &query.statement, args, Blank::new(1)).ok()
 }
 
 fn hits_of<L: Ledger>(
@@ -90,33 +104,47 @@ fn changed(n: u64) -> Option<Result<Answer, RunError>> {
     Some(Ok(Answer::Changed(n)))
 }
 
-#[test]
-fn keys_are_taken_and_freed(rt: HostRuntime) -> Result<(), Fail> {
-    let alloc = rt.alloc();
-    let config = config(alloc, MESSAGES)?;
-    let mut keeper = indexed(alloc, &config)?;
-    let cy = message(alloc, 1, "cy", "")?;
-    let one = list(alloc, Value::Int(1))?;
-    assert!(rt; call(alloc, &mut keeper, &config, 2, &cy) == Some(Ok(Answer::Duplicate)));
-    assert!(rt; call(alloc, &mut keeper, &config, 3, &one) == changed(1));
-    assert!(rt; call(alloc, &mut keeper, &config, 2, &cy) == changed(1));
-    let mut all = Vec::new(alloc);
-    all.push(entry(alloc, 1, "cy")?)?;
-    all.push(entry(alloc, 2, "bob")?)?;
-    assert!(rt; call(alloc, &mut keeper, &config, 1, &[]) == rows(2, all));
-    Ok(())
+// Whether a query has just these hits.
+fn are_hits(
+    alloc: Global,
+    keeper: &IndexKeeper,
+    config: &Config,
+    number: u16,
+    args: &[Value],
+    places: &[u64],
+) -> bool
+    requires tables { ⟦<IndexKeeper as Keeper>⟧.tables keeper.now ≡ tables config.now 0 }
+    requires ruled { AreRuled config.now }
+{
+    match hits(alloc, keeper, config, number, args) {
+        Some(hits) => hits.as_slice() == places,
+        None => false,
+    }
 }
 
 #[test]
-fn an_update_counts_its_hits(rt: HostRuntime) -> Result<(), Fail> {
+fn keys_are_taken_and_freed(rt: HostRuntime) {
     let alloc = rt.alloc();
-    let config = config(alloc, MESSAGES)?;
-    let mut keeper = indexed(alloc, &config)?;
-    let note = list(alloc, text(alloc, "x")?)?;
+    let config = config(&rt, alloc, MESSAGES);
+    let mut keeper = indexed(&rt, alloc, &config);
+    let cy = message(&rt, alloc, 1, "cy", "");
+    let one = list(&rt, alloc, Value::Int(1));
+    assert!(rt; call(alloc, &mut keeper, &config, 2, &cy) == Some(Ok(Answer::Duplicate)));
+    assert!(rt; call(alloc, &mut keeper, &config, 3, &one) == changed(1));
+    assert!(rt; call(alloc, &mut keeper, &config, 2, &cy) == changed(1));
+    let all = entries(&rt, alloc, "cy", "bob");
+    assert!(rt; call(alloc, &mut keeper, &config, 1, &[]) == rows(2, all));
+}
+
+#[test]
+fn an_update_counts_its_hits(rt: HostRuntime) {
+    let alloc = rt.alloc();
+    let config = config(&rt, alloc, MESSAGES);
+    let mut keeper = indexed(&rt, alloc, &config);
+    let note = list(&rt, alloc, text(&rt, alloc, "x"));
     assert!(rt; call(alloc, &mut keeper, &config, 4, &note) == changed(1));
     assert!(rt; call(alloc, &mut keeper, &config, 4, &note) == changed(0));
     assert!(rt; call(alloc, &mut keeper, &config, 5, &[]) == rows(1, Vec::new(alloc)));
-    Ok(())
 }
 
 const NUMBERS: &str = "okws 1
@@ -128,62 +156,58 @@ query main 3 SELECT id FROM t
 ";
 
 #[test]
-fn a_key_leads_to_its_row(rt: HostRuntime) -> Result<(), Fail> {
+fn a_key_leads_to_its_row(rt: HostRuntime) {
     let alloc = rt.alloc();
-    let config = config(alloc, NUMBERS)?;
-    let mut keeper = indexed(alloc, &config)?;
+    let config = config(&rt, alloc, NUMBERS);
+    let mut keeper = indexed(&rt, alloc, &config);
     for id in 1..1_001 {
-        let args = list(alloc, Value::Int(id))?;
+        let args = list(&rt, alloc, Value::Int(id));
         assert!(rt; call(alloc, &mut keeper, &config, 1, &args) == changed(1));
     }
-    let args = list(alloc, Value::Int(500))?;
-    assert!(rt; hits(alloc, &keeper, &config, 2, &args)?.as_slice() == [499].as_slice());
+    let args = list(&rt, alloc, Value::Int(500));
+    assert!(rt; are_hits(alloc, &keeper, &config, 2, &args, &[499]));
     assert!(rt; call(alloc, &mut keeper, &config, 2, &args) == changed(1));
-    assert!(rt; hits(alloc, &keeper, &config, 2, &args)?.is_empty());
+    assert!(rt; are_hits(alloc, &keeper, &config, 2, &args, &[]));
     assert!(rt; call(alloc, &mut keeper, &config, 2, &args) == changed(0));
-    Ok(())
 }
 
 #[test]
-fn a_pin_is_of_the_rows_before_a_delete(rt: HostRuntime) -> Result<(), Fail> {
+fn a_pin_is_of_the_rows_before_a_delete(rt: HostRuntime) {
     let alloc = rt.alloc();
-    let config = config(alloc, MESSAGES)?;
-    let mut keeper = indexed(alloc, &config)?;
-    let Some(Ok(mut pin)) = pin(alloc, &mut keeper, &config, 1, &[]) else {
-        return Err(Fail::from("no pin"));
+    let config = config(&rt, alloc, MESSAGES);
+    let mut keeper = indexed(&rt, alloc, &config);
+    let mut pin = match pin(alloc, &mut keeper, &config, 1, &[]) {
+        Some(Ok(pin)) => pin,
+        _ => panic!(rt; "no pin"),
     };
-    let one = list(alloc, Value::Int(1))?;
+    let one = list(&rt, alloc, Value::Int(1));
     assert!(rt; call(alloc, &mut keeper, &config, 3, &one) == changed(1));
-    let mut all = Vec::new(alloc);
-    all.push(entry(alloc, 1, "ann")?)?;
-    all.push(entry(alloc, 2, "bob")?)?;
-    assert!(rt; Some(Ok(found(alloc, &mut pin)?)) == rows(2, all));
-    Ok(())
+    let all = entries(&rt, alloc, "ann", "bob");
+    assert!(rt; Some(Ok(found(&rt, alloc, &mut pin))) == rows(2, all));
 }
 
 // A copy has its rows at places from 0 on, so the place of a row tells whether they were copied.
 #[test]
-fn a_write_copies_only_what_is_pinned(rt: HostRuntime) -> Result<(), Fail> {
+fn a_write_copies_only_what_is_pinned(rt: HostRuntime) {
     let alloc = rt.alloc();
-    let config = config(alloc, NUMBERS)?;
-    let mut keeper = indexed(alloc, &config)?;
+    let config = config(&rt, alloc, NUMBERS);
+    let mut keeper = indexed(&rt, alloc, &config);
     for id in 1..6 {
-        let args = list(alloc, Value::Int(id))?;
+        let args = list(&rt, alloc, Value::Int(id));
         assert!(rt; call(alloc, &mut keeper, &config, 1, &args) == changed(1));
     }
-    let one = list(alloc, Value::Int(1))?;
-    let two = list(alloc, Value::Int(2))?;
-    let three = list(alloc, Value::Int(3))?;
-    let last = list(alloc, Value::Int(5))?;
+    let one = list(&rt, alloc, Value::Int(1));
+    let two = list(&rt, alloc, Value::Int(2));
+    let three = list(&rt, alloc, Value::Int(3));
+    let last = list(&rt, alloc, Value::Int(5));
     assert!(rt; call(alloc, &mut keeper, &config, 2, &one) == changed(1));
-    assert!(rt; hits(alloc, &keeper, &config, 2, &last)?.as_slice() == [4].as_slice());
+    assert!(rt; are_hits(alloc, &keeper, &config, 2, &last, &[4]));
     let pinned = pin(alloc, &mut keeper, &config, 3, &[]);
     assert!(rt; call(alloc, &mut keeper, &config, 2, &two) == changed(1));
-    assert!(rt; hits(alloc, &keeper, &config, 2, &last)?.as_slice() == [3].as_slice());
+    assert!(rt; are_hits(alloc, &keeper, &config, 2, &last, &[3]));
     assert!(rt; call(alloc, &mut keeper, &config, 2, &three) == changed(1));
-    assert!(rt; hits(alloc, &keeper, &config, 2, &last)?.as_slice() == [3].as_slice());
+    assert!(rt; are_hits(alloc, &keeper, &config, 2, &last, &[3]));
     drop(pinned);
-    Ok(())
 }
 
 const BLOBS: &str = "okws 1
@@ -194,17 +218,17 @@ query big 2 SELECT b FROM blobs
 ";
 
 #[test]
-fn long_values_are_kept(rt: HostRuntime) -> Result<(), Fail> {
+fn long_values_are_kept(rt: HostRuntime) {
     let alloc = rt.alloc();
-    let config = config(alloc, BLOBS)?;
-    let mut keeper = indexed(alloc, &config)?;
-    let long = vec![in alloc; 7u8; 524_280]?;
-    let args = list(alloc, bytes(alloc, &long)?)?;
+    let config = config(&rt, alloc, BLOBS);
+    let mut keeper = indexed(&rt, alloc, &config);
+    let long = vec![in alloc; 7u8; 524_280].expect(&rt, "memory was refused");
+    let args = list(&rt, alloc, bytes(&rt, alloc, &long));
     let mut all = Vec::new(alloc);
     for _ in 0..2 {
         assert!(rt; call(alloc, &mut keeper, &config, 1, &args) == changed(1));
-        all.push(Items::of(list(alloc, bytes(alloc, &long)?)?))?;
+        let row = Items::of(list(&rt, alloc, bytes(&rt, alloc, &long)));
+        all.push(row).expect(&rt, "memory was refused");
     }
     assert!(rt; call(alloc, &mut keeper, &config, 2, &[]) == rows(1, all));
-    Ok(())
 }

@@ -1,7 +1,7 @@
 //! Keepers over the first proxy of a configuration, and calls of its queries by number, answered at once or
 //! pinned.
 
-ghost use Rattle.std.specs.Prelude.{◌≡◌, ◌<◌, true, length, IfOk, slice_get};
+ghost use Rattle.std.specs.Prelude.{◌≡◌, ◌<◌, true, length, slice_get};
 ghost use Rattle.std.specs.Option.{option_copied};
 ghost use Rattle.okws_plan.specs.Configuration.{tables, query, queries_of};
 ghost use Rattle.okws_outer.specs.Keeping.{is_select};
@@ -17,16 +17,16 @@ use okws_plan::configuration::{Config, Query, Table};
 use okws_plan::meaning::fit;
 use okws_plan::statement::{Action, Answer};
 use row_keeper::ListKeeper;
-use std::alloc::{AllocError, Global};
-use std::test::Fail;
+use std::alloc::Global;
+use std::process::Abort;
 
 /// The configuration of this text.
-pub fn config(alloc: Global, text: &str) -> Result<Config, Fail>
-    ensures { IfOk result AreRuled }
+pub fn config(rt: &impl Abort, alloc: Global, text: &str) -> Config
+    ensures { AreRuled result }
 {
     match read(alloc, text.as_bytes()) {
-        Ok(config) => Ok(config),
-        Err(_) => Err(Fail::from("no lawful configuration")),
+        Ok(config) => config,
+        Err(_) => panic!(rt; "no lawful configuration"),
     }
 }
 
@@ -59,17 +59,23 @@ pub fn query_at(config: &Config, number: u16) -> Option<&Query>
 }
 
 /// A keeper with indexes over the first proxy.
-pub fn indexed(alloc: Global, config: &Config) -> Result<IndexKeeper, AllocError>
-    ensures { IfOk result (λ k. ⟦<IndexKeeper as Keeper>⟧.tables k ≡ tables config.now 0) }
+pub fn indexed(rt: &impl Abort, alloc: Global, config: &Config) -> IndexKeeper
+    ensures { ⟦<IndexKeeper as Keeper>⟧.tables result ≡ tables config.now 0 }
 {
-    IndexKeeper::new(alloc, tables_at(config), queries_at(config))
+    match IndexKeeper::new(alloc, tables_at(config), queries_at(config)) {
+        Ok(keeper) => keeper,
+        Err(_) => panic!(rt; "memory was refused"),
+    }
 }
 
 /// A plain keeper over the first proxy.
-pub fn plain(alloc: Global, config: &Config) -> Result<ListKeeper, AllocError>
-    ensures { IfOk result (λ k. ⟦<ListKeeper as Keeper>⟧.tables k ≡ tables config.now 0) }
+pub fn plain(rt: &impl Abort, alloc: Global, config: &Config) -> ListKeeper
+    ensures { ⟦<ListKeeper as Keeper>⟧.tables result ≡ tables config.now 0 }
 {
-    ListKeeper::new(alloc, tables_at(config), Vec::new(alloc))
+    match ListKeeper::new(alloc, tables_at(config), Vec::new(alloc)) {
+        Ok(keeper) => keeper,
+        Err(_) => panic!(rt; "memory was refused"),
+    }
 }
 
 /// What a query answers; nothing where there is none of this number, or its arguments are wrong.
@@ -126,35 +132,45 @@ pub fn pin<K: Keeper>(
 }
 
 /// The answer of a pin.
-pub fn found<P: Pinned>(alloc: Global, pin: &mut P) -> Result<Answer, AllocError> {
+pub fn found<R: Abort, P: Pinned>(rt: &R, alloc: Global, pin: &mut P) -> Answer {
     let count = pin.answer();
     let mut rows = Vec::new(alloc);
     for row in 0..count {
-        rows.push(row_at(alloc, pin, row)?)?;
+        rows.push(row_at(rt, alloc, pin, row))
+            .expect(rt, "memory was refused");
     }
-    Ok(Answer::Rows {
+    Answer::Rows {
         columns: pin.columns(),
         rows: Items::of(rows),
-    })
+    }
 }
 
-fn row_at<P: Pinned>(alloc: Global, pin: &P, row: usize) -> Result<Row, AllocError>
+fn row_at<R: Abort, P: Pinned>(rt: &R, alloc: Global, pin: &P, row: usize) -> Row
     requires found { P.found pin.now ≡ true }
     requires row { row < length (P.rows pin.now) }
 {
     let mut values = Vec::new(alloc);
     for column in 0..pin.columns() {
-        values.push(pin.value(row, column).copy(alloc)?)?;
+        let value = pin.value(row, column).copy(alloc);
+        values
+            .push(value.expect(rt, "memory was refused"))
+            .expect(rt, "memory was refused");
     }
-    Ok(Items::of(values))
+    Items::of(values)
 }
 
-pub fn text(alloc: Global, text: &str) -> Result<Value, AllocError> {
-    Ok(Value::Text(Text::of(String::from_str(alloc, text)?)))
+pub fn text(rt: &impl Abort, alloc: Global, text: &str) -> Value {
+    match String::from_str(alloc, text) {
+        Ok(text) => Value::Text(Text::of(text)),
+        Err(_) => panic!(rt; "memory was refused"),
+    }
 }
 
-pub fn bytes(alloc: Global, bytes: &[u8]) -> Result<Value, AllocError> {
-    Ok(Value::Bytes(Items::of(copies(alloc, bytes)?)))
+pub fn bytes(rt: &impl Abort, alloc: Global, bytes: &[u8]) -> Value {
+    match copies(alloc, bytes) {
+        Ok(bytes) => Value::Bytes(Items::of(bytes)),
+        Err(_) => panic!(rt; "memory was refused"),
+    }
 }
 
 /// The answer of these rows.

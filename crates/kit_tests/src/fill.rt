@@ -2,35 +2,28 @@
 
 use std::alloc::Global;
 use std::process::Abort;
-use std::test::Fail;
 use svc_kit::bounded::LONGEST_FILLED;
 use svc_kit::fill::{FillError, Pair, fill};
 
 /// The template filled, or the place and the number of the rule that refuses it.
 fn filled(
+    rt: &impl Abort,
     alloc: Global,
     template: &[u8],
     pairs: &[Pair],
-) -> Result<Result<Vec<u8>, (usize, u8)>, Fail> {
+) -> Result<Vec<u8>, (usize, u8)> {
     match fill(alloc, template, pairs) {
-        Ok(text) => Ok(Ok(text.into_vec())),
-        Err(FillError::Refused { at, rule }) => Ok(Err((at, rule.number()))),
-        Err(FillError::NoMemory) => Err("no memory".into()),
+        Ok(text) => Ok(text.into_vec()),
+        Err(FillError::Refused { at, rule }) => Err((at, rule.number())),
+        Err(FillError::NoMemory) => panic!(rt; "memory was refused"),
     }
 }
 
-fn fills(
-    rt: &impl Abort,
-    alloc: Global,
-    template: &str,
-    pairs: &[Pair],
-    want: &str,
-) -> Result<(), Fail> {
-    match filled(alloc, template.as_bytes(), pairs)? {
-        Ok(text) => assert_eq!(rt; text.as_slice(), want.as_bytes(), "{template}"),
+fn fills(rt: &impl Abort, alloc: Global, template: &str, pairs: &[Pair], want: &str) {
+    match filled(rt, alloc, template.as_bytes(), pairs) {
+        Ok(text) => assert!(rt; text.as_slice() == want.as_bytes(), "{template}"),
         Err((at, rule)) => panic!(rt; "{template} refused at {at} by rule {rule}"),
     }
-    Ok(())
 }
 
 fn refuses(
@@ -40,33 +33,29 @@ fn refuses(
     pairs: &[Pair],
     place: usize,
     number: u8,
-) -> Result<(), Fail> {
-    match filled(alloc, template.as_bytes(), pairs)? {
+) {
+    match filled(rt, alloc, template.as_bytes(), pairs) {
         Ok(_) => panic!(rt; "{template} is filled"),
-        Err((at, rule)) => {
-            assert_eq!(rt; at, place, "{template}");
-            assert_eq!(rt; rule, number, "{template}");
-        }
+        Err(found) => assert!(rt; found == (place, number), "{template}"),
     }
-    Ok(())
 }
 
 #[test]
-fn places_are_filled(rt: HostRuntime) -> Result<(), Fail> {
+fn places_are_filled(rt: HostRuntime) {
     let alloc = rt.alloc();
     let x = [Pair {
         name: b"x",
         value: b"<&",
     }];
-    fills(&rt, alloc, "a@{x}b@{raw:x}@", &x, "a&lt;&amp;b<&@")?;
-    fills(&rt, alloc, "", &x, "")?;
-    fills(&rt, alloc, "@@{x}@", &x, "@&lt;&amp;@")?;
-    fills(&rt, alloc, "a@b.example {x}", &x, "a@b.example {x}")?;
+    fills(&rt, alloc, "a@{x}b@{raw:x}@", &x, "a&lt;&amp;b<&@");
+    fills(&rt, alloc, "", &x, "");
+    fills(&rt, alloc, "@@{x}@", &x, "@&lt;&amp;@");
+    fills(&rt, alloc, "a@b.example {x}", &x, "a@b.example {x}");
     let quotes = [Pair {
         name: b"x",
         value: b"\"'>",
     }];
-    fills(&rt, alloc, "@{x}@{raw:x}", &quotes, "&quot;&#39;&gt;\"'>")?;
+    fills(&rt, alloc, "@{x}@{raw:x}", &quotes, "&quot;&#39;&gt;\"'>");
     // The first pair with the name; a name has no colon.
     let two = [
         Pair {
@@ -78,46 +67,46 @@ fn places_are_filled(rt: HostRuntime) -> Result<(), Fail> {
             value: b"2",
         },
     ];
-    fills(&rt, alloc, "@{raw}@{raw:raw}", &two, "11")?;
+    fills(&rt, alloc, "@{raw}@{raw:raw}", &two, "11");
     // What a value brings isn't read again.
     let at = [Pair {
         name: b"x",
         value: b"@{y}",
     }];
-    fills(&rt, alloc, "@{x}", &at, "@{y}")
+    fills(&rt, alloc, "@{x}", &at, "@{y}");
 }
 
 #[test]
-fn templates_are_refused(rt: HostRuntime) -> Result<(), Fail> {
+fn templates_are_refused(rt: HostRuntime) {
     let alloc = rt.alloc();
     let x = [Pair {
         name: b"x",
         value: b"<&",
     }];
-    refuses(&rt, alloc, "@{x", &x, 0, 1)?;
-    refuses(&rt, alloc, "b@{y}", &x, 1, 2)?;
-    refuses(&rt, alloc, "@{}", &x, 0, 1)?;
-    refuses(&rt, alloc, "@{raw:}", &x, 0, 1)?;
-    refuses(&rt, alloc, "@{Raw:x}", &x, 0, 1)?;
-    refuses(&rt, alloc, "@{raw:y}", &x, 0, 2)?;
-    refuses(&rt, alloc, "@{a@{x}}", &x, 0, 1)?;
+    refuses(&rt, alloc, "@{x", &x, 0, 1);
+    refuses(&rt, alloc, "b@{y}", &x, 1, 2);
+    refuses(&rt, alloc, "@{}", &x, 0, 1);
+    refuses(&rt, alloc, "@{raw:}", &x, 0, 1);
+    refuses(&rt, alloc, "@{Raw:x}", &x, 0, 1);
+    refuses(&rt, alloc, "@{raw:y}", &x, 0, 2);
+    refuses(&rt, alloc, "@{a@{x}}", &x, 0, 1);
     // The leftmost place, whichever rule it breaks.
-    refuses(&rt, alloc, "@{x}@{y}@{", &x, 4, 2)?;
-    refuses(&rt, alloc, "@{x}@{@{y}", &x, 4, 1)
+    refuses(&rt, alloc, "@{x}@{y}@{", &x, 4, 2);
+    refuses(&rt, alloc, "@{x}@{@{y}", &x, 4, 1);
 }
 
 #[test]
-fn a_text_may_be_just_as_long(rt: HostRuntime) -> Result<(), Fail> {
+fn a_text_may_be_just_as_long(rt: HostRuntime) {
     let alloc = rt.alloc();
-    let value = vec![in alloc; b'a'; LONGEST_FILLED]?;
+    let value = vec![in alloc; b'a'; LONGEST_FILLED].expect(&rt, "memory was refused");
     let x = [Pair {
         name: b"x",
         value: &value,
     }];
-    match filled(alloc, b"@{x}", &x)? {
-        Ok(text) => assert_eq!(rt; text.len(), LONGEST_FILLED),
+    match filled(&rt, alloc, b"@{x}", &x) {
+        Ok(text) => assert!(rt; text.len() == LONGEST_FILLED),
         Err(_) => panic!(rt; "refused"),
     }
-    refuses(&rt, alloc, "@{x}.", &x, 5, 3)?;
-    refuses(&rt, alloc, "@{x}@{x}@{y}", &x, 8, 2)
+    refuses(&rt, alloc, "@{x}.", &x, 5, 3);
+    refuses(&rt, alloc, "@{x}@{x}@{y}", &x, 8, 2);
 }

@@ -9,7 +9,7 @@ mod reading;
 use okws_outer::memory::link::{FedLink, MemoryLink};
 use okws_outer::stream::Link;
 use std::alloc::Global;
-use std::test::Fail;
+use std::process::Abort;
 
 /// The Boot of service 0, incarnation 1, with a token at proxy 0.
 const BOOT: &str = "0000001e010000000000010100000000000000000001ade0b876903df1a0e56a5d40";
@@ -25,13 +25,30 @@ const OPENED: &str = "000000050400000000";
 const ROWS: &str =
     "000000280502000000020100000000000000010200000003616e6e0100000000000000020200000003626f62";
 
+/// The bytes of these hexadecimal digits.
+fn decoded(rt: &impl Abort, alloc: Global, digits: &str) -> Vec<u8> {
+    match hex::decode(alloc, digits) {
+        Ok(bytes) => bytes,
+        Err(_) => panic!(rt; "no hexadecimal digits"),
+    }
+}
+
+/// The hexadecimal digits of these bytes.
+fn encoded(rt: &impl Abort, alloc: Global, bytes: &[u8]) -> String {
+    match hex::encode(alloc, bytes) {
+        Ok(digits) => digits,
+        Err(_) => panic!(rt; "memory was refused"),
+    }
+}
+
 /// A link with room, to which these frames were fed, and then the end.
-fn fed(alloc: Global, piece: usize, frames: &[&str]) -> Result<MemoryLink<'static>, Fail> {
+fn fed(rt: &impl Abort, alloc: Global, piece: usize, frames: &[&str]) -> MemoryLink<'static> {
     let mut link = MemoryLink::new(alloc, piece, &[]);
-    link.make_room(4096)?;
+    link.make_room(4096).expect(rt, "memory was refused");
     for frame in frames {
-        link.feed(&hex::decode(alloc, *frame)?)?;
+        let bytes = decoded(rt, alloc, frame);
+        link.feed(&bytes).expect(rt, "memory was refused");
     }
     link.feed_end();
-    Ok(link)
+    link
 }

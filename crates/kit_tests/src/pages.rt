@@ -2,55 +2,72 @@
 
 use frame_codec::frame::ServerFrame;
 use okws_base::items::Items;
-use std::alloc::{AllocError, Global};
+use std::alloc::Global;
 use std::process::Abort;
-use std::test::Fail;
 use svc_kit::pages::Pages;
 
-fn push(alloc: Global, name: &[u8], edition: u32, text: &[u8]) -> Result<ServerFrame, AllocError> {
-    Ok(ServerFrame::Push {
-        template: Items::of(Vec::from_slice(alloc, name)?),
-        edition,
-        content: Items::of(Vec::from_slice(alloc, text)?),
-    })
+fn items(rt: &impl Abort, alloc: Global, bytes: &[u8]) -> Items<u8> {
+    Items::of(Vec::from_slice(alloc, bytes).expect(rt, "memory was refused"))
 }
 
-fn template(alloc: Global, edition: u32, text: &[u8]) -> Result<ServerFrame, AllocError> {
-    Ok(ServerFrame::Template {
+/// The pages hear of an edition that is pushed.
+fn push(
+    rt: &impl Abort,
+    alloc: Global,
+    pages: &mut Pages,
+    (name, edition, text): (&[u8], u32, &[u8]),
+) {
+    let push = ServerFrame::Push {
+        template: items(rt, alloc, name),
         edition,
-        content: Items::of(Vec::from_slice(alloc, text)?),
-    })
+        content: items(rt, alloc, text),
+    };
+    pages.heard(alloc, &push).expect(rt, "memory was refused");
+}
+
+/// The pages hear of a Template, which is of what was asked for.
+fn hear(rt: &impl Abort, alloc: Global, pages: &mut Pages, edition: u32, text: &[u8]) {
+    let template = ServerFrame::Template {
+        edition,
+        content: items(rt, alloc, text),
+    };
+    pages
+        .heard(alloc, &template)
+        .expect(rt, "memory was refused");
+}
+
+fn ask(rt: &impl Abort, alloc: Global, pages: &mut Pages, name: &[u8]) {
+    pages.said(alloc, name).expect(rt, "memory was refused");
 }
 
 fn holds(rt: &impl Abort, pages: &Pages, name: &[u8], edition: u32, text: &[u8]) {
     match pages.page(name) {
         Some((number, content)) => {
-            assert_eq!(rt; number, edition);
-            assert_eq!(rt; content, text);
+            assert!(rt; number == edition);
+            assert!(rt; content == text);
         }
         None => panic!(rt; "no page"),
     }
 }
 
 #[test]
-fn the_last_edition_is_kept(rt: HostRuntime) -> Result<(), Fail> {
+fn the_last_edition_is_kept(rt: HostRuntime) {
     let alloc = rt.alloc();
     let mut pages = Pages::new(alloc);
     assert!(rt; pages.page(b"page").is_none());
-    pages.heard(alloc, &push(alloc, b"page", 1, b"a")?)?;
-    pages.heard(alloc, &push(alloc, b"other", 1, b"o")?)?;
-    pages.heard(alloc, &push(alloc, b"page", 2, b"bb")?)?;
-    pages.heard(alloc, &ServerFrame::Logged)?;
+    push(&rt, alloc, &mut pages, (b"page", 1, b"a"));
+    push(&rt, alloc, &mut pages, (b"other", 1, b"o"));
+    push(&rt, alloc, &mut pages, (b"page", 2, b"bb"));
+    let logged = pages.heard(alloc, &ServerFrame::Logged);
+    logged.expect(&rt, "memory was refused");
     holds(&rt, &pages, b"page", 2, b"bb");
     holds(&rt, &pages, b"other", 1, b"o");
-    // A Template is of what was asked for.
-    pages.heard(alloc, &template(alloc, 9, b"nobody's")?)?;
-    pages.said(alloc, b"third")?;
-    pages.heard(alloc, &template(alloc, 3, b"ccc")?)?;
+    hear(&rt, alloc, &mut pages, 9, b"nobody's");
+    ask(&rt, alloc, &mut pages, b"third");
+    hear(&rt, alloc, &mut pages, 3, b"ccc");
     holds(&rt, &pages, b"third", 3, b"ccc");
-    pages.said(alloc, b"page")?;
-    pages.heard(alloc, &template(alloc, 4, b"")?)?;
+    ask(&rt, alloc, &mut pages, b"page");
+    hear(&rt, alloc, &mut pages, 4, b"");
     holds(&rt, &pages, b"page", 4, b"");
     assert!(rt; pages.page(b"nobody").is_none());
-    Ok(())
 }

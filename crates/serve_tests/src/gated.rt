@@ -4,8 +4,8 @@ use crate::gate::{Coming, Held, Hold};
 use crate::outside::{Ended, Plan, REPLIED, bytes, child, client, get, own, plain, serve};
 use okws_outer::gate::Point;
 use std::alloc::Global;
+use std::process::Abort;
 use std::sync::Wait;
-use std::test::Fail;
 use std::thread::Threads;
 
 /// Three services at two proxies; the third one has no path.
@@ -91,25 +91,25 @@ struct Two {
 }
 
 /// What the client with this request was answered.
-fn answer_to(alloc: Global, ended: &Ended, request: &str) -> Result<Vec<u8>, Fail> {
+fn answer_to(rt: &impl Abort, alloc: Global, ended: &Ended, request: &str) -> Vec<u8> {
     for (asked, answer) in ended.asked.iter().zip(ended.answers.iter()) {
         if asked.as_slice() == request.as_bytes() {
-            return Ok(Vec::from_slice(alloc, answer)?);
+            return Vec::from_slice(alloc, answer).expect(rt, "memory was refused");
         }
     }
-    Err(Fail::new("nobody asked so"))
+    panic!(rt; "nobody asked so")
 }
 
 /// Two doors serve a client of guest and one of other, with these holds at the gate.
-fn both<'x, R: AllocGlobal + Wait + Threads + Sync>(
+fn both<'x, R: Abort + AllocGlobal + Wait + Threads + Sync>(
     rt: &'x R,
     holds: &'x [Hold],
     console: &[u8],
-) -> Result<Two, Fail> {
+) -> Two {
     let alloc = rt.alloc();
-    let (guest, other) = (get(alloc, "/guest")?, get(alloc, "/other")?);
-    let (guest_says, other_says) = (bytes(alloc, GUEST)?, bytes(alloc, OTHER)?);
-    let console = Vec::from_slice(alloc, console)?;
+    let (guest, other) = (get(rt, alloc, "/guest"), get(rt, alloc, "/other"));
+    let (guest_says, other_says) = (bytes(rt, alloc, GUEST), bytes(rt, alloc, OTHER));
+    let console = Vec::from_slice(alloc, console).expect(rt, "memory was refused");
     let plan = Plan {
         site: SITE,
         words: &[
@@ -120,16 +120,14 @@ fn both<'x, R: AllocGlobal + Wait + Threads + Sync>(
         console: &console,
         ..plain()
     };
-    let ended = serve(rt, alloc, &plan, Held::new(rt, holds))?;
-    let (guest, other) = (
-        answer_to(alloc, &ended, &guest)?,
-        answer_to(alloc, &ended, &other)?,
-    );
-    Ok(Two {
+    let ended = serve(rt, alloc, &plan, Held::new(rt, holds));
+    let guest = answer_to(rt, alloc, &ended, &guest);
+    let other = answer_to(rt, alloc, &ended, &other);
+    Two {
         ended,
         guest,
         other,
-    })
+    }
 }
 
 /// The dialog of guest is held until other's client is answered and guest's relaunch is begun, which begins
@@ -150,35 +148,31 @@ const RELAUNCHED: [Hold; 3] = [
 ];
 
 #[test]
-fn a_dialog_of_a_relaunched_service_is_superseded(rt: HostRuntime) -> Result<(), Fail> {
-    let two = both(&rt, &RELAUNCHED, b"relaunch third\nrelaunch guest\n")?;
-    assert!(rt; two.guest.as_slice() == own(rt.alloc(), "503 Service Unavailable")?.as_bytes());
+fn a_dialog_of_a_relaunched_service_is_superseded(rt: HostRuntime) {
+    let two = both(&rt, &RELAUNCHED, b"relaunch third\nrelaunch guest\n");
+    let want = own(&rt, rt.alloc(), "503 Service Unavailable");
+    assert!(rt; two.guest.as_slice() == want.as_bytes());
     assert!(rt; two.other.as_slice() == REPLIED.as_bytes());
     assert!(rt; two.ended.console.as_slice() == b"relaunched 2\nrelaunched 2\n".as_slice());
-    Ok(())
 }
 
 /// Both clients are told what their services reply.
-fn are_replied<R: AllocGlobal + Wait + Threads + Sync>(
-    rt: &R,
-    holds: &[Hold],
-) -> Result<bool, Fail> {
-    let two = both(rt, holds, b"")?;
-    Ok(two.guest.as_slice() == REPLIED.as_bytes() && two.other.as_slice() == REPLIED.as_bytes())
+fn are_replied<R: Abort + AllocGlobal + Wait + Threads + Sync>(rt: &R, holds: &[Hold]) -> bool {
+    let two = both(rt, holds, b"");
+    two.guest.as_slice() == REPLIED.as_bytes() && two.other.as_slice() == REPLIED.as_bytes()
 }
 
 #[test]
-fn a_held_turn_at_a_proxy_holds_nobody_at_another(rt: HostRuntime) -> Result<(), Fail> {
+fn a_held_turn_at_a_proxy_holds_nobody_at_another(rt: HostRuntime) {
     let holds = [Hold {
         at: MAIN_CALLED,
         until: ANSWERED,
     }];
-    assert!(rt; are_replied(&rt, &holds)?);
-    Ok(())
+    assert!(rt; are_replied(&rt, &holds));
 }
 
 #[test]
-fn two_dialogs_stand_open_at_once(rt: HostRuntime) -> Result<(), Fail> {
+fn two_dialogs_stand_open_at_once(rt: HostRuntime) {
     let holds = [
         Hold {
             at: GUEST_REQUESTED,
@@ -189,12 +183,11 @@ fn two_dialogs_stand_open_at_once(rt: HostRuntime) -> Result<(), Fail> {
             until: GUEST_REQUESTED,
         },
     ];
-    assert!(rt; are_replied(&rt, &holds)?);
-    Ok(())
+    assert!(rt; are_replied(&rt, &holds));
 }
 
 #[test]
-fn two_turns_at_proxies_stand_open_at_once(rt: HostRuntime) -> Result<(), Fail> {
+fn two_turns_at_proxies_stand_open_at_once(rt: HostRuntime) {
     let holds = [
         Hold {
             at: MAIN_CALLED,
@@ -205,6 +198,5 @@ fn two_turns_at_proxies_stand_open_at_once(rt: HostRuntime) -> Result<(), Fail> 
             until: MAIN_CALLED,
         },
     ];
-    assert!(rt; are_replied(&rt, &holds)?);
-    Ok(())
+    assert!(rt; are_replied(&rt, &holds));
 }

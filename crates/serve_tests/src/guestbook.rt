@@ -3,8 +3,8 @@
 use crate::outside::{Ended, Plan, bytes, child, client, plain, serve};
 use okws_outer::gate::NoGate;
 use std::alloc::Global;
+use std::process::Abort;
 use std::sync::Wait;
-use std::test::Fail;
 use std::thread::Threads;
 
 const GET: &[u8] = b"GET /guest HTTP/1.1\r\nHost: localhost\r\n\r\n";
@@ -50,8 +50,8 @@ const CONFLICT: &[u8] =
     b"HTTP/1.1 409 Conflict\r\nContent-Type: text/plain\r\nContent-Length: 6\r\nConnection: close\r\n\r\ntaken\n";
 
 /// The guestbook is shown, signed, and signed under a number that is taken.
-fn visits<R: AllocGlobal + Wait + Threads + Sync>(rt: &R) -> Result<Ended, Fail> {
-    let says = bytes(rt.alloc(), SAYS)?;
+fn visits<R: Abort + AllocGlobal + Wait + Threads + Sync>(rt: &R) -> Ended {
+    let says = bytes(rt, rt.alloc(), SAYS);
     let plan = Plan {
         words: &[
             "serve", "site", "--port", "8080", "--doors", "1", "--serve", "3", "--log", "log",
@@ -64,45 +64,47 @@ fn visits<R: AllocGlobal + Wait + Threads + Sync>(rt: &R) -> Result<Ended, Fail>
 }
 
 #[test]
-fn a_guestbook_is_shown_and_signed(rt: HostRuntime) -> Result<(), Fail> {
-    let ended = visits(&rt)?;
+fn a_guestbook_is_shown_and_signed(rt: HostRuntime) {
+    let ended = visits(&rt);
     let [shown, signed, taken] = ended.answers.as_slice() else {
-        return Err(Fail::new("not three answers"));
+        panic!(rt; "not three answers");
     };
     assert!(rt; shown.as_slice() == SHOWN);
     assert!(rt; signed.as_slice() == SEE_OTHER);
     assert!(rt; taken.as_slice() == CONFLICT);
-    assert!(rt;
-        ended
-            .log
-            .is_some_and(|log| log.as_slice() == b"guest 1 post 3\n".as_slice())
-    );
-    Ok(())
+    let log = ended.log.as_ref().map(|log| log.as_slice());
+    assert!(rt; log == Some(b"guest 1 post 3\n".as_slice()));
 }
 
 /// The Request frame of a POST of 61 bytes of head and 18 of content, behind these bytes.
-fn push_request(heard: &mut Vec<u8>, request: &[u8]) -> Result<(), Fail> {
-    let (head, content) = request.split_at_checked(61).ok_or("a short request")?;
-    heard.extend_from_slice(b"\0\0\0\x58\x02\0\0\0\x3d")?;
-    heard.extend_from_slice(head)?;
-    heard.extend_from_slice(b"\0\0\0\x12")?;
-    heard.extend_from_slice(content)?;
-    Ok(())
+fn push_request(rt: &impl Abort, heard: &mut Vec<u8>, request: &[u8]) {
+    let (head, content) = request.split_at_checked(61).expect(rt, "a short request");
+    for part in [
+        b"\0\0\0\x58\x02\0\0\0\x3d".as_slice(),
+        head,
+        b"\0\0\0\x12",
+        content,
+    ] {
+        heard
+            .extend_from_slice(part)
+            .expect(rt, "memory was refused");
+    }
 }
 
-fn wanted(alloc: Global) -> Result<Vec<u8>, Fail> {
-    let mut heard = bytes(alloc, BEGINS)?;
-    push_request(&mut heard, FREE)?;
-    heard.extend_from_slice(&bytes(alloc, SIGNED)?)?;
-    push_request(&mut heard, TAKEN)?;
-    heard.extend_from_slice(&bytes(alloc, REFUSED)?)?;
-    Ok(heard)
+fn wanted(rt: &impl Abort, alloc: Global) -> Vec<u8> {
+    let mut heard = bytes(rt, alloc, BEGINS);
+    for (request, answer) in [(FREE, SIGNED), (TAKEN, REFUSED)] {
+        push_request(rt, &mut heard, request);
+        heard
+            .extend_from_slice(&bytes(rt, alloc, answer))
+            .expect(rt, "memory was refused");
+    }
+    heard
 }
 
 #[test]
-fn a_guestbook_hears_its_frames(rt: HostRuntime) -> Result<(), Fail> {
-    let ended = visits(&rt)?;
-    let heard = ended.heard.first().ok_or("no child")?;
-    assert!(rt; heard.as_slice() == wanted(rt.alloc())?.as_slice());
-    Ok(())
+fn a_guestbook_hears_its_frames(rt: HostRuntime) {
+    let ended = visits(&rt);
+    let heard = ended.heard.first().expect(&rt, "no child");
+    assert!(rt; heard.as_slice() == wanted(&rt, rt.alloc()).as_slice());
 }

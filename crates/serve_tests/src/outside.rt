@@ -16,9 +16,9 @@ use outer_memory::children::{ChildPlan, MemoryChildren};
 use outer_memory::door::{Client, MemoryNetwork};
 use outer_memory::sinks::MemorySinks;
 use outer_memory::stores::MemoryStores;
-use std::alloc::{AllocError, Global};
+use std::alloc::Global;
+use std::process::Abort;
 use std::sync::Wait;
-use std::test::Fail;
 use std::thread::Threads;
 
 /// The site of the worked rows, with a second service.
@@ -46,23 +46,25 @@ pub const REPLIED: &str =
     "HTTP/1.1 200 OK\r\nContent-Type: text/plain\r\nContent-Length: 2\r\nConnection: close\r\n\r\nok";
 
 /// A request for a path.
-pub fn get(alloc: Global, path: &str) -> Result<String, AllocError> {
-    format!(in alloc; "GET {path} HTTP/1.1\r\nHost: localhost\r\n\r\n")
+pub fn get(rt: &impl Abort, alloc: Global, path: &str) -> String {
+    let request = format!(in alloc; "GET {path} HTTP/1.1\r\nHost: localhost\r\n\r\n");
+    request.expect(rt, "memory was refused")
 }
 
 /// The server's own response.
-pub fn own(alloc: Global, status: &str) -> Result<String, AllocError> {
+pub fn own(rt: &impl Abort, alloc: Global, status: &str) -> String {
     let length = status.len() + 1;
-    format!(in alloc;
+    let response = format!(in alloc;
         "HTTP/1.1 {status}\r\nContent-Type: text/plain\r\nContent-Length: {length}\r\nConnection: close\r\n\r\n{status}\n"
-    )
+    );
+    response.expect(rt, "memory was refused")
 }
 
 /// The bytes of these hexadecimal digits.
-pub fn bytes(alloc: Global, digits: &str) -> Result<Vec<u8>, Fail> {
+pub fn bytes(rt: &impl Abort, alloc: Global, digits: &str) -> Vec<u8> {
     match hex::decode(alloc, digits) {
-        Ok(bytes) => Ok(bytes),
-        Err(_) => Err(Fail::new("no hexadecimal digits")),
+        Ok(bytes) => bytes,
+        Err(_) => panic!(rt; "no hexadecimal digits"),
     }
 }
 
@@ -155,108 +157,132 @@ pub struct Ended {
     pub heard: Vec<Vec<u8>>,
 }
 
-fn objects<'a, G: Drop>(
+fn objects<'a, R: Abort, G: Drop>(
+    rt: &R,
     alloc: Global,
     plan: &Plan<'a>,
     gate: G,
-) -> Result<MemoryObjects<'a, Shaking<'a>, G>, AllocError> {
-    Ok(Objects {
+) -> MemoryObjects<'a, Shaking<'a>, G> {
+    let console = MemoryConn::new(alloc, plan.console, &[], 65_536, plan.slips);
+    Objects {
         network: MemoryNetwork::new(alloc, plan.clients, &[], plan.listens),
         children: MemoryChildren::new(alloc, plan.children, plan.starts),
-        console: MemoryConn::new(alloc, plan.console, &[], 65_536, plan.slips)?,
+        console: console.expect(rt, "memory was refused"),
         stores: MemoryStores::new(Shaking { calls: plan.calls }, plan.makings),
         sinks: MemorySinks::new(alloc, 65_536, &[], plan.openings),
         gate,
-    })
-}
-
-fn copy_of(alloc: Global, told: &Option<Items<u8>>) -> Result<Vec<u8>, Fail> {
-    match told {
-        Some(bytes) => Ok(Vec::from_slice(alloc, bytes.as_slice())?),
-        None => Err(Fail::new("memory was refused")),
     }
 }
 
-fn asked_of(alloc: Global, network: &MemoryNetwork<'_>) -> Result<Vec<Vec<u8>>, Fail> {
+fn copy_of(rt: &impl Abort, alloc: Global, bytes: &[u8]) -> Vec<u8> {
+    Vec::from_slice(alloc, bytes).expect(rt, "memory was refused")
+}
+
+fn told_of(rt: &impl Abort, alloc: Global, told: &Option<Items<u8>>) -> Vec<u8> {
+    match told {
+        Some(bytes) => copy_of(rt, alloc, bytes.as_slice()),
+        None => panic!(rt; "memory was refused"),
+    }
+}
+
+/// What came over the connections, door by door.
+fn asked_of(rt: &impl Abort, alloc: Global, network: &MemoryNetwork<'_>) -> Vec<Vec<u8>> {
     let mut asked = Vec::new(alloc);
     for door in network.doors() {
-        for served in door.finished().ok_or("memory was refused")? {
-            asked.push(copy_of(alloc, &served.came)?)?;
+        for served in door.finished().expect(rt, "memory was refused") {
+            asked
+                .push(told_of(rt, alloc, &served.came))
+                .expect(rt, "memory was refused");
         }
     }
-    Ok(asked)
+    asked
 }
 
-fn answers_of(alloc: Global, network: &MemoryNetwork<'_>) -> Result<Vec<Vec<u8>>, Fail> {
+/// What they were given.
+fn answers_of(rt: &impl Abort, alloc: Global, network: &MemoryNetwork<'_>) -> Vec<Vec<u8>> {
     let mut answers = Vec::new(alloc);
     for door in network.doors() {
-        for served in door.finished().ok_or("memory was refused")? {
-            answers.push(copy_of(alloc, &served.given)?)?;
+        for served in door.finished().expect(rt, "memory was refused") {
+            answers
+                .push(told_of(rt, alloc, &served.given))
+                .expect(rt, "memory was refused");
         }
     }
-    Ok(answers)
+    answers
 }
 
-fn log_of(alloc: Global, sinks: &MemorySinks<'_>) -> Result<Option<Vec<u8>>, Fail> {
-    match sinks.closed().ok_or("memory was refused")? {
-        [end, ..] => Ok(Some(copy_of(alloc, &end.given)?)),
-        [] => Ok(None),
+fn log_of(rt: &impl Abort, alloc: Global, sinks: &MemorySinks<'_>) -> Option<Vec<u8>> {
+    match sinks.closed() {
+        Some([end, ..]) => Some(told_of(rt, alloc, &end.given)),
+        Some([]) => None,
+        None => panic!(rt; "memory was refused"),
     }
 }
 
-fn heard_of(alloc: Global, children: &MemoryChildren<'_>) -> Result<Vec<Vec<u8>>, Fail> {
+fn heard_of(rt: &impl Abort, alloc: Global, children: &MemoryChildren<'_>) -> Vec<Vec<u8>> {
     let mut heard = Vec::new(alloc);
-    for end in children.finished().ok_or("memory was refused")? {
-        heard.push(copy_of(alloc, &end.given)?)?;
+    for end in children.finished().expect(rt, "memory was refused") {
+        heard
+            .push(told_of(rt, alloc, &end.given))
+            .expect(rt, "memory was refused");
     }
-    Ok(heard)
+    heard
 }
 
-fn ending<G>(
+fn ending<R: Abort, G>(
+    rt: &R,
     alloc: Global,
     status: Status,
     printed: &[u8],
     things: &MemoryObjects<'_, Shaking<'_>, G>,
-) -> Result<Ended, Fail> {
-    Ok(Ended {
+) -> Ended {
+    let started = things.children.started();
+    Ended {
         status,
-        printed: Vec::from_slice(alloc, printed)?,
-        asked: asked_of(alloc, &things.network)?,
-        answers: answers_of(alloc, &things.network)?,
-        console: Vec::from_slice(alloc, things.console.given())?,
-        log: log_of(alloc, &things.sinks)?,
-        started: things.children.started().ok_or("memory was refused")?.len(),
-        heard: heard_of(alloc, &things.children)?,
-    })
+        printed: copy_of(rt, alloc, printed),
+        asked: asked_of(rt, alloc, &things.network),
+        answers: answers_of(rt, alloc, &things.network),
+        console: copy_of(rt, alloc, things.console.given()),
+        log: log_of(rt, alloc, &things.sinks),
+        started: started.expect(rt, "memory was refused").len(),
+        heard: heard_of(rt, alloc, &things.children),
+    }
+}
+
+fn owned(rt: &impl Abort, alloc: Global, words: &[&str]) -> Vec<String> {
+    let mut all = Vec::new(alloc);
+    for word in words {
+        let word = String::from_str(alloc, word).expect(rt, "memory was refused");
+        all.push(word).expect(rt, "memory was refused");
+    }
+    all
 }
 
 /// Runs a server as it is planned, with a gate that all of its threads pass.
-pub fn serve<R: Wait + Threads + Sync, G: Gate + Sync + Drop>(
+pub fn serve<R: Abort + Wait + Threads + Sync, G: Gate + Sync + Drop>(
     rt: &R,
     alloc: Global,
     plan: &Plan<'_>,
     gate: G,
-) -> Result<Ended, Fail> {
-    let mut words = Vec::new(alloc);
-    for word in plan.words {
-        words.push(String::from_str(alloc, word)?)?;
-    }
+) -> Ended {
+    let words = owned(rt, alloc, plan.words);
     let entries = [Entry {
         path: "site",
         bytes: plan.site.as_bytes(),
     }];
+    let out = MemorySink::new(alloc, plan.room, &[]).expect(rt, "memory was refused");
     let mut world = Fitted {
         outside: Some(Outside {
             files: MemoryFiles::new(&entries, 4_096, plan.reads),
-            out: MemorySink::new(alloc, plan.room, &[])?,
+            out,
             seed: [0; 32],
         }),
-        further: Some(objects(alloc, plan, gate)?),
+        further: Some(objects(rt, alloc, plan, gate)),
     };
     let (status, record) = okws(rt, alloc, &words, &mut world);
     drop(record);
     match (&world.outside, &world.further) {
-        (Some(all), Some(things)) => ending(alloc, status, all.out.given(), things),
-        _ => Err(Fail::new("the objects are out")),
+        (Some(all), Some(things)) => ending(rt, alloc, status, all.out.given(), things),
+        _ => panic!(rt; "the objects are out"),
     }
 }

@@ -5,17 +5,17 @@ use okws_outer::child::Ended;
 use okws_outer::gate::NoGate;
 use okws_server::status::Status;
 use outer_memory::children::ChildPlan;
+use std::process::Abort;
 use std::sync::Wait;
-use std::test::Fail;
 use std::thread::Threads;
 
 /// What a client is told who asks for a path three times, one after the other.
-fn thrice<R: AllocGlobal + Wait + Threads + Sync>(
+fn thrice<R: Abort + AllocGlobal + Wait + Threads + Sync>(
     rt: &R,
     path: &str,
     plan: Plan<'_>,
-) -> Result<Run, Fail> {
-    let request = get(rt.alloc(), path)?;
+) -> Run {
+    let request = get(rt, rt.alloc(), path);
     let one = client(request.as_bytes());
     let plan = Plan {
         clients: &[one, one, one],
@@ -25,47 +25,39 @@ fn thrice<R: AllocGlobal + Wait + Threads + Sync>(
 }
 
 #[test]
-fn a_bad_frame_ends_its_incarnation(rt: HostRuntime) -> Result<(), Fail> {
-    let alloc = rt.alloc();
-    let children = [child(0, 1, b"\0\0"), child(0, 2, REPLY)];
-    let ended = thrice(
-        &rt,
-        "/guest",
-        Plan {
-            children: &children,
-            ..plain()
-        },
-    )?;
-    let want = [
-        own(alloc, "502 Bad Gateway")?.into_bytes(),
-        Vec::from_slice(alloc, REPLIED.as_bytes())?,
-        own(alloc, "502 Bad Gateway")?.into_bytes(),
-    ];
-    assert_eq!(rt; ended.answers.as_slice(), want.as_slice());
-    assert_eq!(rt; ended.status, Status::Ok);
-    assert_eq!(rt; ended.started, 4);
-    assert_eq!(rt; ended.heard.len(), 4);
-    Ok(())
+fn a_bad_frame_ends_its_incarnation(rt: HostRuntime) {
+    let plan = Plan {
+        children: &[child(0, 1, b"\0\0"), child(0, 2, REPLY)],
+        ..plain()
+    };
+    let ended = thrice(&rt, "/guest", plan);
+    let [first, second, third] = ended.answers.as_slice() else {
+        panic!(rt; "not three answers");
+    };
+    let bad = own(&rt, rt.alloc(), "502 Bad Gateway");
+    assert!(rt; first.as_slice() == bad.as_bytes());
+    assert!(rt; second.as_slice() == REPLIED.as_bytes());
+    assert!(rt; third.as_slice() == bad.as_bytes());
+    assert!(rt; ended.status == Status::Ok);
+    assert!(rt; ended.started == 4);
+    assert!(rt; ended.heard.len() == 4);
 }
 
 #[test]
-fn a_service_that_ends_at_once_is_a_bad_gateway(rt: HostRuntime) -> Result<(), Fail> {
-    let ended = thrice(
-        &rt,
-        "/guest",
-        Plan {
-            children: &[child(0, 1, b"")],
-            ..plain()
-        },
-    )?;
-    let want = own(rt.alloc(), "502 Bad Gateway")?;
-    assert!(rt; ended.answers.first().map(|a| a.as_slice()) == Some(want.as_bytes()));
-    Ok(())
+fn a_service_that_ends_at_once_is_a_bad_gateway(rt: HostRuntime) {
+    let plan = Plan {
+        children: &[child(0, 1, b"")],
+        ..plain()
+    };
+    let ended = thrice(&rt, "/guest", plan);
+    let answer = ended.answers.first().expect(&rt, "no answer");
+    let bad = own(&rt, rt.alloc(), "502 Bad Gateway");
+    assert!(rt; answer.as_slice() == bad.as_bytes());
 }
 
 #[test]
-fn an_idle_child_that_ended_is_launched_again(rt: HostRuntime) -> Result<(), Fail> {
-    let request = get(rt.alloc(), "/lost")?;
+fn an_idle_child_that_ended_is_launched_again(rt: HostRuntime) {
+    let request = get(&rt, rt.alloc(), "/lost");
     let plan = Plan {
         words: &[
             "serve", "site", "--port", "8080", "--doors", "1", "--serve", "1",
@@ -77,72 +69,58 @@ fn an_idle_child_that_ended_is_launched_again(rt: HostRuntime) -> Result<(), Fai
         }],
         ..plain()
     };
-    let run = serve(&rt, rt.alloc(), &plan, NoGate)?;
+    let run = serve(&rt, rt.alloc(), &plan, NoGate);
     let want = b"connections 1\naccepts 1\nlaunches 3\npublications 0\nlogged 0\n";
     assert!(rt; run.printed.as_slice() == want.as_slice());
     assert!(rt; run.started == 3);
-    Ok(())
 }
 
 #[test]
-fn a_service_that_never_starts_is_given_up(rt: HostRuntime) -> Result<(), Fail> {
-    let ended = thrice(
-        &rt,
-        "/guest",
-        Plan {
-            starts: &[0, 1, 2],
-            console: b"",
-            ..plain()
-        },
-    )?;
+fn a_service_that_never_starts_is_given_up(rt: HostRuntime) {
+    let plan = Plan {
+        starts: &[0, 1, 2],
+        console: b"",
+        ..plain()
+    };
+    let ended = thrice(&rt, "/guest", plan);
+    let down = own(&rt, rt.alloc(), "503 Service Unavailable");
     for answer in &ended.answers {
-        assert_eq!(rt;
-            answer.as_slice(),
-            own(rt.alloc(), "503 Service Unavailable")?.as_bytes()
-        );
+        assert!(rt; answer.as_slice() == down.as_bytes());
     }
-    assert_eq!(rt; ended.answers.len(), 3);
-    assert_eq!(rt; ended.started, 1);
-    Ok(())
+    assert!(rt; ended.answers.len() == 3);
+    assert!(rt; ended.started == 1);
 }
 
 #[test]
-fn the_operator_is_answered(rt: HostRuntime) -> Result<(), Fail> {
+fn the_operator_is_answered(rt: HostRuntime) {
     let console = b"publish page 1\na\nrelaunch nobody\nrelaunch guest\nend\nrelaunch guest\n";
     let plan = Plan {
         words: &["serve", "site", "--port", "8080", "--serve", "0"],
         console,
         ..plain()
     };
-    let ended = serve(&rt, rt.alloc(), &plan, NoGate)?;
-    assert_eq!(rt; ended.status, Status::Ok);
-    assert_eq!(rt;
-        ended.console.as_slice(),
-        b"published 1\nrefused 3 2\nrelaunched 2\n".as_slice()
-    );
-    assert_eq!(rt;
-        ended.printed.as_slice(),
-        b"connections 0\naccepts 0\nlaunches 3\npublications 1\nlogged 0\n".as_slice()
-    );
-    Ok(())
+    let ended = serve(&rt, rt.alloc(), &plan, NoGate);
+    assert!(rt; ended.status == Status::Ok);
+    let answers = b"published 1\nrefused 3 2\nrelaunched 2\n";
+    assert!(rt; ended.console.as_slice() == answers.as_slice());
+    let want = b"connections 0\naccepts 0\nlaunches 3\npublications 1\nlogged 0\n";
+    assert!(rt; ended.printed.as_slice() == want.as_slice());
 }
 
-/// Log of `hi`.
-const LOG: &[u8] = b"\0\0\0\x07\x44\0\0\0\x02hi";
+/// Log of `hi`, and a Reply of 200 with `ok` as plain text.
+const LOGS: &[u8] = b"\0\0\0\x07\x44\0\0\0\x02hi\0\0\0\x15\x45\0\xc8\x0atext/plain\0\0\0\0\x02ok";
 
 /// A run in which a service has a text logged, where these openings of the sinks fail.
-fn logged<R: AllocGlobal + Wait + Threads + Sync>(rt: &R, openings: &[u64]) -> Result<Run, Fail> {
+fn logged<R: Abort + AllocGlobal + Wait + Threads + Sync>(rt: &R, openings: &[u64]) -> Run {
     let alloc = rt.alloc();
-    let mut says = Vec::from_slice(alloc, LOG)?;
-    says.extend_from_slice(REPLY)?;
-    let request = get(alloc, "/guest")?;
-    let openings = Vec::from_slice(alloc, openings)?;
+    let request = get(rt, alloc, "/guest");
+    let openings = Vec::from_slice(alloc, openings).expect(rt, "memory was refused");
     let plan = Plan {
         words: &[
             "serve", "site", "--port", "8080", "--serve", "1", "--log", "log",
         ],
         clients: &[client(request.as_bytes())],
-        children: &[child(0, 1, &says)],
+        children: &[child(0, 1, LOGS)],
         openings: &openings,
         ..plain()
     };
@@ -150,39 +128,30 @@ fn logged<R: AllocGlobal + Wait + Threads + Sync>(rt: &R, openings: &[u64]) -> R
 }
 
 #[test]
-fn texts_are_logged(rt: HostRuntime) -> Result<(), Fail> {
-    let ended = logged(&rt, &[])?;
-    assert_eq!(rt; ended.status, Status::Ok);
-    assert_eq!(rt;
-        ended.log,
-        Some(Vec::from_slice(rt.alloc(), b"guest 1 hi\n")?)
-    );
-    Ok(())
+fn texts_are_logged(rt: HostRuntime) {
+    let ended = logged(&rt, &[]);
+    assert!(rt; ended.status == Status::Ok);
+    let log = ended.log.as_ref().map(|log| log.as_slice());
+    assert!(rt; log == Some(b"guest 1 hi\n".as_slice()));
 }
 
 #[test]
-fn a_log_that_cannot_be_opened_is_a_log_fault(rt: HostRuntime) -> Result<(), Fail> {
-    let ended = logged(&rt, &[0])?;
-    assert_eq!(rt; ended.status, Status::LogFault);
-    assert_eq!(rt;
-        ended.printed.as_slice(),
-        b"connections 1\naccepts 1\nlaunches 2\npublications 0\nlogged 1\nlog fault\n".as_slice()
-    );
-    Ok(())
+fn a_log_that_cannot_be_opened_is_a_log_fault(rt: HostRuntime) {
+    let ended = logged(&rt, &[0]);
+    assert!(rt; ended.status == Status::LogFault);
+    let want = b"connections 1\naccepts 1\nlaunches 2\npublications 0\nlogged 1\nlog fault\n";
+    assert!(rt; ended.printed.as_slice() == want.as_slice());
 }
 
 #[test]
-fn a_console_that_fails_is_told_at_the_end(rt: HostRuntime) -> Result<(), Fail> {
+fn a_console_that_fails_is_told_at_the_end(rt: HostRuntime) {
     let plan = Plan {
         words: &["serve", "site", "--port", "8080", "--serve", "0"],
         slips: &[0],
         ..plain()
     };
-    let ended = serve(&rt, rt.alloc(), &plan, NoGate)?;
-    assert_eq!(rt; ended.status, Status::ConsoleFault);
-    assert_eq!(rt;
-        ended.printed.as_slice(),
-        b"connections 0\naccepts 0\nlaunches 2\npublications 0\nlogged 0\nconsole fault\n".as_slice()
-    );
-    Ok(())
+    let ended = serve(&rt, rt.alloc(), &plan, NoGate);
+    assert!(rt; ended.status == Status::ConsoleFault);
+    let want = b"connections 0\naccepts 0\nlaunches 2\npublications 0\nlogged 0\nconsole fault\n";
+    assert!(rt; ended.printed.as_slice() == want.as_slice());
 }

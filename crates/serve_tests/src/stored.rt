@@ -3,8 +3,8 @@
 use crate::outside::{Ended, Plan, bytes, child, client, get, plain, serve};
 use okws_outer::gate::NoGate;
 use okws_server::status::Status;
+use std::process::Abort;
 use std::sync::Wait;
-use std::test::Fail;
 use std::thread::Threads;
 
 /// The number 3, which is free.
@@ -24,13 +24,13 @@ const FAILED_FIRST: &str = "000000174100000000000000000001ade0b876903df1a0e56a5d
     0a";
 
 /// A run over stores of a POST, the same again, and a GET, of which such calls of the keepers fail.
-fn visits<R: AllocGlobal + Wait + Threads + Sync>(
+fn visits<R: Abort + AllocGlobal + Wait + Threads + Sync>(
     rt: &R,
     makings: &[u64],
     calls: &[u64],
-) -> Result<Ended, Fail> {
-    let says = bytes(rt.alloc(), FAILED_FIRST)?;
-    let shown = get(rt.alloc(), "/guest")?;
+) -> Ended {
+    let says = bytes(rt, rt.alloc(), FAILED_FIRST);
+    let shown = get(rt, rt.alloc(), "/guest");
     let plan = Plan {
         words: &[
             "serve", "site", "--port", "8080", "--doors", "1", "--serve", "3", "--store", "rows",
@@ -53,36 +53,31 @@ fn failed_and_changed(given: &[u8]) -> bool {
 }
 
 #[test]
-fn a_write_that_failed_at_its_store_goes_through_when_asked_again(
-    rt: HostRuntime,
-) -> Result<(), Fail> {
-    let ended = visits(&rt, &[], &[1])?;
-    assert_eq!(rt; ended.status, Status::Ok);
-    let given = ended.heard.first().ok_or("no child")?;
+fn a_write_that_failed_at_its_store_goes_through_when_asked_again(rt: HostRuntime) {
+    let ended = visits(&rt, &[], &[1]);
+    assert!(rt; ended.status == Status::Ok);
+    let given = ended.heard.first().expect(&rt, "no child");
     assert!(rt; failed_and_changed(given.as_slice()));
-    let last = ended.answers.last().ok_or("no answer")?;
+    let last = ended.answers.last().expect(&rt, "no answer");
     assert!(rt;
         last.as_slice().ends_with(
             b"Content-Length: 17\r\nConnection: close\r\n\r\n1 ann\n2 bob\n3 cy\n"
         )
     );
-    Ok(())
 }
 
 #[test]
-fn a_store_that_cannot_be_made_is_a_fault(rt: HostRuntime) -> Result<(), Fail> {
-    let ended = visits(&rt, &[0], &[])?;
-    assert_eq!(rt; ended.status, Status::StoreFault);
+fn a_store_that_cannot_be_made_is_a_fault(rt: HostRuntime) {
+    let ended = visits(&rt, &[0], &[]);
+    assert!(rt; ended.status == Status::StoreFault);
     assert!(rt; ended.printed.as_slice() == b"store fault\n".as_slice());
-    assert_eq!(rt; ended.started, 0);
-    Ok(())
+    assert!(rt; ended.started == 0);
 }
 
 #[test]
-fn a_store_that_cannot_be_read_is_a_fault(rt: HostRuntime) -> Result<(), Fail> {
-    let ended = visits(&rt, &[], &[0])?;
-    assert_eq!(rt; ended.status, Status::StoreFault);
+fn a_store_that_cannot_be_read_is_a_fault(rt: HostRuntime) {
+    let ended = visits(&rt, &[], &[0]);
+    assert!(rt; ended.status == Status::StoreFault);
     assert!(rt; ended.printed.as_slice() == b"store fault\n".as_slice());
-    assert_eq!(rt; ended.started, 0);
-    Ok(())
+    assert!(rt; ended.started == 0);
 }

@@ -7,7 +7,6 @@ use okws_drill::tally::Tally;
 use okws_drill::words::{Act, act_of, drill_seed, number_of, service_of, word_at};
 use okws_outer::stream::{Put, Sink};
 use okws_plan::script::Line;
-use std::test::Fail;
 
 // Five words of RFC 8439's first test vector, and what they ask for.
 #[test]
@@ -21,10 +20,10 @@ fn first_words_of_drill_zero(rt: HostRuntime) {
     ];
     let seed = drill_seed(0);
     for (place, (word, act, service, number)) in rows.iter().enumerate() {
-        assert_eq!(rt; word_at(&seed, place as u32), *word);
-        assert_eq!(rt; act_of(*word), *act);
-        assert_eq!(rt; service_of(*word), *service);
-        assert_eq!(rt; number_of(*word), *number);
+        assert!(rt; word_at(&seed, place as u32) == *word);
+        assert!(rt; act_of(*word) == *act);
+        assert!(rt; service_of(*word) == *service);
+        assert!(rt; number_of(*word) == *number);
     }
 }
 
@@ -32,52 +31,49 @@ fn first_words_of_drill_zero(rt: HostRuntime) {
 #[test]
 fn the_number_stands_first(rt: HostRuntime) {
     let seed = drill_seed(0x0102_0304_0506_0708);
-    assert_eq!(rt;
-        seed.as_slice(),
-        [
-            1, 2, 3, 4, 5, 6, 7, 8, 0, 0, 0, 0, 0, 0, 0, 0, 0, 0, 0, 0, 0, 0, 0, 0, 0, 0, 0, 0, 0,
-            0, 0, 0
-        ]
-        .as_slice()
-    );
+    let want: [u8; 32] = [
+        1, 2, 3, 4, 5, 6, 7, 8, 0, 0, 0, 0, 0, 0, 0, 0, 0, 0, 0, 0, 0, 0, 0, 0, 0, 0, 0, 0, 0, 0,
+        0, 0,
+    ];
+    assert!(rt; seed.as_slice() == want.as_slice());
 }
 
 #[test]
-fn a_word_has_its_lines(rt: HostRuntime) -> Result<(), Fail> {
+fn a_word_has_its_lines(rt: HostRuntime) {
     let mut drill = Drill::new(0);
-    let lines = drill.next_lines(rt.alloc())?;
-    assert_eq!(rt; lines.len(), 4);
+    let lines = match drill.next_lines(rt.alloc()) {
+        Ok(lines) => lines,
+        Err(_) => panic!(rt; "memory was refused"),
+    };
+    assert!(rt; lines.len() == 4);
     assert!(rt; matches!(&lines[1], Line::Dialog(0)));
     match &lines[2] {
         Line::Bytes { service, bytes } => {
-            assert_eq!(rt; *service, 0);
-            assert_eq!(rt;
-                bytes.as_slice(),
-                b"\x00\x00\x00\x06\x43\x04page".as_slice()
-            );
+            assert!(rt; *service == 0);
+            assert!(rt; bytes.as_slice() == b"\x00\x00\x00\x06\x43\x04page".as_slice());
         }
         _ => assert!(rt; false),
     }
-    let lines = drill.next_lines(rt.alloc())?;
-    assert_eq!(rt; lines.len(), 1);
-    Ok(())
+    let lines = match drill.next_lines(rt.alloc()) {
+        Ok(lines) => lines,
+        Err(_) => panic!(rt; "memory was refused"),
+    };
+    assert!(rt; lines.len() == 1);
 }
 
 #[test]
-fn lines_are_tallied(rt: HostRuntime) -> Result<(), Fail> {
-    let mut tally = Tally::new(rt.alloc())?;
+fn lines_are_tallied(rt: HostRuntime) {
+    let mut tally = Tally::new(rt.alloc()).expect(&rt, "memory was refused");
     for text in [
         "heard guest 1 000000050400000000\n",
         "heard heard 12 0000000108\nheard other 1 00000002090b\n",
         "answer 0 heard guest 1 0000000108\nheard guest 1 000000",
         "020916\nheard guest 1 00000002090b\n",
     ] {
-        assert_eq!(rt; tally.put(text.as_bytes()), Put::Done);
+        assert!(rt; tally.put(text.as_bytes()) == Put::Done);
     }
-    let text = summary(rt.alloc(), &tally)?;
-    assert_eq!(rt;
-        text.as_slice(),
-        b"boots 0\nrequests 0\npushes 0\nopened 1\nrows 0\nchanged 0\nduplicates 0\ntemplates 0\nlogged 1\nfailed 0\nnomemory 0\ndenied 11 2\ndenied 22 1\n".as_slice()
-    );
-    Ok(())
+    let text = summary(rt.alloc(), &tally).expect(&rt, "memory was refused");
+    let want =
+        b"boots 0\nrequests 0\npushes 0\nopened 1\nrows 0\nchanged 0\nduplicates 0\ntemplates 0\nlogged 1\nfailed 0\nnomemory 0\ndenied 11 2\ndenied 22 1\n";
+    assert!(rt; text.as_slice() == want.as_slice());
 }

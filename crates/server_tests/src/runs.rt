@@ -8,9 +8,9 @@ use okws_server::okws;
 use okws_server::status::Status;
 use okws_world::equipped::Fitted;
 use okws_world::memory::absent;
-use std::alloc::{AllocError, Global};
+use std::alloc::Global;
+use std::process::Abort;
 use std::sync::Wait;
-use std::test::Fail;
 use std::thread::Threads;
 
 const SITE: &str = "okws 1\n\
@@ -58,7 +58,7 @@ struct Ended {
 
 /// Runs these words over files in memory, whose pulls of the numbers in `pulls` fail, and an out with
 /// so much room, whose puts of the numbers in `puts` fail.
-fn run<R: Wait + Threads + Sync>(
+fn run<R: Abort + Wait + Threads + Sync>(
     rt: &R,
     alloc: Global,
     words: &[&str],
@@ -66,26 +66,36 @@ fn run<R: Wait + Threads + Sync>(
     pulls: &[u64],
     room: usize,
     puts: &[u64],
-) -> Result<Ended, AllocError> {
-    let mut owned = Vec::new(alloc);
-    for word in words {
-        owned.push(String::from_str(alloc, word)?)?;
-    }
+) -> Ended {
+    let words = owned(rt, alloc, words);
+    let out = MemorySink::new(alloc, room, puts).expect(rt, "memory was refused");
+    let further = absent(alloc).expect(rt, "memory was refused");
     let mut world = Fitted {
         outside: Some(Outside {
             files: MemoryFiles::new(entries, 4096, pulls),
-            out: MemorySink::new(alloc, room, puts)?,
+            out,
             seed: [0; 32],
         }),
-        further: Some(absent(alloc)?),
+        further: Some(further),
     };
-    let (status, record) = okws(rt, alloc, &owned, &mut world);
+    let (status, record) = okws(rt, alloc, &words, &mut world);
     drop(record);
-    let mut printed = Vec::new(alloc);
-    if let Some(all) = &world.outside {
-        printed.extend_from_slice(all.out.given())?;
+    match &world.outside {
+        Some(all) => Ended {
+            status,
+            printed: Vec::from_slice(alloc, all.out.given()).expect(rt, "memory was refused"),
+        },
+        None => panic!(rt; "the objects are out"),
     }
-    Ok(Ended { status, printed })
+}
+
+fn owned(rt: &impl Abort, alloc: Global, words: &[&str]) -> Vec<String> {
+    let mut all = Vec::new(alloc);
+    for word in words {
+        let word = String::from_str(alloc, word).expect(rt, "memory was refused");
+        all.push(word).expect(rt, "memory was refused");
+    }
+    all
 }
 
 /// A site and a script as files.
@@ -105,53 +115,47 @@ fn files<'a>(site: &'a str, script: &'a str) -> [Entry<'a>; 2] {
 const PLAY: [&str; 3] = ["play", "site", "script"];
 
 #[test]
-fn a_dialog_is_printed(rt: HostRuntime) -> Result<(), Fail> {
+fn a_dialog_is_printed(rt: HostRuntime) {
     let entries = files(SITE, ONE_DIALOG);
-    let ended = run(&rt, rt.alloc(), &PLAY, &entries, &[], 4096, &[])?;
-    assert_eq!(rt; ended.status, Status::Ok);
-    assert_eq!(rt; ended.printed.as_slice(), ONE_DIALOG_PRINTED.as_bytes());
-    Ok(())
+    let ended = run(&rt, rt.alloc(), &PLAY, &entries, &[], 4096, &[]);
+    assert!(rt; ended.status == Status::Ok);
+    assert!(rt; ended.printed.as_slice() == ONE_DIALOG_PRINTED.as_bytes());
 }
 
 #[test]
-fn two_sessions_are_opened(rt: HostRuntime) -> Result<(), Fail> {
+fn two_sessions_are_opened(rt: HostRuntime) {
     let entries = files(SITE, TWO_SESSIONS);
-    let ended = run(&rt, rt.alloc(), &PLAY, &entries, &[], 4096, &[])?;
-    assert_eq!(rt; ended.status, Status::Ok);
-    assert_eq!(rt; ended.printed.as_slice(), TWO_SESSIONS_PRINTED.as_bytes());
-    Ok(())
+    let ended = run(&rt, rt.alloc(), &PLAY, &entries, &[], 4096, &[]);
+    assert!(rt; ended.status == Status::Ok);
+    assert!(rt; ended.printed.as_slice() == TWO_SESSIONS_PRINTED.as_bytes());
 }
 
 #[test]
-fn out_may_be_full_at_any_byte(rt: HostRuntime) -> Result<(), Fail> {
+fn out_may_be_full_at_any_byte(rt: HostRuntime) {
     let whole = ONE_DIALOG_PRINTED.as_bytes();
     let entries = files(SITE, ONE_DIALOG);
     for room in 0..whole.len() {
-        let ended = run(&rt, rt.alloc(), &PLAY, &entries, &[], room, &[])?;
-        assert_eq!(rt; ended.status, Status::OutFault);
+        let ended = run(&rt, rt.alloc(), &PLAY, &entries, &[], room, &[]);
+        assert!(rt; ended.status == Status::OutFault);
         assert!(rt; ended.printed.len() <= room);
         assert!(rt; whole.starts_with(&ended.printed));
     }
-    Ok(())
 }
 
 #[test]
-fn a_put_that_fails_is_the_last(rt: HostRuntime) -> Result<(), Fail> {
+fn a_put_that_fails_is_the_last(rt: HostRuntime) {
     let entries = files(SITE, ONE_DIALOG);
     for put in [0, 2, 4] {
-        let ended = run(&rt, rt.alloc(), &PLAY, &entries, &[], 4096, &[put as u64])?;
-        assert_eq!(rt; ended.status, Status::OutFault);
-        assert_eq!(rt;
-            ended.printed.iter().filter(|byte| **byte == b'\n').count(),
-            put
-        );
+        let ended = run(&rt, rt.alloc(), &PLAY, &entries, &[], 4096, &[put as u64]);
+        assert!(rt; ended.status == Status::OutFault);
+        let lines = ended.printed.iter().filter(|byte| **byte == b'\n').count();
+        assert!(rt; lines == put);
         assert!(rt; ONE_DIALOG_PRINTED.as_bytes().starts_with(&ended.printed));
     }
-    Ok(())
 }
 
 #[test]
-fn broken_files_are_told(rt: HostRuntime) -> Result<(), Fail> {
+fn broken_files_are_told(rt: HostRuntime) {
     for (site, script, status, printed) in [
         (
             "",
@@ -178,15 +182,14 @@ fn broken_files_are_told(rt: HostRuntime) -> Result<(), Fail> {
             "answer 0 HTTP/1.1 404 Not Found\\x0d\\x0aContent-Type: text/plain\\x0d\\x0aContent-Length: 14\\x0d\\x0aConnection: close\\x0d\\x0a\\x0d\\x0a404 Not Found\\x0a\nrefused: script line 2 rule 2\n",
         ),
     ] {
-        let ended = run(&rt, rt.alloc(), &PLAY, &files(site, script), &[], 4096, &[])?;
-        assert_eq!(rt; ended.status, status);
-        assert_eq!(rt; ended.printed.as_slice(), printed.as_bytes());
+        let ended = run(&rt, rt.alloc(), &PLAY, &files(site, script), &[], 4096, &[]);
+        assert!(rt; ended.status == status);
+        assert!(rt; ended.printed.as_slice() == printed.as_bytes());
     }
-    Ok(())
 }
 
 #[test]
-fn files_that_fail_are_told(rt: HostRuntime) -> Result<(), Fail> {
+fn files_that_fail_are_told(rt: HostRuntime) {
     let entries = files(SITE, ONE_DIALOG);
     for (words, pulls) in [
         (["play", "site", "nowhere"].as_slice(), [].as_slice()),
@@ -196,15 +199,14 @@ fn files_that_fail_are_told(rt: HostRuntime) -> Result<(), Fail> {
         (&["check", "site"], &[1]),
         (&["play", "site", "script"], &[2]),
     ] {
-        let ended = run(&rt, rt.alloc(), words, &entries, pulls, 4096, &[])?;
-        assert_eq!(rt; ended.status, Status::ReadFault);
-        assert_eq!(rt; ended.printed.as_slice(), b"read fault\n".as_slice());
+        let ended = run(&rt, rt.alloc(), words, &entries, pulls, 4096, &[]);
+        assert!(rt; ended.status == Status::ReadFault);
+        assert!(rt; ended.printed.as_slice() == b"read fault\n".as_slice());
     }
-    Ok(())
 }
 
 #[test]
-fn queries_are_listed(rt: HostRuntime) -> Result<(), Fail> {
+fn queries_are_listed(rt: HostRuntime) {
     let listing = b"main 1 SELECT id, who FROM msgs ORDER BY id\n".as_slice();
     for (puts, status, printed) in [
         ([].as_slice(), Status::Ok, listing),
@@ -219,11 +221,10 @@ fn queries_are_listed(rt: HostRuntime) -> Result<(), Fail> {
             &[],
             4096,
             puts,
-        )?;
-        assert_eq!(rt; ended.status, status);
-        assert_eq!(rt; ended.printed.as_slice(), printed);
+        );
+        assert!(rt; ended.status == status);
+        assert!(rt; ended.printed.as_slice() == printed);
     }
-    Ok(())
 }
 
 // The text says how the program is called, or how to be told.
@@ -237,7 +238,7 @@ fn tells_how_to_call(printed: &[u8]) -> bool {
 }
 
 #[test]
-fn other_words_are_told_how_to_call(rt: HostRuntime) -> Result<(), Fail> {
+fn other_words_are_told_how_to_call(rt: HostRuntime) {
     for words in [
         [].as_slice(),
         &["play", "site"],
@@ -252,16 +253,15 @@ fn other_words_are_told_how_to_call(rt: HostRuntime) -> Result<(), Fail> {
         &["drill", "00", "0"],
         &["drill", "0", "+5"],
     ] {
-        let ended = run(&rt, rt.alloc(), words, &[], &[], 4096, &[])?;
-        assert_eq!(rt; ended.status, Status::Usage);
+        let ended = run(&rt, rt.alloc(), words, &[], &[], 4096, &[]);
+        assert!(rt; ended.status == Status::Usage);
         assert!(rt; tells_how_to_call(&ended.printed));
     }
-    Ok(())
 }
 
 // The counts are those of a model of its own, which played the drills' scripts.
 #[test]
-fn drills_are_summed(rt: HostRuntime) -> Result<(), Fail> {
+fn drills_are_summed(rt: HostRuntime) {
     for (words, printed) in [
         (
             ["drill", "18446744073709551615", "0"].as_slice(),
@@ -276,17 +276,15 @@ fn drills_are_summed(rt: HostRuntime) -> Result<(), Fail> {
             "boots 8\nrequests 31\npushes 1\nopened 17\nrows 3\nchanged 5\nduplicates 1\ntemplates 0\nlogged 2\nfailed 0\nnomemory 0\ndenied 12 3\ndenied 14 4\ndenied 21 6\ndenied 22 1\ndenied 31 2\n",
         ),
     ] {
-        let ended = run(&rt, rt.alloc(), words, &[], &[], 4096, &[])?;
-        assert_eq!(rt; ended.status, Status::Ok);
-        assert_eq!(rt; ended.printed.as_slice(), printed.as_bytes());
+        let ended = run(&rt, rt.alloc(), words, &[], &[], 4096, &[]);
+        assert!(rt; ended.status == Status::Ok);
+        assert!(rt; ended.printed.as_slice() == printed.as_bytes());
     }
-    Ok(())
 }
 
 #[test]
-fn a_drill_over_an_out_that_fails(rt: HostRuntime) -> Result<(), Fail> {
-    let ended = run(&rt, rt.alloc(), &["drill", "0", "5"], &[], &[], 4096, &[0])?;
-    assert_eq!(rt; ended.status, Status::OutFault);
+fn a_drill_over_an_out_that_fails(rt: HostRuntime) {
+    let ended = run(&rt, rt.alloc(), &["drill", "0", "5"], &[], &[], 4096, &[0]);
+    assert!(rt; ended.status == Status::OutFault);
     assert!(rt; ended.printed.is_empty());
-    Ok(())
 }

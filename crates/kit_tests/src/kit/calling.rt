@@ -1,12 +1,11 @@
 //! Calls over links in memory.
 
-use super::{BOOT, OPENED, REQUEST, ROWS, fed};
+use super::{BOOT, OPENED, REQUEST, ROWS, decoded, encoded, fed};
 use okws_outer::memory::sink::MemorySink;
 use okws_outer::memory::source::MemorySource;
 use okws_outer::stream::Link;
 use std::alloc::Global;
 use std::process::Abort;
-use std::test::Fail;
 use svc_kit::answer::{Answer, Outcome, Session};
 use svc_kit::calling::Event;
 use svc_kit::link::over;
@@ -20,65 +19,52 @@ const SESSION: Session = Session {
 };
 
 /// The service that this link boots.
-fn booted<L: Link + Drop>(alloc: Global, link: L) -> Result<Service<L>, Fail> {
+fn booted<L: Link + Drop>(rt: &impl Abort, alloc: Global, link: L) -> Service<L> {
     match Service::boot(alloc, link) {
-        Booting::Booted(service) => Ok(service),
-        Booting::Stopped(..) => Err(Fail::new("not booted")),
+        Booting::Booted(service) => service,
+        Booting::Stopped(..) => panic!(rt; "not booted"),
     }
 }
 
-fn bytes(alloc: Global, text: &str) -> Result<Vec<u8>, Fail> {
-    Ok(Vec::from_slice(alloc, text.as_bytes())?)
+fn bytes(rt: &impl Abort, alloc: Global, text: &str) -> Vec<u8> {
+    Vec::from_slice(alloc, text.as_bytes()).expect(rt, "memory was refused")
 }
 
 /// Opens a session at proxy 0, and none at proxy 1, for which there is no token.
-fn opens<L: Link>(rt: &impl Abort, service: &mut Service<L>) -> Result<Session, Fail> {
+fn opens<L: Link>(rt: &impl Abort, service: &mut Service<L>) {
     assert!(rt; matches!(service.open(1), Ok(None)));
-    let Ok(Some(Answer::Given(session))) = service.open(0) else {
-        return Err(Fail::new("no session"));
-    };
-    assert!(rt; session == SESSION);
-    Ok(session)
+    match service.open(0) {
+        Ok(Some(Answer::Given(session))) => assert!(rt; session == SESSION),
+        _ => panic!(rt; "no session"),
+    }
 }
 
 /// Calls query 1, which gives two rows.
-fn calls<L: Link>(
-    rt: &impl Abort,
-    alloc: Global,
-    service: &mut Service<L>,
-    session: Session,
-) -> Result<(), Fail> {
-    match service.call(session, 1, Vec::new(alloc)) {
+fn calls<L: Link>(rt: &impl Abort, alloc: Global, service: &mut Service<L>) {
+    match service.call(SESSION, 1, Vec::new(alloc)) {
         Ok(Answer::Given(Outcome::Rows { columns, rows })) => {
-            assert_eq!(rt; columns, 2);
-            assert_eq!(rt; rows.as_slice().len(), 2);
-            Ok(())
+            assert!(rt; columns == 2);
+            assert!(rt; rows.as_slice().len() == 2);
         }
-        _ => Err(Fail::new("no rows")),
+        _ => panic!(rt; "no rows"),
     }
 }
 
 /// Replies `ok`.
-fn replies<L: Link>(rt: &impl Abort, alloc: Global, service: &mut Service<L>) -> Result<(), Fail> {
-    let plain = bytes(alloc, "text/plain")?;
-    let replied = service.reply(200, plain, Vec::new(alloc), bytes(alloc, "ok")?);
-    assert!(rt; replied.is_ok());
-    Ok(())
+fn replies<L: Link>(rt: &impl Abort, alloc: Global, service: &mut Service<L>) {
+    let plain = bytes(rt, alloc, "text/plain");
+    let content = bytes(rt, alloc, "ok");
+    assert!(rt; service.reply(200, plain, Vec::new(alloc), content).is_ok());
 }
 
 /// Hears a Request, opens a session, calls query 1 and replies `ok`.
-fn one_dialog<L: Link>(
-    rt: &impl Abort,
-    alloc: Global,
-    service: &mut Service<L>,
-) -> Result<(), Fail> {
-    assert_eq!(rt; service.incarnation, 1);
+fn one_dialog<L: Link>(rt: &impl Abort, alloc: Global, service: &mut Service<L>) {
+    assert!(rt; service.incarnation == 1);
     assert!(rt; matches!(service.wait(), Ok(Event::Request { .. })));
-    let session = opens(rt, service)?;
-    calls(rt, alloc, service, session)?;
-    replies(rt, alloc, service)?;
+    opens(rt, service);
+    calls(rt, alloc, service);
+    replies(rt, alloc, service);
     assert!(rt; matches!(service.wait(), Err(Stop::Ended)));
-    Ok(())
 }
 
 /// What `one_dialog` says.
@@ -86,41 +72,42 @@ const SAID: &str =
     "000000174100000000000000000001ade0b876903df1a0e56a5d400000000a42000000000000000100000000154500c80a746578742f706c61696e00000000026f6b";
 
 /// One dialog whose frames come in such pieces.
-fn dialog_in_pieces(rt: &impl Abort, alloc: Global, piece: usize) -> Result<(), Fail> {
-    let link = fed(alloc, piece, &[BOOT, REQUEST, OPENED, ROWS])?;
-    let mut service = booted(alloc, link)?;
-    one_dialog(rt, alloc, &mut service)?;
-    let said = hex::encode(alloc, service.link.given())?;
-    assert_eq!(rt; said.as_str(), SAID);
-    Ok(())
+fn dialog_in_pieces(rt: &impl Abort, alloc: Global, piece: usize) {
+    let link = fed(rt, alloc, piece, &[BOOT, REQUEST, OPENED, ROWS]);
+    let mut service = booted(rt, alloc, link);
+    one_dialog(rt, alloc, &mut service);
+    let said = encoded(rt, alloc, service.link.given());
+    assert!(rt; said.as_str() == SAID);
 }
 
 #[test]
-fn frames_come_in_pieces(rt: HostRuntime) -> Result<(), Fail> {
+fn frames_come_in_pieces(rt: HostRuntime) {
     for piece in [1, 50, 4096] {
-        dialog_in_pieces(&rt, rt.alloc(), piece)?;
+        dialog_in_pieces(&rt, rt.alloc(), piece);
     }
-    Ok(())
 }
 
 /// The bytes of these frames, one after another.
-fn joined(alloc: Global, frames: &[&str]) -> Result<Vec<u8>, Fail> {
+fn joined(rt: &impl Abort, alloc: Global, frames: &[&str]) -> Vec<u8> {
     let mut bytes = Vec::new(alloc);
     for frame in frames {
-        bytes.extend_from_slice(&hex::decode(alloc, *frame)?)?;
+        bytes
+            .extend_from_slice(&decoded(rt, alloc, frame))
+            .expect(rt, "memory was refused");
     }
-    Ok(bytes)
+    bytes
 }
 
 #[test]
-fn one_pull_brings_all(rt: HostRuntime) -> Result<(), Fail> {
+fn one_pull_brings_all(rt: HostRuntime) {
     let alloc = rt.alloc();
-    let heard = joined(alloc, &[BOOT, REQUEST, OPENED, ROWS])?;
+    let heard = joined(&rt, alloc, &[BOOT, REQUEST, OPENED, ROWS]);
     // The second pull is the one that finds the end.
     let source = MemorySource::new(&heard, 4096, &[2]);
-    let sink = MemorySink::new(alloc, 4096, &[])?;
-    let mut service = booted(alloc, over(alloc, source, sink)?)?;
-    one_dialog(&rt, alloc, &mut service)
+    let sink = MemorySink::new(alloc, 4096, &[]).expect(&rt, "memory was refused");
+    let link = over(alloc, source, sink).expect(&rt, "memory was refused");
+    let mut service = booted(&rt, alloc, link);
+    one_dialog(&rt, alloc, &mut service);
 }
 
 /// One letter for each answer to a Log, and why there is none.
@@ -140,18 +127,17 @@ fn logged(answer: &Result<Answer<()>, Stop>) -> char {
 }
 
 /// Logs are answered so, where the server says these frames behind its Boot.
-fn logs(rt: &impl Abort, alloc: Global, frames: [&str; 2], want: &str) -> Result<(), Fail> {
-    let link = fed(alloc, 4096, &[BOOT, frames[0], frames[1]])?;
-    let mut service = booted(alloc, link)?;
+fn logs(rt: &impl Abort, alloc: Global, frames: [&str; 2], want: &str) {
+    let link = fed(rt, alloc, 4096, &[BOOT, frames[0], frames[1]]);
+    let mut service = booted(rt, alloc, link);
     for letter in want.chars() {
-        let result = service.log(bytes(alloc, "hi")?);
-        assert_eq!(rt; logged(&result), letter, "{want}");
+        let result = service.log(bytes(rt, alloc, "hi"));
+        assert!(rt; logged(&result) == letter, "{want}");
     }
-    Ok(())
 }
 
 #[test]
-fn answers_of_a_log(rt: HostRuntime) -> Result<(), Fail> {
+fn answers_of_a_log(rt: HostRuntime) {
     for (frames, want) in [
         (["0000000108", "00000002091f"], "gd"),
         (["000000010a", "000000010b"], "fm"),
@@ -160,9 +146,8 @@ fn answers_of_a_log(rt: HostRuntime) -> Result<(), Fail> {
         (["0000000108", ""], "gE"),
         (["00000001", ""], "B"),
     ] {
-        logs(&rt, rt.alloc(), frames, want)?;
+        logs(&rt, rt.alloc(), frames, want);
     }
-    Ok(())
 }
 
 /// A Reply of these fields can't be said.
@@ -171,25 +156,24 @@ fn is_unsayable<L: Link>(
     alloc: Global,
     service: &mut Service<L>,
     (status, kind, location): (u16, &str, &str),
-) -> Result<(), Fail> {
-    let kind = bytes(alloc, kind)?;
-    let result = service.reply(status, kind, bytes(alloc, location)?, Vec::new(alloc));
+) {
+    let kind = bytes(rt, alloc, kind);
+    let location = bytes(rt, alloc, location);
+    let result = service.reply(status, kind, location, Vec::new(alloc));
     assert!(rt; matches!(result, Err(Stop::Unsayable)));
-    Ok(())
 }
 
 #[test]
-fn what_has_no_spelling_is_not_put(rt: HostRuntime) -> Result<(), Fail> {
+fn what_has_no_spelling_is_not_put(rt: HostRuntime) {
     let alloc = rt.alloc();
-    let mut service = booted(alloc, fed(alloc, 4096, &[BOOT])?)?;
+    let mut service = booted(&rt, alloc, fed(&rt, alloc, 4096, &[BOOT]));
     for reply in [
         (302, "text/plain", ""),
         (200, "", ""),
         (200, " text/plain", ""),
         (303, "text/plain", "/a b"),
     ] {
-        is_unsayable(&rt, alloc, &mut service, reply)?;
+        is_unsayable(&rt, alloc, &mut service, reply);
     }
     assert!(&rt; service.link.given().is_empty());
-    Ok(())
 }

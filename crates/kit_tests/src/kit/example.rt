@@ -1,10 +1,9 @@
 //! The service of the crate's documentation.
 
-use super::{BOOT, OPENED, REQUEST, ROWS, fed};
+use super::{BOOT, OPENED, REQUEST, ROWS, encoded, fed};
 use okws_base::value::{Row, Value};
 use okws_outer::stream::Link;
 use std::alloc::{AllocError, Global};
-use std::test::Fail;
 use svc_kit::answer::{Answer, Outcome, Session};
 use svc_kit::calling::Event;
 use svc_kit::service::{Booting, Service};
@@ -64,18 +63,16 @@ fn lines_of<L: Link>(
 }
 
 #[test]
-fn answers_with_rows(rt: HostRuntime) -> Result<(), Fail> {
+fn answers_with_rows(rt: HostRuntime) {
     let alloc = rt.alloc();
-    let link = fed(
-        alloc,
-        4096,
-        &[BOOT, REQUEST, OPENED, ROWS, REQUEST, "00000002090e"],
-    )?;
-    let Booting::Booted(mut service) = Service::boot(alloc, link) else {
-        return Err(Fail::new("not booted"));
+    let frames = [BOOT, REQUEST, OPENED, ROWS, REQUEST, "00000002090e"];
+    let link = fed(&rt, alloc, 4096, &frames);
+    let mut service = match Service::boot(alloc, link) {
+        Booting::Booted(service) => service,
+        Booting::Stopped(..) => panic!(rt; "not booted"),
     };
-    assert!(&rt; matches!(serve(&mut service), Err(Stop::Ended)));
-    let said = hex::encode(alloc, service.link.given())?;
+    assert!(rt; matches!(serve(&mut service), Err(Stop::Ended)));
+    let said = encoded(&rt, alloc, service.link.given());
     let want = concat!(
         "000000174100000000000000000001ade0b876903df1a0e56a5d40",
         "0000000a42000000000000000100",
@@ -83,6 +80,5 @@ fn answers_with_rows(rt: HostRuntime) -> Result<(), Fail> {
         "0000000a42000000000000000100",
         "0000001b4501f40a746578742f706c61696e0000000008726566757365640a",
     );
-    assert_eq!(&rt; said.as_str(), want);
-    Ok(())
+    assert!(rt; said.as_str() == want);
 }

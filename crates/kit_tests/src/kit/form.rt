@@ -1,10 +1,9 @@
 //! Values of forms.
 
-use std::test::Fail;
 use svc_kit::form::value_of;
 
 #[test]
-fn first_pairs(rt: HostRuntime) -> Result<(), Fail> {
+fn first_pairs(rt: HostRuntime) {
     let form = b"id=3&who=c+y%21&note=x&id=4&&empty";
     for (name, value) in [
         ("id", Some("3")),
@@ -13,8 +12,7 @@ fn first_pairs(rt: HostRuntime) -> Result<(), Fail> {
         ("empty", Some("")),
         ("i", None),
     ] {
-        let found = value_of(rt.alloc(), form, name)?;
-        assert_eq!(&rt; found.as_deref(), value, "{name}");
+        let found = value_of(rt.alloc(), form, name).expect(&rt, "memory was refused");
+        assert!(rt; found.as_deref() == value, "{name}");
     }
-    Ok(())
 }

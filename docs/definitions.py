@@ -3,8 +3,8 @@
 contract of `okws` reaches and the others.
 
     docs/definitions.py            writes the file
-    docs/definitions.py --check    says whether the file is what would be written, whether a sentence is missing, and whether docs/MODEL.md or
-                                   docs/SERVER.md quotes a definition that doesn't stand so in specs/
+    docs/definitions.py --check    says whether the file is what would be written, whether a sentence is missing, and whether docs/MODEL.md,
+                                   docs/SCRIPT.md or docs/SERVER.md quotes a definition that doesn't stand so in specs/
 """
 import re
 import sys
@@ -116,9 +116,9 @@ def table(modules, chosen):
 
 
 def misquoted():
-    """Returns the quotations of docs/MODEL.md and docs/SERVER.md, each a block `antt CRATE/FILE`, that don't stand so in specs/."""
+    """Returns the quotations of docs/MODEL.md, docs/SCRIPT.md and docs/SERVER.md, each a block `antt CRATE/FILE`, that don't stand so in specs/."""
     found = []
-    for page in ("MODEL.md", "SERVER.md"):
+    for page in ("MODEL.md", "SCRIPT.md", "SERVER.md"):
         text = (ROOT / "docs" / page).read_text()
         found += [(page, *it) for it in re.findall(r"^```antt (\w+)/(\w+)\n(.*?)^```$", text, re.M | re.S)]
     return [
@@ -138,7 +138,7 @@ def main():
     out = [
         "# Definitions",
         "",
-        "Written by docs/definitions.py from the sentences above the definitions in the crates' specs/. MODEL.md and SERVER.md are the texts to read; this is the index to look",
+        "Written by docs/definitions.py from the sentences above the definitions in the crates' specs/. MODEL.md, SCRIPT.md and SERVER.md are the texts to read; this is the index to look",
         f"things up in. The contract of `okws` reaches {inner} of {count} definitions: they are the first part, and nothing else has to be believed. The second part is what",
         "the proofs keep on the way.",
         "",

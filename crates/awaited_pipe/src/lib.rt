@@ -1,47 +1,59 @@
 //! The end of a pipe at which an answer is awaited. A reader looks for a while before it sleeps: often the
-//! other end answers sooner than a thread could sleep and be woken.
+//! other end answers sooner than a thread could sleep and be woken. Between two looks other threads run, since
+//! the one that answers may wait for the same processor.
 #![tactic(auto)]
+
+mod patience;
 
 use libc::net::{POLLIN, poll};
 use libc::types::pollfd;
-use std::hint::spin_loop;
+use os::set_nonblocking;
+pub use patience::Patience;
 use std::io;
-use std::io::Read;
+use std::io::{ErrorKind, Read};
 use std::os::fd::{AsRawFd, RawFd};
 
 /// How often a reading end is looked at before its reader sleeps.
-const LOOKS: u8 = 48;
+const LOOKS: u64 = 48;
 
-/// Whether a read of the descriptor would not wait.
-fn is_ready(fd: RawFd) -> bool {
+/// So many milliseconds do not end.
+const FOREVER: i32 = -1;
+
+/// Waits so many milliseconds at most until a read of the descriptor would not wait, and tells whether it is so.
+fn is_ready(fd: RawFd, wait: i32) -> bool {
     let mut asked = [pollfd {
         fd,
         events: POLLIN,
         revents: 0,
     }];
-    poll(&mut asked, 0) != 0
+    poll(&mut asked, wait) != 0
 }
 
 /// Looks so often at most whether something came at the descriptor.
-pub fn look_for(fd: RawFd, looks: u8) {
-    for _ in 0..looks {
-        if is_ready(fd) {
+pub fn look_for(fd: RawFd, most: u64, patience: &Patience) {
+    for _ in 0..patience.looks(most) {
+        if is_ready(fd, 0) || !patience.lasts() {
             return;
         }
-        spin_loop();
     }
 }
 
-/// A reading end. It gives the bytes that come at it.
+/// A reading end. It gives the bytes that come at it, and a read of it takes the place of a look.
 #[derive(Drop)]
 pub struct Awaited<R> {
     end: R,
+    patience: Patience,
 }
 
 impl<R: Read + AsRawFd> Awaited<R> {
-    /// This reading end.
+    /// This reading end, which nothing else may read: its reads are made such that do not wait.
     pub fn new(end: R) -> Self {
-        Awaited { end }
+        // Where this fails, a read waits asleep.
+        let _ = set_nonblocking(end.as_raw_fd(), true);
+        Awaited {
+            end,
+            patience: Patience::new(),
+        }
     }
 }
 
@@ -49,7 +61,17 @@ impl<R: Read + AsRawFd> Read for Awaited<R> {
     ghost remaining = { λ a. R.remaining a.end };
 
     fn read(&mut self, into: &mut [u8]) -> io::Result<usize> {
-        look_for(self.end.as_raw_fd(), LOOKS);
-        self.end.read(into)
+        let looks = self.patience.looks(LOOKS);
+        for look in 0..u64::MAX {
+            match self.end.read(into) {
+                Err(error) if error.kind() == ErrorKind::WouldBlock => {
+                    if look >= looks || !self.patience.lasts() {
+                        is_ready(self.end.as_raw_fd(), FOREVER);
+                    }
+                }
+                read => return read,
+            }
+        }
+        Err(io::Error::from(ErrorKind::WouldBlock))
     }
 }

@@ -4,14 +4,17 @@ ghost use Rattle.std.specs.Prelude.{◌≡◌, IfOk};
 ghost use Rattle.svc_kit.specs.Ends.{wire_of};
 
 use crate::link::{Buffered, Ends};
-use awaited_pipe::look_for;
+use awaited_pipe::{Patience, look_for};
 use frame_codec::kind::REPLY;
 use okws_outer::stream::{Link, Pull, Put, Sink, Source};
 use std::alloc::{AllocError, Global};
 use std::os::fd::RawFd;
 
 /// How often an answer is looked for before it is waited for asleep: it comes sooner than what a service says.
-const LOOKS: u8 = 24;
+const LOOKS_FOR_ANSWER: u64 = 24;
+
+/// How often the next request is looked for behind a Reply: where several wait for a service, it comes at once.
+const LOOKS_FOR_REQUEST: u64 = 16;
 
 /// What was said since bytes were taken.
 #[derive(Clone, Copy, PartialEq, Eq)]
@@ -31,22 +34,32 @@ fn said_by(front: &[u8]) -> Said {
     }
 }
 
-/// A link whose bytes come at a descriptor. Where an answer is due, a pull looks for it a while before it
-/// sleeps.
+impl Said {
+    /// How often what comes behind it is looked for.
+    fn looks(self) -> u64 {
+        match self {
+            Said::Nothing => 0,
+            Said::Reply => LOOKS_FOR_REQUEST,
+            Said::Other => LOOKS_FOR_ANSWER,
+        }
+    }
+}
+
+/// A link whose bytes come at a descriptor. A pull behind a frame that was said looks a while for what comes
+/// then, before it sleeps.
 #[derive(Drop)]
 pub struct Answering<L> {
     link: L,
     input: RawFd,
     said: Said,
+    patience: Patience,
 }
 
 impl<L: Link> Link for Answering<L> {
     ghost wire = { λ a. L.wire a.link };
 
     fn pull(&mut self, into: &mut [u8]) -> Pull {
-        if self.said == Said::Other {
-            look_for(self.input, LOOKS);
-        }
+        look_for(self.input, self.said.looks(), &self.patience);
         self.said = Said::Nothing;
         self.link.pull(into)
     }
@@ -76,6 +89,7 @@ pub fn over_answering<I: Source + Drop, O: Sink + Drop>(
         link: Ends { source, sink },
         input,
         said: Said::Nothing,
+        patience: Patience::new(),
     };
     Buffered::new(alloc, link)
 }

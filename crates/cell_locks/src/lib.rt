@@ -4,6 +4,7 @@
 
 pub mod answer;
 pub mod closing;
+mod gate;
 pub mod locks;
 pub mod making;
 pub mod named;

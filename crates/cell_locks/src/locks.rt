@@ -1,11 +1,11 @@
 //! The locks of a site's cells.
 
+use crate::gate::DialogGate;
 use crate::named::CellNames;
 use okws_outer::stream::Link;
 use site_cell::cell::SiteCell;
 use site_cell::named::Numbered;
 use std::marker::{Model, PhantomData};
-use std::sync::Mutex;
 use turn_lock::Turn;
 
 /// A lock round each cell of a site, that of service 0 first. Contracts see the locks, which are those of
@@ -13,9 +13,7 @@ use turn_lock::Turn;
 #[derive(Drop)]
 pub struct CellLocks<N: Numbered, C: CellNames, L: Link> {
     pub(crate) turns: Vec<Turn<SiteCell<N, L>>>,
-    // Who wants a cell's turn for a dialog takes its gate before, which may be taken again by the one that
-    // gave it: turns are served in order, and a thread that sleeps is slow to take its turn.
-    pub(crate) gates: Vec<Mutex<bool>>,
+    pub(crate) gates: Vec<DialogGate>,
     pub(crate) of: PhantomData<C>,
 }
 

@@ -4,6 +4,7 @@ ghost use Rattle.std.specs.Prelude.{◌≡◌, ◌<◌, ◌≤◌, map, reverse,
 ghost use Rattle.turn_lock.specs.Rows.{AllNone, AllCount, FreshRows};
 ghost use Rattle.cell_locks.specs.Row.{Rise, AreNew};
 
+use crate::gate::DialogGate;
 use crate::locks::CellLocks;
 use crate::named::CellNames;
 use crate::seats::CellSeats;
@@ -12,7 +13,6 @@ use site_cell::cell::SiteCell;
 use site_cell::named::Numbered;
 use std::alloc::{AllocError, Global};
 use std::marker::{Model, PhantomData};
-use std::sync::Mutex;
 use turn_lock::{Seat, Turn, make_row};
 
 /// The locks of a site's cells, and the seats of all numbers at them, before they have names. Contracts see
@@ -20,7 +20,7 @@ use turn_lock::{Seat, Turn, make_row};
 #[derive(Drop)]
 pub struct NewCells<N: Numbered, L: Link> {
     turns: Vec<Turn<SiteCell<N, L>>>,
-    gates: Vec<Mutex<bool>>,
+    gates: Vec<DialogGate>,
     rows: Vec<Vec<Seat<SiteCell<N, L>>>>,
 }
 
@@ -44,12 +44,12 @@ fn turned<T>(mut items: Vec<T>) -> Vec<T>
 }
 
 // So many gates.
-fn gates_for(alloc: Global, count: usize) -> Result<Vec<Mutex<bool>>, AllocError>
+fn gates_for(alloc: Global, count: usize) -> Result<Vec<DialogGate>, AllocError>
     ensures { IfOk result (λ r. vec_len r ≡ count) }
 {
     let mut gates = Vec::with_capacity(alloc, count)?;
     for _ in 0..count {
-        gates.push_reserved(Mutex::new(false));
+        gates.push_reserved(DialogGate::new());
     }
     Ok(gates)
 }

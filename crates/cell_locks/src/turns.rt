@@ -11,6 +11,7 @@ ghost use Rattle.site_cell.specs.Held.{by_event, events_in, has_booted, is_boote
 ghost use Rattle.cell_locks.specs.Turns.{reply_frame, HasReplied, RepliedIf, EndsInReply, GivesLast, HasTalked, HasLaunched, HasRetired};
 
 use crate::answer::Launched;
+use crate::gate::DialogGate;
 use frame_codec::frame::{Issued, ServerFrame, ServiceFrame};
 use http_front::reply::Reply;
 use okws_base::items::Items;
@@ -20,7 +21,7 @@ use service_cell::columns::Columns;
 use site_cell::cell::SiteCell;
 use site_cell::named::Numbered;
 use std::alloc::AllocError;
-use std::sync::{Mutex, Wait};
+use std::sync::Wait;
 use turn_lock::{Seat, Turn};
 
 // Fills the buffer with the parts of a Reply.
@@ -75,7 +76,7 @@ fn fill_where<N: Numbered, L: Link>(reply: &mut Reply, spoken: Spoken, cell: &Si
 /// turn is given back.
 pub(crate) fn talk<R: Wait, N: Numbered, L: Link, C: Columns>(
     rt: &R,
-    gate: &Mutex<bool>,
+    gate: &DialogGate,
     lock: &Turn<SiteCell<N, L>>,
     seat: &mut Seat<SiteCell<N, L>>,
     head: Items<u8>,
@@ -95,7 +96,7 @@ pub(crate) fn talk<R: Wait, N: Numbered, L: Link, C: Columns>(
     ensures seat { seat.new ≡ record seat.old { seen = seat.new.seen } }
     ensures board { KeepsBoard C.asker C.shows C.token_seed C.spare columns.old columns.new }
 {
-    let gate = gate.lock(rt);
+    let gate = gate.pass(rt);
     let mut cell = lock.take(rt, seat);
     cell.keeps();
     let spoken = cell.dialog(head, content, wanted, columns);

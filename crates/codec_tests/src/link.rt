@@ -87,6 +87,45 @@ fn frames_come_in_pieces(rt: HostRuntime) -> Result<(), Fail> {
     Ok(())
 }
 
+/// A Log of a text of so many bytes.
+fn log_of(alloc: Global, length: u8) -> Result<Vec<u8>, AllocError> {
+    let mut bytes = Vec::new(alloc);
+    bytes.extend_from_slice(&(u32::from(length) + 5).to_be_bytes())?;
+    bytes.push(0x44)?;
+    bytes.extend_from_slice(&u32::from(length).to_be_bytes())?;
+    for byte in 0..length {
+        bytes.push(byte)?;
+    }
+    Ok(bytes)
+}
+
+// Some such frames have just the 256 bytes that are taken without memory of their own, some one more or less.
+#[test]
+fn frames_of_about_256_bytes_are_taken(rt: HostRuntime) -> Result<(), Fail> {
+    let alloc = rt.alloc();
+    for length in [0u8, 1, 246, 247, 248, 249, 255] {
+        for piece in [1usize, 4, 5, 255, 256, 257, 4096] {
+            let frame = log_of(alloc, length)?;
+            let mut link = MemoryLink::new(alloc, piece, &[]);
+            link.feed(&frame)?;
+            link.feed(&frame)?;
+            link.feed(b"\0")?;
+            link.feed_end();
+            for _ in 0..2 {
+                match next(alloc, &mut link) {
+                    NextFrame::Frame(ServiceFrame::Log(text)) => {
+                        assert!(rt; text.as_slice() == &frame[9..], "{length} by {piece}");
+                    }
+                    other => assert!(rt; false, "{length} by {piece}: {}", letter_of(&other)),
+                }
+            }
+            assert_eq!(rt; link.left().len(), 1);
+            assert_eq!(rt; letter_of(&next(alloc, &mut link)), 'B');
+        }
+    }
+    Ok(())
+}
+
 #[test]
 fn links_fail_at_a_call(rt: HostRuntime) -> Result<(), Fail> {
     let digits = "0000000643047061676500000007440000000268690000";

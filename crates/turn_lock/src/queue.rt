@@ -102,7 +102,7 @@ impl<V: Journaled> Queue<V> {
         ensures table { (place.new.table_id ≡ place.old.table_id) × (place.new.id ≡ place.old.id) }
         ensures value { (place.old.me.1 ≡ (0, Some result) ∷ []) × (place.new.me ≡ (place.old.me.0, (0, None) ∷ [])) }
     {
-        match self.table.shared.exchange(place, 0, None) {
+        match place.slot_mut(&self.table.shared, 0).take() {
             Some(value) => value,
             None => unreachable!(),
         }
@@ -115,7 +115,7 @@ impl<V: Journaled> Queue<V> {
         ensures table { (place.new.table_id ≡ place.old.table_id) × (place.new.id ≡ place.old.id) }
         ensures value { place.new.me ≡ (place.old.me.0, (0, Some value) ∷ []) }
     {
-        match self.table.shared.exchange(place, 0, Some(value)) {
+        match place.slot_mut(&self.table.shared, 0).replace(value) {
             Some(_) => unreachable!(),
             None => {}
         }

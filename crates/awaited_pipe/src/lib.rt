@@ -29,13 +29,22 @@ fn is_ready(fd: RawFd, wait: i32) -> bool {
     poll(&mut asked, wait) != 0
 }
 
-/// Looks so often at most whether something came at the descriptor.
-pub fn look_for(fd: RawFd, most: u64, patience: &Patience) {
-    for _ in 0..patience.looks(most) {
-        if is_ready(fd, 0) || !patience.lasts() {
+/// Looks for a while whether something came at the descriptor.
+pub fn look_for(fd: RawFd, patience: &Patience) {
+    let looks = patience.looks();
+    if looks == 0 {
+        return;
+    }
+    for _ in 0..looks {
+        if is_ready(fd, 0) {
+            patience.found();
+            return;
+        }
+        if !patience.lasts() {
             return;
         }
     }
+    patience.missed();
 }
 
 /// A reading end. It gives the bytes that come at it, and a read of it takes the place of a look.
@@ -52,8 +61,19 @@ impl<R: Read + AsRawFd> Awaited<R> {
         let _ = set_nonblocking(end.as_raw_fd(), true);
         Awaited {
             end,
-            patience: Patience::new(),
+            patience: Patience::new(LOOKS),
         }
+    }
+
+    /// Waits behind a look, of which there have been so many before, for the next one, or asleep where it was the last.
+    fn wait(&self, look: u64, looks: u64) {
+        if look < looks && self.patience.lasts() {
+            return;
+        }
+        if look == looks && looks > 0 {
+            self.patience.missed();
+        }
+        is_ready(self.end.as_raw_fd(), FOREVER);
     }
 }
 
@@ -61,17 +81,21 @@ impl<R: Read + AsRawFd> Read for Awaited<R> {
     ghost remaining = { λ a. R.remaining a.end };
 
     fn read(&mut self, into: &mut [u8]) -> io::Result<usize> {
-        let looks = self.patience.looks(LOOKS);
+        let looks = self.patience.looks();
         for look in 0..u64::MAX {
             match self.end.read(into) {
-                Err(error) if error.kind() == ErrorKind::WouldBlock => {
-                    if look >= looks || !self.patience.lasts() {
-                        is_ready(self.end.as_raw_fd(), FOREVER);
+                Err(error) if error.kind() == ErrorKind::WouldBlock => self.wait(look, looks),
+                read => {
+                    if look < looks {
+                        self.patience.found();
                     }
+                    return read;
                 }
-                read => return read,
             }
         }
         Err(io::Error::from(ErrorKind::WouldBlock))
     }
 }
+
+#[cfg(test)]
+mod tests;

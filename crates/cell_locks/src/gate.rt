@@ -20,19 +20,24 @@ impl DialogGate {
     pub(crate) fn new() -> DialogGate {
         DialogGate {
             shut: Mutex::new(false),
-            patience: Patience::new(),
+            patience: Patience::new(TRIES),
         }
     }
 
     /// Passes the gate, which is shut for others until the guard is let go.
     pub(crate) fn pass<R: Wait>(&self, rt: &R) -> MutexGuard<'_, bool> {
-        for _ in 0..self.patience.looks(TRIES) {
+        let tries = self.patience.looks();
+        for _ in 0..tries {
             if let Some(guard) = self.shut.try_lock() {
+                self.patience.found();
                 return guard;
             }
             if !self.patience.lasts() {
-                break;
+                return self.shut.lock(rt);
             }
+        }
+        if tries > 0 {
+            self.patience.missed();
         }
         self.shut.lock(rt)
     }

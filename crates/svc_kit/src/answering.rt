@@ -34,17 +34,6 @@ fn said_by(front: &[u8]) -> Said {
     }
 }
 
-impl Said {
-    /// How often what comes behind it is looked for.
-    fn looks(self) -> u64 {
-        match self {
-            Said::Nothing => 0,
-            Said::Reply => LOOKS_FOR_REQUEST,
-            Said::Other => LOOKS_FOR_ANSWER,
-        }
-    }
-}
-
 /// A link whose bytes come at a descriptor. A pull behind a frame that was said looks a while for what comes
 /// then, before it sleeps.
 #[derive(Drop)]
@@ -52,14 +41,19 @@ pub struct Answering<L> {
     link: L,
     input: RawFd,
     said: Said,
-    patience: Patience,
+    answers: Patience,
+    requests: Patience,
 }
 
 impl<L: Link> Link for Answering<L> {
     ghost wire = { λ a. L.wire a.link };
 
     fn pull(&mut self, into: &mut [u8]) -> Pull {
-        look_for(self.input, self.said.looks(), &self.patience);
+        match self.said {
+            Said::Nothing => {}
+            Said::Reply => look_for(self.input, &self.requests),
+            Said::Other => look_for(self.input, &self.answers),
+        }
         self.said = Said::Nothing;
         self.link.pull(into)
     }
@@ -89,7 +83,8 @@ pub fn over_answering<I: Source + Drop, O: Sink + Drop>(
         link: Ends { source, sink },
         input,
         said: Said::Nothing,
-        patience: Patience::new(),
+        answers: Patience::new(LOOKS_FOR_ANSWER),
+        requests: Patience::new(LOOKS_FOR_REQUEST),
     };
     Buffered::new(alloc, link)
 }

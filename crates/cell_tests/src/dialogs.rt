@@ -1,6 +1,6 @@
 //! Dialogs over a link in memory, one for each way in which they end.
 
-ghost use Rattle.std.specs.Prelude.{◌≡◌, ◌≢◌, ◌≤◌, ◌<◌, None, IfOk, IfSome, length};
+ghost use Rattle.std.specs.Prelude.{◌≡◌, ◌≢◌, ◌≤◌, ◌<◌, None, IfSome, length};
 ghost use Rattle.std.specs.Arc.{arc_value};
 ghost use Rattle.okws_base.specs.declared.limit.TheConstants.{MOST_INCARNATIONS};
 ghost use Rattle.service_cell.specs.Standing.{IsFresh};
@@ -18,9 +18,9 @@ use okws_plan::configuration::Config;
 use service_cell::answer::{Advanced, Begun, Booting};
 use service_cell::cell::Cell;
 use service_cell::ending::Finished;
-use std::alloc::{AllocError, Global};
+use std::alloc::Global;
+use std::process::Abort;
 use std::sync::Arc;
-use std::test::Fail;
 
 /// What the tests call their requests.
 const REQUEST: u32 = 7;
@@ -68,8 +68,8 @@ fn begun<L: Link + Drop>(alloc: Global, mut cell: Cell<L>, columns: &mut Bare) -
 }
 
 /// A site that declares nothing.
-pub(crate) fn site(alloc: Global) -> Result<Arc<Config, Global>, AllocError>
-    ensures { IfOk result (λ c. length (arc_value c).proxies ≤ 16) }
+pub(crate) fn site(rt: &impl Abort, alloc: Global) -> Arc<Config, Global>
+    ensures { length (arc_value result).proxies ≤ 16 }
 {
     let config = Config {
         proxies: Items::of(Vec::new(alloc)),
@@ -81,23 +81,27 @@ pub(crate) fn site(alloc: Global) -> Result<Arc<Config, Global>, AllocError>
         readables: Items::of(Vec::new(alloc)),
         loggers: Items::of(Vec::new(alloc)),
     };
-    Ok(Arc::new(alloc, config)?)
+    match Arc::new(alloc, config) {
+        Ok(shared) => shared,
+        Err(_) => panic!(rt; "memory was refused"),
+    }
 }
 
 /// A cell with this incarnation, over this link.
-pub(crate) fn booted<L: Link + Drop>(alloc: Global, link: L, number: u32) -> Option<Cell<L>>
+pub(crate) fn booted<R: Abort, L: Link + Drop>(
+    rt: &R,
+    alloc: Global,
+    link: L,
+    number: u32,
+) -> Option<Cell<L>>
     requires fresh { IsFresh (L.wire link) }
     requires first { 0 < number }
     requires most { number ≤ MOST_INCARNATIONS }
     ensures { IfSome result (λ c. (c.open_dialog ≡ None) × (c.service ≡ 0)) }
 {
-    let Ok(config) = site(alloc) else {
-        return None;
-    };
-    let mut cell = Cell::new(alloc, config, [0; 32], 0, false);
+    let mut cell = Cell::new(alloc, site(rt, alloc), [0; 32], 0, false);
     let Ok(tokens) = cell.tokens(number) else {
-        let _pasts = cell.close();
-        return None;
+        panic!(rt; "memory was refused");
     };
     match cell.boot(link, number, Items::of(tokens)) {
         Booting::Booted => Some(cell),
@@ -109,11 +113,16 @@ pub(crate) fn booted<L: Link + Drop>(alloc: Global, link: L, number: u32) -> Opt
 }
 
 /// A cell whose dialog is open, with this link.
-fn started<L: Link + Drop>(alloc: Global, link: L, columns: &mut Bare) -> Option<Cell<L>>
+fn started<R: Abort, L: Link + Drop>(
+    rt: &R,
+    alloc: Global,
+    link: L,
+    columns: &mut Bare,
+) -> Option<Cell<L>>
     requires { IsFresh (L.wire link) }
     ensures { IfSome result (λ c. IsSpeaking 0 c.open_dialog × (c.service ≡ 0) × (incarnation c.past ≢ 0)) }
 {
-    match booted(alloc, link, 1) {
+    match booted(rt, alloc, link, 1) {
         Some(cell) => begun(alloc, cell, columns),
         None => None,
     }
@@ -131,34 +140,40 @@ fn last_answer<L: Link>(cell: &mut Cell<L>, columns: &mut Bare) -> char
 
 /// The last letter where these bytes come, and what was put on the link; nothing where no dialog opens.
 fn spoken(
+    rt: &impl Abort,
     alloc: Global,
     coming: &[u8],
     has_ended: bool,
     shown: u32,
     failing: &[u64],
-) -> Result<(char, Vec<u8>), AllocError> {
+) -> (char, Vec<u8>) {
     let mut columns = Bare::new(alloc);
     let link = MemoryLink::new(alloc, 3, failing);
-    let Some(mut cell) = started(alloc, link, &mut columns) else {
-        return Ok(('-', Vec::new(alloc)));
+    let Some(mut cell) = started(rt, alloc, link, &mut columns) else {
+        return ('-', Vec::new(alloc));
     };
     columns.shown = shown;
-    let fed = cell.feed(coming);
+    match cell.feed(coming) {
+        Ok(()) => {}
+        Err(_) => panic!(rt; "memory was refused"),
+    }
     if has_ended {
         cell.feed_end();
     }
     let letter = last_answer(&mut cell, &mut columns);
     let link = if cell.busy() { None } else { cell.retire() };
     let _pasts = cell.close();
-    fed?;
     match link {
-        Some(link) => Ok((letter, Vec::from_slice(alloc, link.given())?)),
-        None => Ok((letter, Vec::new(alloc))),
+        Some(link) => {
+            let given = Vec::from_slice(alloc, link.given());
+            (letter, given.expect(rt, "memory was refused"))
+        }
+        None => (letter, Vec::new(alloc)),
     }
 }
 
 #[test]
-fn each_end_comes_once(rt: HostRuntime) -> Result<(), Fail> {
+fn each_end_comes_once(rt: HostRuntime) {
     for (coming, has_ended, shown, want) in [
         // A Log, and nothing behind it, or its end.
         (LOG, false, 1, 'e'),
@@ -170,55 +185,54 @@ fn each_end_comes_once(rt: HostRuntime) -> Result<(), Fail> {
         (b"\x00\x00\x00\x01\xff", false, 1, 'b'),
         (b"\x00\x00\x00\x07\x44", true, 1, 'b'),
     ] {
-        let (letter, _given) = spoken(rt.alloc(), coming, has_ended, shown, &[])?;
-        assert_eq!(rt; letter, want);
+        let (letter, _given) = spoken(&rt, rt.alloc(), coming, has_ended, shown, &[]);
+        assert!(rt; letter == want);
     }
-    Ok(())
 }
 
 #[test]
-fn a_link_fails(rt: HostRuntime) -> Result<(), Fail> {
+fn a_link_fails(rt: HostRuntime) {
     // The call that takes a Log, and the one that puts its answer: what was put before stays.
     for (call, length) in [(2, 25), (7, 25)] {
-        let (letter, given) = spoken(rt.alloc(), LOG, true, 1, &[call])?;
-        assert_eq!(rt; letter, 'f');
-        assert_eq!(rt; given.len(), length);
+        let (letter, given) = spoken(&rt, rt.alloc(), LOG, true, 1, &[call]);
+        assert!(rt; letter == 'f');
+        assert!(rt; given.len() == length);
     }
-    Ok(())
 }
 
 /// The last letter for a Log and its end over a link that makes room so many times; nothing where no
 /// dialog opens.
-fn spoken_in(alloc: Global, rooms: u32) -> Result<char, AllocError> {
+fn spoken_in(rt: &impl Abort, alloc: Global, rooms: u32) -> char {
     let mut columns = Bare::new(alloc);
     let mut link = MemoryLink::new(alloc, 3, &[]);
-    link.feed(LOG)?;
+    match link.feed(LOG) {
+        Ok(()) => {}
+        Err(_) => panic!(rt; "memory was refused"),
+    }
     link.feed_end();
-    let Some(mut cell) = started(alloc, Scant::new(link, rooms), &mut columns) else {
-        return Ok('-');
+    let Some(mut cell) = started(rt, alloc, Scant::new(link, rooms), &mut columns) else {
+        return '-';
     };
     let letter = last_answer(&mut cell, &mut columns);
     let _pasts = cell.close();
-    Ok(letter)
+    letter
 }
 
 #[test]
-fn memory_is_refused(rt: HostRuntime) -> Result<(), Fail> {
+fn memory_is_refused(rt: HostRuntime) {
     // Room is made for the Boot, for the Request, and before each frame is taken.
     for (rooms, want) in [(0, '-'), (1, '-'), (2, 'n'), (3, 'n'), (4, 'e')] {
-        assert_eq!(rt; spoken_in(rt.alloc(), rooms)?, want);
+        assert!(rt; spoken_in(&rt, rt.alloc(), rooms) == want);
     }
-    Ok(())
 }
 
 #[test]
-fn frames_are_put(rt: HostRuntime) -> Result<(), Fail> {
+fn frames_are_put(rt: HostRuntime) {
     // A Boot without tokens, an empty Request, and NoMemory, which the columns say of any Log.
-    let (_letter, given) = spoken(rt.alloc(), LOG, true, 1, &[])?;
+    let (_letter, given) = spoken(&rt, rt.alloc(), LOG, true, 1, &[]);
     let want =
         b"\x00\x00\x00\x08\x01\x00\x00\x00\x00\x00\x01\x00\x00\x00\x00\x09\x02\x00\x00\x00\x00\x00\x00\x00\x00\x00\x00\x00\x01\x0b";
     assert!(rt; given.as_slice() == want.as_slice());
-    Ok(())
 }
 
 /// What is at hand of a cell: the number of the request whose dialog is open, how many items its last
@@ -249,24 +263,26 @@ fn hand_of<L: Link>(cell: &Cell<L>) -> Hand {
 
 /// What is at hand once a dialog is open, or once it took a step where bytes come; nothing where none
 /// opens.
-fn hand_after(alloc: Global, coming: &[u8]) -> Result<Hand, AllocError> {
+fn hand_after(rt: &impl Abort, alloc: Global, coming: &[u8]) -> Hand {
     let mut columns = Bare::new(alloc);
     let link = MemoryLink::new(alloc, 3, &[]);
-    let Some(mut cell) = started(alloc, link, &mut columns) else {
-        return Ok((None, 0, None));
+    let Some(mut cell) = started(rt, alloc, link, &mut columns) else {
+        return (None, 0, None);
     };
-    let fed = cell.feed(coming);
+    match cell.feed(coming) {
+        Ok(()) => {}
+        Err(_) => panic!(rt; "memory was refused"),
+    }
     if !coming.is_empty() {
         let _answer = cell.advance(&mut columns);
     }
     let hand = hand_of(&cell);
     let _pasts = cell.close();
-    fed?;
-    Ok(hand)
+    hand
 }
 
 #[test]
-fn the_last_step_is_at_hand(rt: HostRuntime) -> Result<(), Fail> {
+fn the_last_step_is_at_hand(rt: HostRuntime) {
     for (coming, open, count, status) in [
         // A Log and its answer, or the Request alone.
         (LOG, Some(REQUEST), 2, None),
@@ -275,10 +291,9 @@ fn the_last_step_is_at_hand(rt: HostRuntime) -> Result<(), Fail> {
         (REPLY, None, 0, Some(200)),
         (b"\x00\x00\x00\x01\xff", None, 0, None),
     ] {
-        let (found_open, found_count, found_status) = hand_after(rt.alloc(), coming)?;
+        let (found_open, found_count, found_status) = hand_after(&rt, rt.alloc(), coming);
         assert!(rt; found_open == open);
-        assert_eq!(rt; found_count, count);
+        assert!(rt; found_count == count);
         assert!(rt; found_status == status);
     }
-    Ok(())
 }

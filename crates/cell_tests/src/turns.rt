@@ -16,7 +16,7 @@ use site_cell::cell::SiteCell;
 use site_cell::named::Numbered;
 use std::alloc::Global;
 use std::marker::Brand;
-use std::test::Fail;
+use std::process::Abort;
 use turn_lock::Journaled;
 
 /// The number of who launches.
@@ -24,7 +24,8 @@ const LAUNCHER: u16 = 3;
 
 /// The cell is booted by who launches, speaks with worker 0, and is retired. What the dialog answers,
 /// and the incarnation before the retirement and behind it.
-fn take_turns<N: Numbered, L: Link + Drop>(
+fn take_turns<R: Abort, N: Numbered, L: Link + Drop>(
+    rt: &R,
     alloc: Global,
     cell: Cell<L>,
     link: L,
@@ -40,7 +41,9 @@ fn take_turns<N: Numbered, L: Link + Drop>(
 {
     let mut held = SiteCell::<N, L>::new(cell);
     held.hold(LAUNCHER);
-    let tokens = held.tokens(1).ok()?;
+    let Ok(tokens) = held.tokens(1) else {
+        panic!(rt; "memory was refused");
+    };
     match held.boot(link, 1, Items::of(tokens)) {
         Booting::Booted => {}
         Booting::LinkFault(_) | Booting::NoMemory(_) => return None,
@@ -68,15 +71,14 @@ const PLANS: [ChildPlan<'static>; 1] = [ChildPlan {
 }];
 
 #[test]
-fn a_cell_is_taken_in_turns(rt: HostRuntime) -> Result<(), Fail> {
+fn a_cell_is_taken_in_turns(rt: HostRuntime) {
     let alloc = rt.alloc();
     let mut columns = Bare::new(alloc);
     let mut children = MemoryChildren::new(alloc, &PLANS, &[]);
     let Ok(Started { child: _, link }) = children.start(alloc, 0, 1, &[]) else {
         panic!(rt; "not as planned");
     };
-    let cell = Cell::new(alloc, site(alloc)?, [0; 32], 0, false);
-    let taken = take_turns::<Brand, _>(alloc, cell, link, &mut columns);
+    let cell = Cell::new(alloc, site(&rt, alloc), [0; 32], 0, false);
+    let taken = take_turns::<_, Brand, _>(&rt, alloc, cell, link, &mut columns);
     assert!(rt; taken == Some((Spoken::Reply, 1, 0)));
-    Ok(())
 }

@@ -1,6 +1,6 @@
 //! Whole dialogs over links in memory, all bytes of which came before: one for each answer.
 
-ghost use Rattle.std.specs.Prelude.{◌≡◌, ◌≤◌, ◌<◌, None, IfOk, length};
+ghost use Rattle.std.specs.Prelude.{◌≡◌, ◌≤◌, ◌<◌, None, length};
 ghost use Rattle.okws_base.specs.declared.limit.TheConstants.{MOST_INCARNATIONS};
 ghost use Rattle.service_cell.specs.Standing.{IsFresh};
 
@@ -13,8 +13,8 @@ use okws_outer::stream::Link;
 use service_cell::answer::Spoken;
 use service_cell::cell::Cell;
 use service_cell::columns::Columns;
-use std::alloc::{AllocError, Global};
-use std::test::Fail;
+use std::alloc::Global;
+use std::process::Abort;
 
 /// One letter for each answer.
 fn letter_of(answer: Spoken) -> char {
@@ -47,58 +47,70 @@ fn talk<L: Link, C: Columns>(
 
 /// What a dialog that wants incarnation 1 answers over this link, of an incarnation of this number;
 /// nothing where that isn't booted.
-fn talked<L: Link + Drop>(alloc: Global, link: L, number: u32, columns: &mut Bare) -> Option<Spoken>
+fn talked<R: Abort, L: Link + Drop>(
+    rt: &R,
+    alloc: Global,
+    link: L,
+    number: u32,
+    columns: &mut Bare,
+) -> Option<Spoken>
     requires fresh { IsFresh (L.wire link) }
     requires first { 0 < number }
     requires most { number ≤ MOST_INCARNATIONS }
 {
-    let mut cell = booted(alloc, link, number)?;
+    let mut cell = booted(rt, alloc, link, number)?;
     let answer = talk(alloc, &mut cell, 1, columns);
     let _pasts = cell.close();
     Some(answer)
 }
 
 /// A link to which these bytes were fed, and then the end.
-fn fed<'a>(alloc: Global, coming: &[u8], failing: &'a [u64]) -> Result<MemoryLink<'a>, AllocError>
-    ensures { IfOk result (λ link. IsFresh (⟦<MemoryLink<'a> as Link>⟧.wire link)) }
+fn fed<'a>(rt: &impl Abort, alloc: Global, coming: &[u8], failing: &'a [u64]) -> MemoryLink<'a>
+    ensures { IsFresh (⟦<MemoryLink<'a> as Link>⟧.wire result) }
 {
     let mut link = MemoryLink::new(alloc, 3, failing);
-    link.feed(coming)?;
+    match link.feed(coming) {
+        Ok(()) => {}
+        Err(_) => panic!(rt; "memory was refused"),
+    }
     link.feed_end();
-    Ok(link)
+    link
 }
 
 /// The letter of a dialog with incarnation 1, to which these bytes come.
 fn letter(
+    rt: &impl Abort,
     alloc: Global,
     coming: &[u8],
     shown: u32,
     meanwhile: u32,
     failing: &[u64],
-) -> Result<char, AllocError> {
+) -> char {
     let mut columns = Bare::new(alloc);
     columns.shown = shown;
     columns.meanwhile = meanwhile;
-    match talked(alloc, fed(alloc, coming, failing)?, 1, &mut columns) {
-        Some(answer) => Ok(letter_of(answer)),
-        None => Ok('-'),
+    let link = fed(rt, alloc, coming, failing);
+    match talked(rt, alloc, link, 1, &mut columns) {
+        Some(answer) => letter_of(answer),
+        None => '-',
     }
 }
 
 /// So many Logs, and a Reply.
-fn logs(alloc: Global, count: usize) -> Result<Vec<u8>, AllocError> {
+fn logs(rt: &impl Abort, alloc: Global, count: usize) -> Vec<u8> {
     let mut all = Vec::new(alloc);
     for _ in 0..count {
-        all.extend_from_slice(LOG)?;
+        all.extend_from_slice(LOG).expect(rt, "memory was refused");
     }
-    all.extend_from_slice(REPLY)?;
-    Ok(all)
+    all.extend_from_slice(REPLY)
+        .expect(rt, "memory was refused");
+    all
 }
 
 #[test]
-fn each_end_comes_once(rt: HostRuntime) -> Result<(), Fail> {
+fn each_end_comes_once(rt: HostRuntime) {
     let alloc = rt.alloc();
-    let served = logs(alloc, 2)?;
+    let served = logs(&rt, alloc, 2);
     for (coming, shown, meanwhile, want) in [
         (served.as_slice(), 1, 0, 'r'),
         // A greater incarnation was begun before the dialog, or after its Request, before a frame.
@@ -109,15 +121,14 @@ fn each_end_comes_once(rt: HostRuntime) -> Result<(), Fail> {
         (b"\x00\x00\x00\x01\xff", 1, 0, 'b'),
         (b"\x00\x00\x00\x07\x44", 1, 0, 'b'),
     ] {
-        assert_eq!(rt; letter(alloc, coming, shown, meanwhile, &[])?, want);
+        assert!(rt; letter(&rt, alloc, coming, shown, meanwhile, &[]) == want);
     }
-    Ok(())
 }
 
 #[test]
-fn a_link_fails_in_a_dialog(rt: HostRuntime) -> Result<(), Fail> {
+fn a_link_fails_in_a_dialog(rt: HostRuntime) {
     let alloc = rt.alloc();
-    let served = logs(alloc, 1)?;
+    let served = logs(&rt, alloc, 1);
     // The calls that put the Boot and the Request, the five that take a Log, the one that answers it, and
     // the first and the last of the nine that take a Reply of 25 bytes; one more is never made.
     for (call, want) in [
@@ -130,57 +141,50 @@ fn a_link_fails_in_a_dialog(rt: HostRuntime) -> Result<(), Fail> {
         (16, 'f'),
         (17, 'r'),
     ] {
-        assert_eq!(rt; letter(alloc, &served, 1, 0, &[call])?, want);
+        assert!(rt; letter(&rt, alloc, &served, 1, 0, &[call]) == want);
     }
-    Ok(())
 }
 
 #[test]
-fn the_4097th_frame_is_too_many(rt: HostRuntime) -> Result<(), Fail> {
+fn the_4097th_frame_is_too_many(rt: HostRuntime) {
     let alloc = rt.alloc();
     // The Reply is the 4,096th frame, or the 4,097th.
     for (count, want) in [(4_095, 'r'), (4_096, 'l')] {
-        assert_eq!(rt; letter(alloc, &logs(alloc, count)?, 1, 0, &[])?, want);
+        assert!(rt; letter(&rt, alloc, &logs(&rt, alloc, count), 1, 0, &[]) == want);
     }
-    Ok(())
 }
 
 #[test]
-fn memory_is_refused_in_a_dialog(rt: HostRuntime) -> Result<(), Fail> {
+fn memory_is_refused_in_a_dialog(rt: HostRuntime) {
     let alloc = rt.alloc();
     // Room is made for the Boot, for the Request, and before each frame is taken.
     for (rooms, want) in [(0, '-'), (1, 'n'), (2, 'n'), (3, 'e')] {
         let mut columns = Bare::new(alloc);
-        let link = Scant::new(fed(alloc, b"", &[])?, rooms);
-        let letter = talked(alloc, link, 1, &mut columns).map_or('-', letter_of);
-        assert_eq!(rt; letter, want);
+        let link = Scant::new(fed(&rt, alloc, b"", &[]), rooms);
+        let letter = talked(&rt, alloc, link, 1, &mut columns).map_or('-', letter_of);
+        assert!(rt; letter == want);
     }
-    Ok(())
 }
 
 #[test]
-fn another_incarnation_is_there(rt: HostRuntime) -> Result<(), Fail> {
+fn another_incarnation_is_there(rt: HostRuntime) {
     let alloc = rt.alloc();
     let mut columns = Bare::new(alloc);
-    let answer = talked(alloc, fed(alloc, REPLY, &[])?, 2, &mut columns);
+    let answer = talked(&rt, alloc, fed(&rt, alloc, REPLY, &[]), 2, &mut columns);
     assert!(rt; answer == Some(Spoken::Missed { wanted: 1, is: 2 }));
-    Ok(())
 }
 
 /// The letters of two dialogs with incarnation 1, of which these columns drain one alone.
-fn twice(alloc: Global) -> Result<Option<(char, char)>, AllocError> {
+fn twice(rt: &impl Abort, alloc: Global) -> Option<(char, char)> {
     let mut columns = Bare::new(alloc);
-    let Some(mut cell) = booted(alloc, fed(alloc, REPLY, &[])?, 1) else {
-        return Ok(None);
-    };
+    let mut cell = booted(rt, alloc, fed(rt, alloc, REPLY, &[]), 1)?;
     let first = talk(alloc, &mut cell, 1, &mut columns);
     let second = talk(alloc, &mut cell, 1, &mut columns);
     let _pasts = cell.close();
-    Ok(Some((letter_of(first), letter_of(second))))
+    Some((letter_of(first), letter_of(second)))
 }
 
 #[test]
-fn a_drain_is_refused_memory(rt: HostRuntime) -> Result<(), Fail> {
-    assert!(rt; twice(rt.alloc())? == Some(('r', '0')));
-    Ok(())
+fn a_drain_is_refused_memory(rt: HostRuntime) {
+    assert!(rt; twice(&rt, rt.alloc()) == Some(('r', '0')));
 }

@@ -10,8 +10,8 @@ use frame_codec::frame::ServiceFrame;
 use frame_codec::service::write_service_frame;
 use okws_base::items::Items;
 use okws_base::value::{Row, Text, Token, Value};
-use std::alloc::{AllocError, Global};
-use std::test::Fail;
+use std::alloc::Global;
+use std::process::Abort;
 
 /// A token of service 0 at proxy 0, incarnation 1.
 const TOKEN: Token = Token {
@@ -21,34 +21,39 @@ const TOKEN: Token = Token {
     ],
 };
 
-fn items(alloc: Global, text: &str) -> Result<Items<u8>, AllocError> {
-    Ok(Items::of(Vec::from_slice(alloc, text.as_bytes())?))
+fn items(rt: &impl Abort, alloc: Global, text: &str) -> Items<u8> {
+    let bytes = Vec::from_slice(alloc, text.as_bytes());
+    Items::of(bytes.expect(rt, "memory was refused"))
 }
 
-fn text(alloc: Global, text: &str) -> Result<Value, AllocError> {
-    Ok(Value::Text(Text::of(String::from_str(alloc, text)?)))
+fn text(rt: &impl Abort, alloc: Global, text: &str) -> Value {
+    let text = String::from_str(alloc, text);
+    Value::Text(Text::of(text.expect(rt, "memory was refused")))
 }
 
 /// A row of a number and a text.
-fn person(alloc: Global, id: i64, who: &str) -> Result<Row, AllocError> {
+fn person(rt: &impl Abort, alloc: Global, id: i64, who: &str) -> Row {
     let mut row = Vec::new(alloc);
-    row.push(Value::Int(id))?;
-    row.push(text(alloc, who)?)?;
-    Ok(Items::of(row))
+    row.push(Value::Int(id)).expect(rt, "memory was refused");
+    let who = text(rt, alloc, who);
+    row.push(who).expect(rt, "memory was refused");
+    Items::of(row)
 }
 
 /// A row of n bytes.
-fn blob(alloc: Global, n: usize) -> Result<Row, AllocError> {
+fn blob(rt: &impl Abort, alloc: Global, n: usize) -> Row {
+    let bytes = vec![in alloc; 0u8; n].expect(rt, "memory was refused");
     let mut row = Vec::new(alloc);
-    row.push(Value::Bytes(Items::of(vec![in alloc; 0u8; n]?)))?;
-    Ok(Items::of(row))
+    row.push(Value::Bytes(Items::of(bytes)))
+        .expect(rt, "memory was refused");
+    Items::of(row)
 }
 
 /// The frame's spelling in hexadecimal digits; none where the frame has no spelling.
-fn service_digits(alloc: Global, frame: &ServiceFrame) -> Result<String, Fail> {
+fn service_digits(rt: &impl Abort, alloc: Global, frame: &ServiceFrame) -> String {
     if !frame.has_spelling() {
-        return Ok(String::new(alloc));
+        return String::new(alloc);
     }
-    let bytes = write_service_frame(alloc, frame)?;
-    Ok(hex::encode(alloc, bytes)?)
+    let bytes = write_service_frame(alloc, frame).expect(rt, "memory was refused");
+    hex::encode(alloc, bytes).expect(rt, "memory was refused")
 }

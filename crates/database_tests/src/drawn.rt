@@ -13,8 +13,8 @@ use okws_plan::configuration::Config;
 use row_keeper::ListKeeper;
 use sqlite::{Alter, Connection};
 use sqlite_keeper::SqliteKeeper;
-use std::alloc::{AllocError, Global};
-use std::test::Fail;
+use std::alloc::Global;
+use std::process::Abort;
 use std::{fs, process};
 
 const SITE: &str = "okws 1
@@ -89,40 +89,43 @@ fn next(state: u64) -> u64 {
         .wrapping_add(1_442_695_040_888_963_407)
 }
 
-fn drawn(alloc: Global, kind: Kind, number: u64) -> Result<Value, AllocError> {
+fn drawn(rt: &impl Abort, alloc: Global, kind: Kind, number: u64) -> Value {
     let at = (number / 4_294_967_296 % 11) as usize;
     match kind {
-        Kind::Int => Ok(Value::Int(INTS[at])),
-        Kind::Text => text(alloc, TEXTS[at]),
-        Kind::Bytes => bytes(alloc, BYTES[at]),
+        Kind::Int => Value::Int(INTS[at]),
+        Kind::Text => text(rt, alloc, TEXTS[at]),
+        Kind::Bytes => bytes(rt, alloc, BYTES[at]),
     }
 }
 
 fn arguments(
+    rt: &impl Abort,
     alloc: Global,
     config: &Config,
     query: u16,
     mut number: u64,
-) -> Result<Vec<Value>, AllocError> {
+) -> Vec<Value> {
     let mut args = Vec::new(alloc);
     if let Some(query) = query_at(config, query) {
         for kind in query.statement.parameters.as_slice() {
             number = next(number);
-            args.push(drawn(alloc, *kind, number)?)?;
+            args.push(drawn(rt, alloc, *kind, number))
+                .expect(rt, "memory was refused");
         }
     }
-    Ok(args)
+    args
 }
 
 // Whether both keepers answer so many statements alike, the first of which is drawn by this number.
-fn answer_alike<K: Keeper>(
+fn answer_alike<R: Abort, K: Keeper>(
+    rt: &R,
     alloc: Global,
     config: &Config,
     one: &mut K,
     other: &mut ListKeeper,
     mut number: u64,
     calls: u64,
-) -> Result<bool, AllocError>
+) -> bool
     requires one { K.tables one.old ≡ tables config.now 0 }
     requires other { ⟦<ListKeeper as Keeper>⟧.tables other.old ≡ tables config.now 0 }
     requires ruled { AreRuled config.now }
@@ -132,156 +135,153 @@ fn answer_alike<K: Keeper>(
     for _ in 0..calls {
         number = next(number);
         let query = (number / 4_294_967_296 % 24) as u16;
-        let args = arguments(alloc, config, query, number)?;
+        let args = arguments(rt, alloc, config, query, number);
         let found = call(alloc, one, config, query, &args);
         if found != call(alloc, other, config, query, &args) {
-            return Ok(false);
+            return false;
         }
     }
-    Ok(true)
+    true
 }
 
 // The same over a database.
-fn database_answers_alike<S: Alter + Drop>(
+fn database_answers_alike<R: Abort, S: Alter + Drop>(
+    rt: &R,
     alloc: Global,
     conn: Connection<S>,
     config: &Config,
     other: &mut ListKeeper,
     number: u64,
     calls: u64,
-) -> Result<bool, Fail>
+) -> bool
     requires other { ⟦<ListKeeper as Keeper>⟧.tables other.old ≡ tables config.now 0 }
     requires ruled { AreRuled config.now }
     ensures other { ⟦<ListKeeper as Keeper>⟧.tables other.new ≡ tables config.now 0 }
 {
     let Ok(mut one) = SqliteKeeper::new(alloc, conn, tables_at(config)) else {
-        return Err(Fail::from("no keeper"));
+        panic!(rt; "no keeper");
     };
-    Ok(answer_alike(alloc, config, &mut one, other, number, calls)?)
+    answer_alike(rt, alloc, config, &mut one, other, number, calls)
 }
 
 // The same of 2,000 statements over a new database in memory.
 fn new_answers_alike(
+    rt: &impl Abort,
     alloc: Global,
     config: &Config,
     other: &mut ListKeeper,
     number: u64,
-) -> Result<bool, Fail>
+) -> bool
     requires other { ⟦<ListKeeper as Keeper>⟧.tables other.old ≡ tables config.now 0 }
     requires ruled { AreRuled config.now }
 {
-    let conn = Connection::open_in_memory(alloc)?;
-    database_answers_alike(alloc, conn, config, other, number, 2_000)
+    let conn = Connection::open_in_memory(alloc).expect(rt, "memory was refused");
+    database_answers_alike(rt, alloc, conn, config, other, number, 2_000)
 }
 
 // Whether a database in memory answers 2,000 statements as lists do, the first of which is drawn by this number.
-fn memory_answers_alike(alloc: Global, number: u64) -> Result<bool, Fail> {
-    let config = config(alloc, SITE)?;
-    let mut other = plain(alloc, &config)?;
-    new_answers_alike(alloc, &config, &mut other, number)
+fn memory_answers_alike(rt: &impl Abort, alloc: Global, number: u64) -> bool {
+    let config = config(rt, alloc, SITE);
+    let mut other = plain(rt, alloc, &config);
+    new_answers_alike(rt, alloc, &config, &mut other, number)
 }
 
 #[test]
-fn a_database_answers_as_lists_do_one(rt: HostRuntime) -> Result<(), Fail> {
-    assert!(rt; memory_answers_alike(rt.alloc(), 1)?);
-    Ok(())
+fn a_database_answers_as_lists_do_one(rt: HostRuntime) {
+    assert!(rt; memory_answers_alike(&rt, rt.alloc(), 1));
 }
 
 #[test]
-fn a_database_answers_as_lists_do_two(rt: HostRuntime) -> Result<(), Fail> {
-    assert!(rt; memory_answers_alike(rt.alloc(), 2)?);
-    Ok(())
+fn a_database_answers_as_lists_do_two(rt: HostRuntime) {
+    assert!(rt; memory_answers_alike(&rt, rt.alloc(), 2));
 }
 
 #[test]
-fn a_database_answers_as_lists_do_three(rt: HostRuntime) -> Result<(), Fail> {
-    assert!(rt; memory_answers_alike(rt.alloc(), 3)?);
-    Ok(())
+fn a_database_answers_as_lists_do_three(rt: HostRuntime) {
+    assert!(rt; memory_answers_alike(&rt, rt.alloc(), 3));
 }
 
 #[test]
-fn a_database_answers_as_lists_do_four(rt: HostRuntime) -> Result<(), Fail> {
-    assert!(rt; memory_answers_alike(rt.alloc(), 4)?);
-    Ok(())
+fn a_database_answers_as_lists_do_four(rt: HostRuntime) {
+    assert!(rt; memory_answers_alike(&rt, rt.alloc(), 4));
 }
 
 #[test]
-fn a_database_answers_as_lists_do_five(rt: HostRuntime) -> Result<(), Fail> {
-    assert!(rt; memory_answers_alike(rt.alloc(), 5)?);
-    Ok(())
+fn a_database_answers_as_lists_do_five(rt: HostRuntime) {
+    assert!(rt; memory_answers_alike(&rt, rt.alloc(), 5));
 }
 
 #[test]
-fn a_database_answers_as_lists_do_six(rt: HostRuntime) -> Result<(), Fail> {
-    assert!(rt; memory_answers_alike(rt.alloc(), 6)?);
-    Ok(())
+fn a_database_answers_as_lists_do_six(rt: HostRuntime) {
+    assert!(rt; memory_answers_alike(&rt, rt.alloc(), 6));
 }
 
 // The same of 60 statements over the rows that a file has, which is closed again.
 fn file_answers_alike(
-    rt: &HostRuntime,
+    rt: &impl Abort,
+    host: &HostRuntime,
     config: &Config,
     path: &str,
     other: &mut ListKeeper,
     number: u64,
-) -> Result<bool, Fail>
+) -> bool
     requires other { ⟦<ListKeeper as Keeper>⟧.tables other.old ≡ tables config.now 0 }
     requires ruled { AreRuled config.now }
     ensures other { ⟦<ListKeeper as Keeper>⟧.tables other.new ≡ tables config.now 0 }
 {
-    let conn = Connection::open(rt, path)?;
-    database_answers_alike(rt.alloc(), conn, config, other, number, 60)
+    let Ok(conn) = Connection::open(host, path) else {
+        panic!(rt; "no database");
+    };
+    database_answers_alike(rt, host.alloc(), conn, config, other, number, 60)
 }
 
-fn clear(rt: &HostRuntime, path: &str) -> Result<(), Fail> {
-    let log = format!(in rt.alloc(); "{path}-wal")?;
-    let _ = fs::remove_file(rt, path);
-    let _ = fs::remove_file(rt, log.as_str());
-    Ok(())
+fn clear(rt: &impl Abort, host: &HostRuntime, path: &str) {
+    let log = format!(in host.alloc(); "{path}-wal");
+    let log = log.expect(rt, "memory was refused");
+    let _ = fs::remove_file(host, path);
+    let _ = fs::remove_file(host, log.as_str());
 }
 
 // Whether a file that is opened twice, for 60 statements each, answers as lists do.
-fn path_answers_alike(rt: &HostRuntime, path: &str, first: u64) -> Result<bool, Fail> {
-    let config = config(rt.alloc(), SITE)?;
-    let mut other = plain(rt.alloc(), &config)?;
+fn path_answers_alike(rt: &impl Abort, host: &HostRuntime, path: &str, first: u64) -> bool {
+    let config = config(rt, host.alloc(), SITE);
+    let mut other = plain(rt, host.alloc(), &config);
     for turn in 0..2 {
-        if !file_answers_alike(rt, &config, path, &mut other, first.wrapping_add(turn))? {
-            return Ok(false);
+        let number = first.wrapping_add(turn);
+        if !file_answers_alike(rt, host, &config, path, &mut other, number) {
+            return false;
         }
     }
-    Ok(true)
+    true
 }
 
 // The same of a new file, which is removed when they were asked.
-fn opened_again_answers_alike(rt: &HostRuntime, first: u64) -> Result<bool, Fail> {
-    let id = process::id(rt.process());
-    let path = format!(in rt.alloc(); "/tmp/okws-drawn-{id}-{first}")?;
-    clear(rt, &path)?;
-    let alike = path_answers_alike(rt, &path, first)?;
-    clear(rt, &path)?;
-    Ok(alike)
+fn opened_again_answers_alike(rt: &impl Abort, host: &HostRuntime, first: u64) -> bool {
+    let id = process::id(host.process());
+    let path = format!(in host.alloc(); "/tmp/okws-drawn-{id}-{first}");
+    let path = path.expect(rt, "memory was refused");
+    clear(rt, host, &path);
+    let alike = path_answers_alike(rt, host, &path, first);
+    clear(rt, host, &path);
+    alike
 }
 
 #[test]
-fn a_file_that_is_opened_again_answers_as_lists_do_one(rt: HostRuntime) -> Result<(), Fail> {
-    assert!(rt; opened_again_answers_alike(&rt, 10)?);
-    Ok(())
+fn a_file_that_is_opened_again_answers_as_lists_do_one(rt: HostRuntime) {
+    assert!(rt; opened_again_answers_alike(&rt, &rt, 10));
 }
 
 #[test]
-fn a_file_that_is_opened_again_answers_as_lists_do_two(rt: HostRuntime) -> Result<(), Fail> {
-    assert!(rt; opened_again_answers_alike(&rt, 20)?);
-    Ok(())
+fn a_file_that_is_opened_again_answers_as_lists_do_two(rt: HostRuntime) {
+    assert!(rt; opened_again_answers_alike(&rt, &rt, 20));
 }
 
 #[test]
-fn a_file_that_is_opened_again_answers_as_lists_do_three(rt: HostRuntime) -> Result<(), Fail> {
-    assert!(rt; opened_again_answers_alike(&rt, 30)?);
-    Ok(())
+fn a_file_that_is_opened_again_answers_as_lists_do_three(rt: HostRuntime) {
+    assert!(rt; opened_again_answers_alike(&rt, &rt, 30));
 }
 
 #[test]
-fn a_file_that_is_opened_again_answers_as_lists_do_four(rt: HostRuntime) -> Result<(), Fail> {
-    assert!(rt; opened_again_answers_alike(&rt, 40)?);
-    Ok(())
+fn a_file_that_is_opened_again_answers_as_lists_do_four(rt: HostRuntime) {
+    assert!(rt; opened_again_answers_alike(&rt, &rt, 40));
 }

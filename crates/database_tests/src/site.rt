@@ -1,6 +1,6 @@
 //! Keepers over the first proxy of a configuration, and calls of its queries by number.
 
-ghost use Rattle.std.specs.Prelude.{◌≡◌, IfOk, slice_get};
+ghost use Rattle.std.specs.Prelude.{◌≡◌, slice_get};
 ghost use Rattle.std.specs.Option.{option_copied};
 ghost use Rattle.okws_plan.specs.Configuration.{tables, query, queries_of};
 ghost use Rattle.config_reader.specs.Ruled.{AreRuled};
@@ -13,16 +13,16 @@ use okws_plan::configuration::{Config, Query, Table};
 use okws_plan::meaning::fit;
 use okws_plan::statement::Answer;
 use row_keeper::ListKeeper;
-use std::alloc::{AllocError, Global};
-use std::test::Fail;
+use std::alloc::Global;
+use std::process::Abort;
 
 /// The configuration of this text.
-pub fn config(alloc: Global, text: &str) -> Result<Config, Fail>
-    ensures { IfOk result AreRuled }
+pub fn config(rt: &impl Abort, alloc: Global, text: &str) -> Config
+    ensures { AreRuled result }
 {
     match read(alloc, text.as_bytes()) {
-        Ok(config) => Ok(config),
-        Err(_) => Err(Fail::from("no lawful configuration")),
+        Ok(config) => config,
+        Err(_) => panic!(rt; "no lawful configuration"),
     }
 }
 
@@ -55,10 +55,13 @@ pub fn query_at(config: &Config, number: u16) -> Option<&Query>
 }
 
 /// A plain keeper over the first proxy.
-pub fn plain(alloc: Global, config: &Config) -> Result<ListKeeper, AllocError>
-    ensures { IfOk result (λ k. ⟦<ListKeeper as Keeper>⟧.tables k ≡ tables config.now 0) }
+pub fn plain(rt: &impl Abort, alloc: Global, config: &Config) -> ListKeeper
+    ensures { ⟦<ListKeeper as Keeper>⟧.tables result ≡ tables config.now 0 }
 {
-    ListKeeper::new(alloc, tables_at(config), Vec::new(alloc))
+    match ListKeeper::new(alloc, tables_at(config), Vec::new(alloc)) {
+        Ok(keeper) => keeper,
+        Err(_) => panic!(rt; "memory was refused"),
+    }
 }
 
 /// What a query answers; nothing where there is none of this number, or its arguments are wrong.
@@ -80,10 +83,16 @@ pub fn call<K: Keeper>(
     Some(keeper.run(alloc, &query.statement, args))
 }
 
-pub fn text(alloc: Global, text: &str) -> Result<Value, AllocError> {
-    Ok(Value::Text(Text::of(String::from_str(alloc, text)?)))
+pub fn text(rt: &impl Abort, alloc: Global, text: &str) -> Value {
+    match String::from_str(alloc, text) {
+        Ok(text) => Value::Text(Text::of(text)),
+        Err(_) => panic!(rt; "memory was refused"),
+    }
 }
 
-pub fn bytes(alloc: Global, bytes: &[u8]) -> Result<Value, AllocError> {
-    Ok(Value::Bytes(Items::of(copies(alloc, bytes)?)))
+pub fn bytes(rt: &impl Abort, alloc: Global, bytes: &[u8]) -> Value {
+    match copies(alloc, bytes) {
+        Ok(bytes) => Value::Bytes(Items::of(bytes)),
+        Err(_) => panic!(rt; "memory was refused"),
+    }
 }

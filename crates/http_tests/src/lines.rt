@@ -5,7 +5,6 @@ use http_text::length::{ContentLength, length_of};
 use http_text::response::{own_response, response};
 use http_text::status::phrase;
 use http_text::target::{are_target_bytes, path_of};
-use std::test::Fail;
 
 #[test]
 fn names_paths(rt: HostRuntime) {
@@ -19,7 +18,7 @@ fn names_paths(rt: HostRuntime) {
     ];
     for (target, path) in rows {
         let named = path_of(target).expect(&rt, "the target is taken");
-        assert_eq!(rt; named, path, "at {target:?}");
+        assert!(rt; named == path, "at {target:?}");
     }
 }
 
@@ -54,7 +53,7 @@ fn reads_lengths(rt: HostRuntime) {
         (b"1, 1", ContentLength::NotDigits),
     ];
     for (value, says) in rows {
-        assert_eq!(rt; length_of(value), says, "at {value:?}");
+        assert!(rt; length_of(value) == says, "at {value:?}");
     }
 }
 
@@ -77,7 +76,7 @@ fn has_phrases(rt: HostRuntime) {
         (507, "Insufficient Storage"),
     ];
     for (status, text) in rows {
-        assert_eq!(rt; phrase(status).unwrap_or(""), text, "at {status}");
+        assert!(rt; phrase(status).unwrap_or("") == text, "at {status}");
     }
     for status in [0, 100, 204, 302, 504, 65_535] {
         assert!(rt; phrase(status).is_none(), "at {status}");
@@ -85,28 +84,27 @@ fn has_phrases(rt: HostRuntime) {
 }
 
 #[test]
-fn writes_responses(rt: HostRuntime) -> Result<(), Fail> {
+fn writes_responses(rt: HostRuntime) {
     let alloc = rt.alloc();
-    let got = response(alloc, 200, b"text/plain", b"", b"ok", b"GET")?;
-    assert_eq!(rt;
-        got.as_slice(),
-        b"HTTP/1.1 200 OK\r\nContent-Type: text/plain\r\nContent-Length: 2\r\nConnection: close\r\n\r\nok".as_slice()
-    );
-    let head = response(alloc, 200, b"text/plain", b"", b"ok", b"HEAD")?;
-    assert_eq!(rt;
-        head.as_slice(),
-        b"HTTP/1.1 200 OK\r\nContent-Type: text/plain\r\nContent-Length: 2\r\nConnection: close\r\n\r\n".as_slice()
-    );
-    let moved = response(alloc, 303, b"text/plain", b"/guest", b"", b"POST")?;
-    assert_eq!(rt;
-        moved.as_slice(),
-        b"HTTP/1.1 303 See Other\r\nContent-Type: text/plain\r\nLocation: /guest\r\nContent-Length: 0\r\nConnection: close\r\n\r\n".as_slice()
-    );
-    Ok(())
+    let got = response(alloc, 200, b"text/plain", b"", b"ok", b"GET");
+    let got = got.expect(&rt, "memory was refused");
+    let want =
+        b"HTTP/1.1 200 OK\r\nContent-Type: text/plain\r\nContent-Length: 2\r\nConnection: close\r\n\r\nok";
+    assert!(rt; got.as_slice() == want.as_slice());
+    let head = response(alloc, 200, b"text/plain", b"", b"ok", b"HEAD");
+    let head = head.expect(&rt, "memory was refused");
+    let want =
+        b"HTTP/1.1 200 OK\r\nContent-Type: text/plain\r\nContent-Length: 2\r\nConnection: close\r\n\r\n";
+    assert!(rt; head.as_slice() == want.as_slice());
+    let moved = response(alloc, 303, b"text/plain", b"/guest", b"", b"POST");
+    let moved = moved.expect(&rt, "memory was refused");
+    let want =
+        b"HTTP/1.1 303 See Other\r\nContent-Type: text/plain\r\nLocation: /guest\r\nContent-Length: 0\r\nConnection: close\r\n\r\n";
+    assert!(rt; moved.as_slice() == want.as_slice());
 }
 
 #[test]
-fn writes_own_responses(rt: HostRuntime) -> Result<(), Fail> {
+fn writes_own_responses(rt: HostRuntime) {
     let rows = [
         (
             400,
@@ -134,8 +132,7 @@ fn writes_own_responses(rt: HostRuntime) -> Result<(), Fail> {
         ),
     ];
     for (status, text) in rows {
-        let own = own_response(rt.alloc(), status, b"GET")?;
-        assert_eq!(rt; own.as_slice(), text, "at {status}");
+        let own = own_response(rt.alloc(), status, b"GET").expect(&rt, "memory was refused");
+        assert!(rt; own.as_slice() == text, "at {status}");
     }
-    Ok(())
 }

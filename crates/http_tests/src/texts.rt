@@ -3,8 +3,8 @@
 //! sets itself. What a request and a response are byte for byte is tested beside this.
 
 use crate::front::{has_status, read, status};
-use std::alloc::{AllocError, Global};
-use std::test::Fail;
+use std::alloc::Global;
+use std::process::Abort;
 
 // Request lines that are no lines of a request that is taken.
 const BROKEN_LINES: &[&[u8]] = &[
@@ -204,90 +204,86 @@ const CODINGS: &[&[u8]] = &[
 ];
 
 /// The parts one behind the other.
-fn joined(alloc: Global, parts: &[&[u8]]) -> Result<Vec<u8>, AllocError> {
+fn joined(rt: &impl Abort, alloc: Global, parts: &[&[u8]]) -> Vec<u8> {
     let mut text = Vec::new(alloc);
     for part in parts {
-        text.extend_from_slice(part)?;
+        text.extend_from_slice(part)
+            .expect(rt, "memory was refused");
     }
-    Ok(text)
+    text
 }
 
 /// Whether the text before each row, the row and the text behind it have this status.
 fn all_have(
+    rt: &impl Abort,
     alloc: Global,
     before: &[u8],
     rows: &[&[u8]],
     behind: &[u8],
     want: u16,
-) -> Result<bool, AllocError> {
+) -> bool {
     for row in rows {
-        if !has_status(alloc, &joined(alloc, &[before, row, behind])?, want)? {
-            return Ok(false);
+        if !has_status(rt, alloc, &joined(rt, alloc, &[before, row, behind]), want) {
+            return false;
         }
     }
-    Ok(true)
+    true
 }
 
 #[test]
-fn request_lines_are_taken_or_not(rt: HostRuntime) -> Result<(), Fail> {
+fn request_lines_are_taken_or_not(rt: HostRuntime) {
     let alloc = rt.alloc();
     let fields = b"\r\nHost: h\r\n\r\n";
     let version = b" HTTP/1.1\r\nHost: h\r\n\r\n";
     let target = b" / HTTP/1.1\r\nHost: h\r\n\r\n";
-    assert!(rt; all_have(alloc, b"", BROKEN_LINES, fields, 400)?);
-    assert!(rt; all_have(alloc, b"GET ", BROKEN_TARGETS, version, 400)?);
-    assert!(rt; all_have(alloc, b"PUT ", BROKEN_TARGETS, version, 400)?);
-    assert!(rt; all_have(alloc, b"GET ", ODD_TARGETS, version, 200)?);
-    assert!(rt; all_have(alloc, b"", OTHER_METHODS, target, 501)?);
-    Ok(())
+    assert!(rt; all_have(&rt, alloc, b"", BROKEN_LINES, fields, 400));
+    assert!(rt; all_have(&rt, alloc, b"GET ", BROKEN_TARGETS, version, 400));
+    assert!(rt; all_have(&rt, alloc, b"PUT ", BROKEN_TARGETS, version, 400));
+    assert!(rt; all_have(&rt, alloc, b"GET ", ODD_TARGETS, version, 200));
+    assert!(rt; all_have(&rt, alloc, b"", OTHER_METHODS, target, 501));
 }
 
 #[test]
-fn fields_are_taken_or_not(rt: HostRuntime) -> Result<(), Fail> {
+fn fields_are_taken_or_not(rt: HostRuntime) {
     let alloc = rt.alloc();
     let get = b"GET / HTTP/1.1\r\nHost: h\r\n";
     let old = b"POST / HTTP/1.0\nHost: h\n";
-    assert!(rt; all_have(alloc, get, BROKEN_FIELDS, b"\r\n\r\n", 400)?);
-    assert!(rt; all_have(alloc, old, BROKEN_FIELDS, b"\n\n", 400)?);
-    assert!(rt; all_have(alloc, get, ODD_FIELDS, b"\r\n\r\n", 200)?);
-    assert!(rt; all_have(alloc, old, ODD_FIELDS, b"\n\n", 200)?);
-    assert!(rt; all_have(alloc, get, CODINGS, b"\r\n\r\n", 501)?);
-    assert!(rt; all_have(alloc, old, CODINGS, b"\n\n", 501)?);
-    Ok(())
+    assert!(rt; all_have(&rt, alloc, get, BROKEN_FIELDS, b"\r\n\r\n", 400));
+    assert!(rt; all_have(&rt, alloc, old, BROKEN_FIELDS, b"\n\n", 400));
+    assert!(rt; all_have(&rt, alloc, get, ODD_FIELDS, b"\r\n\r\n", 200));
+    assert!(rt; all_have(&rt, alloc, old, ODD_FIELDS, b"\n\n", 200));
+    assert!(rt; all_have(&rt, alloc, get, CODINGS, b"\r\n\r\n", 501));
+    assert!(rt; all_have(&rt, alloc, old, CODINGS, b"\n\n", 501));
 }
 
 #[test]
-fn lengths_are_taken_or_not(rt: HostRuntime) -> Result<(), Fail> {
+fn lengths_are_taken_or_not(rt: HostRuntime) {
     let alloc = rt.alloc();
     let post = b"POST / HTTP/1.1\r\nHost: h\r\nContent-Length:";
     let again = b"GET / HTTP/1.1\r\ncontent-length: 2\r\nHost: h\r\nCONTENT-LENGTH:";
     let put = b"PUT / HTTP/1.1\r\nHost: h\r\nContent-Length:";
-    assert!(rt; all_have(alloc, post, BROKEN_LENGTHS, b"\r\n\r\nok", 400)?);
-    assert!(rt; all_have(alloc, post, LARGE_LENGTHS, b"\r\n\r\nok", 413)?);
-    assert!(rt; all_have(alloc, post, LENGTHS, b"\r\n\r\nokmore", 200)?);
-    assert!(rt; all_have(alloc, again, LENGTHS, b"\r\n\r\nok", 400)?);
-    assert!(rt; all_have(alloc, again, LARGE_LENGTHS, b"\r\n\r\nok", 400)?);
-    assert!(rt; all_have(alloc, put, BROKEN_LENGTHS, b"\r\n\r\nok", 501)?);
-    Ok(())
+    assert!(rt; all_have(&rt, alloc, post, BROKEN_LENGTHS, b"\r\n\r\nok", 400));
+    assert!(rt; all_have(&rt, alloc, post, LARGE_LENGTHS, b"\r\n\r\nok", 413));
+    assert!(rt; all_have(&rt, alloc, post, LENGTHS, b"\r\n\r\nokmore", 200));
+    assert!(rt; all_have(&rt, alloc, again, LENGTHS, b"\r\n\r\nok", 400));
+    assert!(rt; all_have(&rt, alloc, again, LARGE_LENGTHS, b"\r\n\r\nok", 400));
+    assert!(rt; all_have(&rt, alloc, put, BROKEN_LENGTHS, b"\r\n\r\nok", 501));
 }
 
 /// The status of a GET whose target is so long, in pieces of these sizes; and of what it begins with
 /// where it is cut there.
-fn status_of_long(
-    alloc: Global,
-    size: usize,
-    cut: usize,
-    sizes: &[usize],
-) -> Result<u16, AllocError> {
-    let mut text = Vec::from_slice(alloc, b"GET ")?;
-    text.resize(size.saturating_add(4), b'/')?;
-    text.extend_from_slice(b" HTTP/1.1\r\nHost: h\r\n\r\n")?;
+fn status_of_long(rt: &impl Abort, alloc: Global, size: usize, cut: usize, sizes: &[usize]) -> u16 {
+    let mut text = Vec::from_slice(alloc, b"GET ").expect(rt, "memory was refused");
+    text.resize(size.saturating_add(4), b'/')
+        .expect(rt, "memory was refused");
+    text.extend_from_slice(b" HTTP/1.1\r\nHost: h\r\n\r\n")
+        .expect(rt, "memory was refused");
     text.truncate(cut);
-    Ok(status(&read(alloc, &text, sizes)?))
+    status(&read(rt, alloc, &text, sizes))
 }
 
 #[test]
-fn long_targets_are_taken_up_to_the_limit(rt: HostRuntime) -> Result<(), Fail> {
+fn long_targets_are_taken_up_to_the_limit(rt: HostRuntime) {
     for (size, cut, want) in [
         (8_000, usize::MAX, 200),
         (16_358, usize::MAX, 200),
@@ -303,12 +299,10 @@ fn long_targets_are_taken_up_to_the_limit(rt: HostRuntime) -> Result<(), Fail> {
             &[16_384],
             &[16_383, 1],
         ] {
-            assert_eq!(rt;
-                status_of_long(rt.alloc(), size, cut, sizes)?,
-                want,
+            assert!(rt;
+                status_of_long(&rt, rt.alloc(), size, cut, sizes) == want,
                 "at {size} {cut}"
             );
         }
     }
-    Ok(())
 }

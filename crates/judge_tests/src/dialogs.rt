@@ -5,7 +5,8 @@ use frame_codec::frame::{ServerFrame, ServiceFrame};
 use monitor_model::record::Item;
 use okws_base::items::Items;
 use okws_base::value::{Token, Value};
-use std::alloc::{AllocError, Global};
+use std::alloc::Global;
+use std::process::Abort;
 use token_core::{Seed, token};
 
 /// The seed of the small runs.
@@ -27,70 +28,76 @@ pub struct Stuff {
     pub second: Vec<Item>,
 }
 
-fn bytes(alloc: Global, text: &[u8]) -> Result<Items<u8>, AllocError> {
-    Ok(Items::of(Vec::from_slice(alloc, text)?))
+fn bytes(rt: &impl Abort, alloc: Global, text: &[u8]) -> Items<u8> {
+    Items::of(Vec::from_slice(alloc, text).expect(rt, "memory was refused"))
 }
 
 /// The argument of the call, the number 1.
-fn one(alloc: Global) -> Result<Vec<Value>, AllocError> {
+fn one(rt: &impl Abort, alloc: Global) -> Vec<Value> {
     let mut args = Vec::new(alloc);
-    args.push(Value::Int(1))?;
-    Ok(args)
+    args.push(Value::Int(1)).expect(rt, "memory was refused");
+    args
 }
 
-fn request_item(alloc: Global) -> Result<Item, AllocError> {
-    let (head, content) = (bytes(alloc, REQUEST)?, bytes(alloc, b"")?);
-    Ok(Item::Heard(ServerFrame::Request { head, content }))
+fn request_item(rt: &impl Abort, alloc: Global) -> Item {
+    let (head, content) = (bytes(rt, alloc, REQUEST), bytes(rt, alloc, b""));
+    Item::Heard(ServerFrame::Request { head, content })
 }
 
-fn push(alloc: Global) -> Result<Item, AllocError> {
-    Ok(Item::Heard(ServerFrame::Push {
-        template: bytes(alloc, b"page")?,
+fn push(rt: &impl Abort, alloc: Global) -> Item {
+    Item::Heard(ServerFrame::Push {
+        template: bytes(rt, alloc, b"page"),
         edition: 1,
-        content: bytes(alloc, b"hi")?,
-    }))
+        content: bytes(rt, alloc, b"hi"),
+    })
 }
 
-fn call(alloc: Global) -> Result<Item, AllocError> {
-    Ok(Item::Said(ServiceFrame::Call {
+fn call(rt: &impl Abort, alloc: Global) -> Item {
+    Item::Said(ServiceFrame::Call {
         proxy: 0,
         session: 0,
         query: 3,
-        args: Items::of(one(alloc)?),
-    }))
+        args: Items::of(one(rt, alloc)),
+    })
 }
 
-fn reply(alloc: Global) -> Result<Item, AllocError> {
-    Ok(Item::Said(ServiceFrame::Reply {
+fn reply(rt: &impl Abort, alloc: Global) -> Item {
+    Item::Said(ServiceFrame::Reply {
         status: 200,
-        content_type: bytes(alloc, b"text/plain")?,
-        location: bytes(alloc, b"")?,
-        content: bytes(alloc, b"ok")?,
-    }))
+        content_type: bytes(rt, alloc, b"text/plain"),
+        location: bytes(rt, alloc, b""),
+        content: bytes(rt, alloc, b"ok"),
+    })
+}
+
+/// Puts an item at the end.
+fn add(rt: &impl Abort, items: &mut Vec<Item>, item: Item) {
+    items.push(item).expect(rt, "memory was refused");
 }
 
 /// The first dialog, where the service hears this of its session's number.
-fn first(alloc: Global, shown: Token, session: u32) -> Result<Vec<Item>, AllocError> {
+fn first(rt: &impl Abort, alloc: Global, shown: Token, session: u32) -> Vec<Item> {
     let mut items = Vec::new(alloc);
-    items.push(push(alloc)?)?;
-    items.push(request_item(alloc)?)?;
-    items.push(Item::Said(ServiceFrame::Open { proxy: 0, shown }))?;
-    items.push(Item::Heard(ServerFrame::Opened(session)))?;
-    items.push(call(alloc)?)?;
-    items.push(Item::Heard(ServerFrame::Changed(1)))?;
-    items.push(reply(alloc)?)?;
-    Ok(items)
+    add(rt, &mut items, push(rt, alloc));
+    add(rt, &mut items, request_item(rt, alloc));
+    let open = ServiceFrame::Open { proxy: 0, shown };
+    add(rt, &mut items, Item::Said(open));
+    add(rt, &mut items, Item::Heard(ServerFrame::Opened(session)));
+    add(rt, &mut items, call(rt, alloc));
+    add(rt, &mut items, Item::Heard(ServerFrame::Changed(1)));
+    add(rt, &mut items, reply(rt, alloc));
+    items
 }
 
 /// The stuff of a run in which the service hears this of its session's number.
-pub fn stuff_of(alloc: Global, session: u32) -> Result<Stuff, AllocError> {
+pub fn stuff_of(rt: &impl Abort, alloc: Global, session: u32) -> Stuff {
     let tokens = [token(&SEED, 0, 1, 0), token(&SEED, 0, 2, 0)];
     let mut second = Vec::new(alloc);
-    second.push(request_item(alloc)?)?;
-    Ok(Stuff {
+    add(rt, &mut second, request_item(rt, alloc));
+    Stuff {
         tokens,
-        args: one(alloc)?,
-        first: first(alloc, tokens[0], session)?,
+        args: one(rt, alloc),
+        first: first(rt, alloc, tokens[0], session),
         second,
-    })
+    }
 }

@@ -2,27 +2,25 @@
 
 use crate::dialogs::stuff_of;
 use crate::small::{CONNECTIONS, Told, idle, judged, plain_of, publish, quiet, short_run};
-use std::test::Fail;
 
 #[test]
-fn a_run_without_connections_is_legal(rt: HostRuntime) -> Result<(), Fail> {
+fn a_run_without_connections_is_legal(rt: HostRuntime) {
     let alloc = rt.alloc();
-    let stuff = stuff_of(alloc, 0)?;
-    let plain = plain_of(alloc, &idle(alloc, &stuff, &[])?, &[])?;
-    assert!(rt; judged(alloc, &plain, &quiet())?.is_empty());
-    Ok(())
+    let stuff = stuff_of(&rt, alloc, 0);
+    let plain = plain_of(&rt, alloc, &idle(&rt, alloc, &stuff, &[]), &[]);
+    assert!(rt; judged(&rt, alloc, &plain, &quiet()).is_empty());
 }
 
 #[test]
-fn a_short_run_is_legal(rt: HostRuntime) -> Result<(), Fail> {
+fn a_short_run_is_legal(rt: HostRuntime) {
     let alloc = rt.alloc();
-    let stuff = stuff_of(alloc, 0)?;
+    let stuff = stuff_of(&rt, alloc, 0);
     let orders = [publish(1, 0)];
-    let plain = plain_of(alloc, &short_run(alloc, &stuff)?, &CONNECTIONS)?;
+    let lines = short_run(&rt, alloc, &stuff);
+    let plain = plain_of(&rt, alloc, &lines, &CONNECTIONS);
     let told = Told {
         orders: Some(&orders),
         ..quiet()
     };
-    assert!(rt; judged(alloc, &plain, &told)?.is_empty());
-    Ok(())
+    assert!(rt; judged(&rt, alloc, &plain, &told).is_empty());
 }

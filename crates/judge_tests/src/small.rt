@@ -8,8 +8,8 @@ use okws_plan::configuration::Config;
 use record_judge::judge::{Part, broken};
 use record_lines::case::{Case, Incarnation};
 use record_lines::plain::{At, Deed, Exchange, Journal, Line, Plain};
-use std::alloc::{AllocError, Global};
-use std::test::Fail;
+use std::alloc::Global;
+use std::process::Abort;
 
 /// One service, which may call query 3 of the proxy, reads the one template, and logs.
 const SITE: &[u8] = b"okws 1\n\
@@ -69,99 +69,101 @@ pub fn publish(worker: u16, number: u32) -> Line<'static> {
     by(worker, Line { number, ..publish })
 }
 
+/// Puts a line at the end.
+pub fn add<'a>(rt: &impl Abort, lines: &mut Vec<Line<'a>>, line: Line<'a>) {
+    lines.push(line).expect(rt, "memory was refused");
+}
+
 /// Launches an incarnation.
-pub fn launch<'a>(
-    lines: &mut Vec<Line<'a>>,
-    stuff: &'a Stuff,
-    incarnation: u32,
-) -> Result<(), AllocError> {
+pub fn launch<'a>(rt: &impl Abort, lines: &mut Vec<Line<'a>>, stuff: &'a Stuff, incarnation: u32) {
     let [first, second] = &stuff.tokens;
     let token = if incarnation == 1 { first } else { second };
     let install = line(At::Proxy(0), Deed::Install, incarnation);
-    lines.push(by(2, install.with(&token.bytes)))?;
-    lines.push(by(2, line(At::Pubd, Deed::Install, incarnation)))?;
-    lines.push(by(2, line(At::Oklogd, Deed::Install, incarnation)))?;
-    lines.push(by(2, line(At::Cell(0), Deed::Boot, incarnation)))?;
-    lines.push(by(2, line(At::Okd, Deed::Up, incarnation)))?;
-    Ok(())
+    add(rt, lines, by(2, install.with(&token.bytes)));
+    add(rt, lines, by(2, line(At::Pubd, Deed::Install, incarnation)));
+    let oklogd = line(At::Oklogd, Deed::Install, incarnation);
+    add(rt, lines, by(2, oklogd));
+    add(rt, lines, by(2, line(At::Cell(0), Deed::Boot, incarnation)));
+    add(rt, lines, by(2, line(At::Okd, Deed::Up, incarnation)));
 }
 
 /// Ends what stands of the first incarnation at the columns.
-pub fn revoke(lines: &mut Vec<Line<'_>>) -> Result<(), AllocError> {
-    lines.push(by(2, line(At::Okd, Deed::Down, 1)))?;
-    lines.push(by(2, line(At::Proxy(0), Deed::Revoke, 1)))?;
-    lines.push(by(2, line(At::Pubd, Deed::Revoke, 1)))?;
-    lines.push(by(2, line(At::Oklogd, Deed::Revoke, 1)))?;
-    Ok(())
+pub fn revoke(rt: &impl Abort, lines: &mut Vec<Line<'_>>) {
+    add(rt, lines, by(2, line(At::Okd, Deed::Down, 1)));
+    add(rt, lines, by(2, line(At::Proxy(0), Deed::Revoke, 1)));
+    add(rt, lines, by(2, line(At::Pubd, Deed::Revoke, 1)));
+    add(rt, lines, by(2, line(At::Oklogd, Deed::Revoke, 1)));
 }
 
 /// Empties the cell.
-pub fn retire(lines: &mut Vec<Line<'_>>) -> Result<(), AllocError> {
-    lines.push(by(2, line(At::Cell(0), Deed::Retired, 0)))?;
-    Ok(())
+pub fn retire(rt: &impl Abort, lines: &mut Vec<Line<'_>>) {
+    add(rt, lines, by(2, line(At::Cell(0), Deed::Retired, 0)));
 }
 
 /// The service is launched, and retired at the end; no connection comes. These lines stand between.
 pub fn idle<'a>(
+    rt: &impl Abort,
     alloc: Global,
     stuff: &'a Stuff,
     between: &[Line<'static>],
-) -> Result<Vec<Line<'a>>, AllocError> {
+) -> Vec<Line<'a>> {
     let mut lines = Vec::new(alloc);
-    lines.push(launcher(Deed::Begun, 1))?;
-    launch(&mut lines, stuff, 1)?;
+    add(rt, &mut lines, launcher(Deed::Begun, 1));
+    launch(rt, &mut lines, stuff, 1);
     for line in between {
-        lines.push(*line)?;
+        add(rt, &mut lines, *line);
     }
-    retire(&mut lines)?;
-    Ok(lines)
+    retire(rt, &mut lines);
+    lines
 }
 
 /// The dialog in which a session is opened and a query called, with its entries.
-fn first_dialog<'a>(lines: &mut Vec<Line<'a>>, stuff: &'a Stuff) -> Result<(), AllocError> {
+fn first_dialog<'a>(rt: &impl Abort, lines: &mut Vec<Line<'a>>, stuff: &'a Stuff) {
     let [token, _] = &stuff.tokens;
-    lines.push(accept(b"/guest"))?;
-    lines.push(Line {
+    add(rt, lines, accept(b"/guest"));
+    let dialog = Line {
         items: &stuff.first,
         end: Some(End::Reply),
         ..line(At::Cell(0), Deed::Dialog, 0)
-    })?;
-    lines.push(line(At::Pubd, Deed::Drain, 1))?;
-    lines.push(line(At::Proxy(0), Deed::Open, 1).with(&token.bytes))?;
-    lines.push(Line {
+    };
+    add(rt, lines, dialog);
+    add(rt, lines, line(At::Pubd, Deed::Drain, 1));
+    let open = line(At::Proxy(0), Deed::Open, 1);
+    add(rt, lines, open.with(&token.bytes));
+    let call = Line {
         query: 3,
         args: &stuff.args,
         ..line(At::Proxy(0), Deed::Call, 1)
-    })?;
-    Ok(())
+    };
+    add(rt, lines, call);
 }
 
 /// The dialog in which the service ends, and what its worker tells of it.
-fn second_dialog<'a>(lines: &mut Vec<Line<'a>>, stuff: &'a Stuff) -> Result<(), AllocError> {
-    lines.push(accept(b"/guest"))?;
-    lines.push(Line {
+fn second_dialog<'a>(rt: &impl Abort, lines: &mut Vec<Line<'a>>, stuff: &'a Stuff) {
+    add(rt, lines, accept(b"/guest"));
+    let dialog = Line {
         items: &stuff.second,
         end: Some(End::Ended),
         ..line(At::Cell(0), Deed::Dialog, 0)
-    })?;
-    lines.push(line(At::Pubd, Deed::Drain, 1))?;
-    lines.push(launcher(Deed::Crashed, 1))?;
-    lines.push(launcher(Deed::Begun, 2))?;
-    Ok(())
+    };
+    add(rt, lines, dialog);
+    add(rt, lines, line(At::Pubd, Deed::Drain, 1));
+    add(rt, lines, launcher(Deed::Crashed, 1));
+    add(rt, lines, launcher(Deed::Begun, 2));
 }
 
 /// The page is published, two requests come, and the service is launched again.
-pub fn short_run(alloc: Global, stuff: &Stuff) -> Result<Vec<Line<'_>>, AllocError> {
+pub fn short_run<'a>(rt: &impl Abort, alloc: Global, stuff: &'a Stuff) -> Vec<Line<'a>> {
     let mut lines = Vec::new(alloc);
-    lines.push(launcher(Deed::Begun, 1))?;
-    launch(&mut lines, stuff, 1)?;
-    lines.push(publish(1, 0))?;
-    first_dialog(&mut lines, stuff)?;
-    second_dialog(&mut lines, stuff)?;
-    revoke(&mut lines)?;
-    launch(&mut lines, stuff, 2)?;
-    retire(&mut lines)?;
-    Ok(lines)
+    add(rt, &mut lines, launcher(Deed::Begun, 1));
+    launch(rt, &mut lines, stuff, 1);
+    add(rt, &mut lines, publish(1, 0));
+    first_dialog(rt, &mut lines, stuff);
+    second_dialog(rt, &mut lines, stuff);
+    revoke(rt, &mut lines);
+    launch(rt, &mut lines, stuff, 2);
+    retire(rt, &mut lines);
+    lines
 }
 
 /// The connections of the short run.
@@ -177,45 +179,42 @@ pub const CONNECTIONS: [Exchange<'static>; 2] = [
 ];
 
 /// The lines that a journal has of a run.
-fn lines_at<'a>(alloc: Global, lines: &[Line<'a>], at: At) -> Result<Vec<Line<'a>>, AllocError> {
+fn lines_at<'a>(rt: &impl Abort, alloc: Global, lines: &[Line<'a>], at: At) -> Vec<Line<'a>> {
     let mut chosen = Vec::new(alloc);
     for line in lines {
         if line.at == at {
-            chosen.push(*line)?;
+            add(rt, &mut chosen, *line);
         }
     }
-    Ok(chosen)
+    chosen
 }
 
 /// The lines that a number has of a run.
-fn lines_by<'a>(
-    alloc: Global,
-    lines: &[Line<'a>],
-    worker: u16,
-) -> Result<Vec<Line<'a>>, AllocError> {
+fn lines_by<'a>(rt: &impl Abort, alloc: Global, lines: &[Line<'a>], worker: u16) -> Vec<Line<'a>> {
     let mut chosen = Vec::new(alloc);
     for line in lines {
         if line.worker == worker {
-            chosen.push(*line)?;
+            add(rt, &mut chosen, *line);
         }
     }
-    Ok(chosen)
+    chosen
 }
 
 /// The lines of a run but those of this deed at this place.
 pub fn without<'a>(
+    rt: &impl Abort,
     alloc: Global,
     lines: &[Line<'a>],
     at: At,
     deed: Deed,
-) -> Result<Vec<Line<'a>>, AllocError> {
+) -> Vec<Line<'a>> {
     let mut kept = Vec::new(alloc);
     for line in lines {
         if line.at != at || line.deed != deed {
-            kept.push(*line)?;
+            add(rt, &mut kept, *line);
         }
     }
-    Ok(kept)
+    kept
 }
 
 /// The places of the journals.
@@ -230,24 +229,29 @@ const PLACES: [At; 6] = [
 
 /// What a run leaves that goes so in the order of time, and whose door has these connections.
 pub fn plain_of<'a>(
+    rt: &impl Abort,
     alloc: Global,
     lines: &[Line<'a>],
     door: &[Exchange<'static>],
-) -> Result<Plain<'a>, AllocError> {
+) -> Plain<'a> {
     let (mut journals, mut lists, mut doors) = (Vec::new(alloc), Vec::new(alloc), Vec::new(alloc));
     let mut told = Vec::new(alloc);
     for at in PLACES {
-        let lines = lines_at(alloc, lines, at)?;
-        journals.push(Journal { at, lines })?;
+        let lines = lines_at(rt, alloc, lines, at);
+        journals
+            .push(Journal { at, lines })
+            .expect(rt, "memory was refused");
     }
     for worker in 0..3u16 {
-        lists.push(lines_by(alloc, lines, worker)?)?;
+        lists
+            .push(lines_by(rt, alloc, lines, worker))
+            .expect(rt, "memory was refused");
     }
     for exchange in door {
-        told.push(*exchange)?;
+        told.push(*exchange).expect(rt, "memory was refused");
     }
-    doors.push(told)?;
-    Ok(Plain::new(alloc, journals, lists, doors))
+    doors.push(told).expect(rt, "memory was refused");
+    Plain::new(alloc, journals, lists, doors)
 }
 
 /// What the outside tells of a run.
@@ -266,26 +270,27 @@ pub fn quiet<'c>() -> Told<'c> {
 }
 
 /// The parts of a run's record that are not legal.
-pub fn judged(alloc: Global, plain: &Plain<'_>, told: &Told<'_>) -> Result<Vec<Part>, Fail> {
+pub fn judged(rt: &impl Abort, alloc: Global, plain: &Plain<'_>, told: &Told<'_>) -> Vec<Part> {
     let Ok(site) = read(alloc, SITE) else {
-        return Err(Fail::new("no site"));
+        panic!(rt; "no site");
     };
     let mut orders = Vec::new(alloc);
     for order in told.orders.unwrap_or(&[]) {
-        orders.push(*order)?;
+        add(rt, &mut orders, *order);
     }
     let orders = told.orders.is_some().then_some(orders.as_slice());
-    Ok(parts(alloc, &site, plain, orders, told.ended)?)
+    parts(rt, alloc, &site, plain, orders, told.ended)
 }
 
 fn parts<'c, 'a>(
+    rt: &impl Abort,
     alloc: Global,
     site: &'c Config,
     plain: &'c Plain<'a>,
     orders: Option<&'c [Line<'a>]>,
     ended: &'c [Incarnation],
-) -> Result<Vec<Part>, AllocError> {
-    broken(&Case {
+) -> Vec<Part> {
+    let parts = broken(&Case {
         alloc,
         site,
         seed: &SEED,
@@ -294,5 +299,6 @@ fn parts<'c, 'a>(
         failures: 0,
         faults: &[0],
         plain,
-    })
+    });
+    parts.expect(rt, "memory was refused")
 }

@@ -2,7 +2,7 @@
 //! door, which calls fail, and where memory and room end. Not tested here: real sockets and pipes,
 //! and what threads do to each other.
 
-ghost use Rattle.std.specs.Prelude.{◌≡◌, [], IfOk, IsNone, None};
+ghost use Rattle.std.specs.Prelude.{◌≡◌, [], IsNone, None};
 
 use okws_base::items::Items;
 use okws_outer::conn::Conn;
@@ -20,7 +20,6 @@ use outer_memory::stores::{Breaking, MemoryStores};
 use std::alloc::Global;
 use std::process::Abort;
 use std::sync::{Mutex, Wait};
-use std::test::Fail;
 use std::thread;
 
 const CLIENTS: [Client<'static>; 3] = [
@@ -98,17 +97,17 @@ struct Two<'a> {
 }
 
 /// Opens two doors, at which no connection is out.
-fn two_doors<'a>(alloc: Global, network: &mut MemoryNetwork<'a>) -> Result<Two<'a>, Fail>
-    ensures first { IfOk result (λ two. IsNone (⟦<MemoryDoor<'a> as Door>⟧.entrance two.first).out) }
-    ensures second { IfOk result (λ two. IsNone (⟦<MemoryDoor<'a> as Door>⟧.entrance two.second).out) }
+fn two_doors<'a>(rt: &impl Abort, alloc: Global, network: &mut MemoryNetwork<'a>) -> Two<'a>
+    ensures first { IsNone (⟦<MemoryDoor<'a> as Door>⟧.entrance result.first).out }
+    ensures second { IsNone (⟦<MemoryDoor<'a> as Door>⟧.entrance result.second).out }
 {
     let Ok(mut doors) = network.listen(alloc, 8080, 2) else {
-        return Err(Fail::new("not as planned"));
+        panic!(rt; "not as planned");
     };
     let (Some(second), Some(first)) = (doors.pop(), doors.pop()) else {
-        return Err(Fail::new("not as planned"));
+        panic!(rt; "not as planned");
     };
-    Ok(Two { first, second })
+    Two { first, second }
 }
 
 /// The second door holds the client that came first, while the other serves all further ones.
@@ -159,35 +158,33 @@ fn tells_doors(rt: &impl Abort, network: &MemoryNetwork) {
 }
 
 #[test]
-fn doors_take_from_one_line(rt: HostRuntime) -> Result<(), Fail> {
+fn doors_take_from_one_line(rt: HostRuntime) {
     let mut network = MemoryNetwork::new(rt.alloc(), &CLIENTS, &[2], &[0]);
     let refused = network.listen(rt.alloc(), 8080, 2);
     assert!(rt; matches!(refused, Err(MakeError::Failed)));
     let Two {
         mut first,
         mut second,
-    } = two_doors(rt.alloc(), &mut network)?;
+    } = two_doors(&rt, rt.alloc(), &mut network);
     serve_beside(&rt, &mut first, &mut second);
     assert!(rt; first.faults() == 4);
     assert!(rt; second.faults() == 1);
-    let mut doors = Vec::with_capacity(rt.alloc(), 2)?;
-    doors.push(first)?;
-    doors.push(second)?;
+    let mut doors = Vec::new(rt.alloc());
+    doors.push(first).expect(&rt, "memory was refused");
+    doors.push(second).expect(&rt, "memory was refused");
     network.close(doors);
     tells_doors(&rt, &network);
-    Ok(())
 }
 
 #[test]
-fn doors_serve_in_two_threads(rt: HostRuntime) -> Result<(), Fail> {
+fn doors_serve_in_two_threads(rt: HostRuntime) {
     let mut network = MemoryNetwork::new(rt.alloc(), &CLIENTS, &[], &[]);
     let Two {
         mut first,
         mut second,
-    } = two_doors(rt.alloc(), &mut network)?;
+    } = two_doors(&rt, rt.alloc(), &mut network);
     let (one, other) = thread::join(&rt, || serve_all(&mut first), || serve_all(&mut second));
     assert!(rt; one.saturating_add(other) == 3);
-    Ok(())
 }
 
 /// An opening, one that failed, and a sink that was closed are told.
@@ -203,7 +200,7 @@ fn tells_a_sink(rt: &impl Abort, sinks: &MemorySinks) {
 }
 
 #[test]
-fn sinks_fail_in_turn(rt: HostRuntime) -> Result<(), Fail> {
+fn sinks_fail_in_turn(rt: HostRuntime) {
     let mut sinks = MemorySinks::new(rt.alloc(), 4, &[1], &[1]);
     let Ok(mut log) = sinks.open("log") else {
         panic!(rt; "not as planned");
@@ -218,43 +215,39 @@ fn sinks_fail_in_turn(rt: HostRuntime) -> Result<(), Fail> {
     }
     sinks.close("log", log);
     tells_a_sink(&rt, &sinks);
-    Ok(())
 }
 
 #[test]
-fn absent_network_refuses_each_listen(rt: HostRuntime) -> Result<(), Fail> {
+fn absent_network_refuses_each_listen(rt: HostRuntime) {
     let mut network = MemoryNetwork::absent(rt.alloc());
     for _ in 0..2 {
         let doors = network.listen(rt.alloc(), 8080, 1);
         assert!(rt; matches!(doors, Err(MakeError::Failed)));
     }
     assert!(rt; network.faults() == 2);
-    Ok(())
 }
 
 #[test]
-fn absent_stores_refuse_each_making(rt: HostRuntime) -> Result<(), Fail> {
+fn absent_stores_refuse_each_making(rt: HostRuntime) {
     let mut stores = MemoryStores::absent(Breaking);
     for _ in 0..2 {
         let keeper = stores.make(rt.alloc(), "rows", 0, &[]);
         assert!(rt; matches!(keeper, Err(MakeError::Failed)));
     }
     assert!(rt; stores.faults() == 2);
-    Ok(())
 }
 
 #[test]
-fn absent_sinks_refuse_each_opening(rt: HostRuntime) -> Result<(), Fail> {
+fn absent_sinks_refuse_each_opening(rt: HostRuntime) {
     let mut sinks = MemorySinks::absent(rt.alloc());
     for _ in 0..2 {
         assert!(rt; sinks.open("log").is_err());
     }
     assert!(rt; sinks.faults() == 2);
-    Ok(())
 }
 
 #[test]
-fn stores_fail_in_turn(rt: HostRuntime) -> Result<(), Fail> {
+fn stores_fail_in_turn(rt: HostRuntime) {
     let mut stores = MemoryStores::new(Breaking, &[1]);
     let Ok(keeper) = stores.make(rt.alloc(), "rows", 0, &[]) else {
         panic!(rt; "not as planned");
@@ -263,7 +256,6 @@ fn stores_fail_in_turn(rt: HostRuntime) -> Result<(), Fail> {
     assert!(rt; matches!(refused, Err(MakeError::Failed)));
     stores.finish(0, keeper);
     assert!(rt; stores.faults() == 1);
-    Ok(())
 }
 
 /// A gate that waits for its turn to count.
@@ -292,7 +284,7 @@ fn pass_all<G: Gate>(gate: &G) {
 }
 
 #[test]
-fn gate_may_wait(rt: HostRuntime) -> Result<(), Fail> {
+fn gate_may_wait(rt: HostRuntime) {
     pass_all(&NoGate);
     let gate = Counting {
         rt: &rt,
@@ -300,5 +292,4 @@ fn gate_may_wait(rt: HostRuntime) -> Result<(), Fail> {
     };
     pass_all(&gate);
     assert!(rt; *gate.passed.lock(&rt) == 8);
-    Ok(())
 }

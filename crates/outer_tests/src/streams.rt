@@ -11,7 +11,6 @@ use okws_outer::printing::print;
 use okws_outer::reading::{ReadError, read_file, read_whole};
 use okws_outer::stream::{Link, Pull, Put, Sink, Source};
 use okws_outer::world::{Held, Outside, World};
-use std::test::Fail;
 
 const FILES: [Entry<'static>; 2] = [
     Entry {
@@ -33,7 +32,7 @@ fn is_read(read: &Result<Vec<u8>, ReadError>, want: Result<&[u8], ReadError>) ->
 }
 
 #[test]
-fn source_comes_in_pieces(rt: HostRuntime) -> Result<(), Fail> {
+fn source_comes_in_pieces(rt: HostRuntime) {
     let mut source = MemorySource::new(b"hello", 2, &[1]);
     let mut piece = [0u8; 4];
     for (pull, bytes) in [
@@ -47,11 +46,10 @@ fn source_comes_in_pieces(rt: HostRuntime) -> Result<(), Fail> {
         assert!(rt; &piece[..2] == bytes);
     }
     assert!(rt; source.faults() == 1);
-    Ok(())
 }
 
 #[test]
-fn whole_source_is_read_to_the_limit(rt: HostRuntime) -> Result<(), Fail> {
+fn whole_source_is_read_to_the_limit(rt: HostRuntime) {
     for (limit, want) in [
         (4, b"hello".as_slice()),
         (3, b"hell"),
@@ -62,12 +60,11 @@ fn whole_source_is_read_to_the_limit(rt: HostRuntime) -> Result<(), Fail> {
         let read = read_whole(rt.alloc(), &mut source, limit);
         assert!(rt; is_read(&read, Ok(want)), "at {limit}");
     }
-    Ok(())
 }
 
 #[test]
-fn put_past_the_room_stops(rt: HostRuntime) -> Result<(), Fail> {
-    let mut sink = MemorySink::new(rt.alloc(), 5, &[1])?;
+fn put_past_the_room_stops(rt: HostRuntime) {
+    let mut sink = MemorySink::new(rt.alloc(), 5, &[1]).expect(&rt, "memory was refused");
     for (put, bytes) in [
         (Put::Done, b"abc".as_slice()),
         (Put::Stopped(0), b"xyz"),
@@ -79,16 +76,15 @@ fn put_past_the_room_stops(rt: HostRuntime) -> Result<(), Fail> {
     }
     assert!(rt; sink.given() == b"abcde".as_slice());
     assert!(rt; sink.faults() == 3);
-    Ok(())
 }
 
 #[test]
-fn link_is_cut_in_single_bytes(rt: HostRuntime) -> Result<(), Fail> {
+fn link_is_cut_in_single_bytes(rt: HostRuntime) {
     let mut link = MemoryLink::new(rt.alloc(), 1, &[2]);
     let mut piece = [0u8; 8];
-    link.feed(b"ab")?;
+    link.feed(b"ab").expect(&rt, "memory was refused");
     assert!(rt; link.pull(&mut piece) == Pull::Took(1));
-    link.feed(b"c")?;
+    link.feed(b"c").expect(&rt, "memory was refused");
     link.feed_end();
     assert!(rt; link.left() == b"bc".as_slice());
     for pull in [Pull::Took(1), Pull::Failed, Pull::Took(1), Pull::End] {
@@ -96,25 +92,23 @@ fn link_is_cut_in_single_bytes(rt: HostRuntime) -> Result<(), Fail> {
     }
     assert!(rt; piece[0] == b'c');
     assert!(rt; link.is_ended());
-    Ok(())
 }
 
 #[test]
-fn link_takes_what_room_was_made_for(rt: HostRuntime) -> Result<(), Fail> {
+fn link_takes_what_room_was_made_for(rt: HostRuntime) {
     let mut link = MemoryLink::new(rt.alloc(), 1, &[]);
     assert!(rt; link.put(b"a") == Put::Stopped(0));
-    link.make_room(2)?;
+    link.make_room(2).expect(&rt, "memory was refused");
     assert!(rt; link.put(b"ab") == Put::Done);
     assert!(rt; link.given() == b"ab".as_slice());
     assert!(rt; link.faults() == 1);
-    Ok(())
 }
 
 #[test]
-fn passing_link_takes_all_that_is_put(rt: HostRuntime) -> Result<(), Fail> {
+fn passing_link_takes_all_that_is_put(rt: HostRuntime) {
     let mut link = PassingLink::new(rt.alloc());
     let mut piece = [0u8; 2];
-    link.feed(b"abc")?;
+    link.feed(b"abc").expect(&rt, "memory was refused");
     link.feed_end();
     for (pull, left) in [
         (Pull::Took(2), b"c".as_slice()),
@@ -126,11 +120,10 @@ fn passing_link_takes_all_that_is_put(rt: HostRuntime) -> Result<(), Fail> {
         assert!(rt; link.left() == left);
     }
     assert!(rt; link.is_ended());
-    Ok(())
 }
 
 #[test]
-fn files_are_read_by_their_paths(rt: HostRuntime) -> Result<(), Fail> {
+fn files_are_read_by_their_paths(rt: HostRuntime) {
     let mut files = MemoryFiles::new(&FILES, 3, &[]);
     for (path, want) in [
         ("script", Ok(b"launch guest\n".as_slice())),
@@ -140,13 +133,12 @@ fn files_are_read_by_their_paths(rt: HostRuntime) -> Result<(), Fail> {
         let read = read_file(rt.alloc(), &mut files, path, 99);
         assert!(rt; is_read(&read, want), "at {path}");
     }
-    Ok(())
 }
 
 #[test]
-fn printing_goes_on_after_a_fault(rt: HostRuntime) -> Result<(), Fail> {
+fn printing_goes_on_after_a_fault(rt: HostRuntime) {
     let files = MemoryFiles::new(&FILES, 3, &[]);
-    let out = MemorySink::new(rt.alloc(), 9, &[1])?;
+    let out = MemorySink::new(rt.alloc(), 9, &[1]).expect(&rt, "memory was refused");
     let mut world = Held {
         objects: Some(Outside {
             files,
@@ -166,5 +158,4 @@ fn printing_goes_on_after_a_fault(rt: HostRuntime) -> Result<(), Fail> {
     assert!(rt; stopped);
     assert!(rt; out.given() == b"ab".as_slice());
     world.close(Outside { files, out, seed });
-    Ok(())
 }

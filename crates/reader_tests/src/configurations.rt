@@ -3,8 +3,8 @@
 
 use config_reader::{ConfigError, read};
 use okws_plan::configuration::Config;
-use std::alloc::{AllocError, Global};
-use std::test::*;
+use std::alloc::Global;
+use std::process::Abort;
 
 /// The line and the rule of the refusal of a file; None where it is lawful, and line 0 and rule 0
 /// where memory was refused.
@@ -17,13 +17,15 @@ fn refusal(alloc: Global, file: &[u8]) -> Option<(u32, u8)> {
 }
 
 /// `okws 1`, then a proxy p with a table t, a service s and a template w, then a line 6.
-fn sixth(alloc: Global, line: &[u8]) -> Result<Vec<u8>, AllocError> {
-    let mut file = Vec::from_slice(
+fn sixth(rt: &impl Abort, alloc: Global, line: &[u8]) -> Vec<u8> {
+    let file = Vec::from_slice(
         alloc,
         b"okws 1\nproxy p\ntable p t a INT KEY b TEXT\nservice s ./x\ntemplate w\n",
-    )?;
-    file.extend_from_slice(line)?;
-    Ok(file)
+    );
+    let mut file = file.expect(rt, "memory was refused");
+    file.extend_from_slice(line)
+        .expect(rt, "memory was refused");
+    file
 }
 
 /// How many proxies, services, templates, paths, grants, readables and loggers there are.
@@ -253,16 +255,15 @@ const LINES: [(&[u8], u8); 92] = [
 ];
 
 #[test]
-fn lines_are_refused_by_their_lowest_rule(rt: HostRuntime) -> Result<(), AllocError> {
+fn lines_are_refused_by_their_lowest_rule(rt: HostRuntime) {
     for (lines, rule) in LINES {
-        let file = sixth(rt.alloc(), lines)?;
+        let file = sixth(&rt, rt.alloc(), lines);
         let line = if lines.contains(&b'\n') { 7 } else { 6 };
         assert!(rt;
             refusal(rt.alloc(), &file) == Some((line, rule)),
             "rule {rule}: {lines:?}"
         );
     }
-    Ok(())
 }
 
 /// Lines below `sixth`'s five that are lawful there.
@@ -292,22 +293,22 @@ const LAWFUL: [&[u8]; 22] = [
 ];
 
 #[test]
-fn lawful_lines_are_read(rt: HostRuntime) -> Result<(), AllocError> {
+fn lawful_lines_are_read(rt: HostRuntime) {
     for lines in LAWFUL {
-        let file = sixth(rt.alloc(), lines)?;
+        let file = sixth(&rt, rt.alloc(), lines);
         assert!(rt; refusal(rt.alloc(), &file).is_none(), "{lines:?}");
     }
-    Ok(())
 }
 
 /// `sixth`'s five lines, and as many more as are told, each with its number between two texts.
-fn many(alloc: Global, front: &str, rest: &str, count: usize) -> Result<Vec<u8>, AllocError> {
-    let mut file = sixth(alloc, b"")?;
+fn many(rt: &impl Abort, alloc: Global, front: &str, rest: &str, count: usize) -> Vec<u8> {
+    let mut file = sixth(rt, alloc, b"");
     for i in 0..count {
-        let line = format!(in alloc; "{front}{i}{rest}\n")?;
-        file.extend_from_slice(line.as_bytes())?;
+        let line = format!(in alloc; "{front}{i}{rest}\n").expect(rt, "memory was refused");
+        file.extend_from_slice(line.as_bytes())
+            .expect(rt, "memory was refused");
     }
-    Ok(file)
+    file
 }
 
 /// What stands before and behind the number of a line, and how many such lines are lawful.
@@ -320,25 +321,25 @@ const LIMITS: [(&str, &str, u32); 5] = [
 ];
 
 #[test]
-fn limits_are_reached_and_not_passed(rt: HostRuntime) -> Result<(), AllocError> {
+fn limits_are_reached_and_not_passed(rt: HostRuntime) {
     for (front, rest, most) in LIMITS {
-        let lawful = many(rt.alloc(), front, rest, most as usize)?;
+        let lawful = many(&rt, rt.alloc(), front, rest, most as usize);
         assert!(rt; refusal(rt.alloc(), &lawful).is_none(), "{front}");
-        let passed = many(rt.alloc(), front, rest, most as usize + 1)?;
+        let passed = many(&rt, rt.alloc(), front, rest, most as usize + 1);
         assert!(rt;
             refusal(rt.alloc(), &passed) == Some((6 + most, 16)),
             "{front}"
         );
     }
-    Ok(())
 }
 
 /// `sixth`'s five lines, and a line that ends in as many `x` as are told.
-fn padded(alloc: Global, front: &[u8], count: usize) -> Result<Vec<u8>, AllocError> {
-    let mut file = sixth(alloc, front)?;
-    let padding = vec![in alloc; b'x'; count]?;
-    file.extend_from_slice(&padding)?;
-    Ok(file)
+fn padded(rt: &impl Abort, alloc: Global, front: &[u8], count: usize) -> Vec<u8> {
+    let mut file = sixth(rt, alloc, front);
+    let padding = vec![in alloc; b'x'; count].expect(rt, "memory was refused");
+    file.extend_from_slice(&padding)
+        .expect(rt, "memory was refused");
+    file
 }
 
 /// The front of a line, how many `x` follow it, and the refusal. The five lines before it have 67 bytes.
@@ -351,10 +352,9 @@ const SIZES: [(&[u8], usize, Option<(u32, u8)>); 5] = [
 ];
 
 #[test]
-fn sizes_are_reached_and_not_passed(rt: HostRuntime) -> Result<(), AllocError> {
+fn sizes_are_reached_and_not_passed(rt: HostRuntime) {
     for (front, count, expected) in SIZES {
-        let file = padded(rt.alloc(), front, count)?;
+        let file = padded(&rt, rt.alloc(), front, count);
         assert!(rt; refusal(rt.alloc(), &file) == expected, "{count}");
     }
-    Ok(())
 }

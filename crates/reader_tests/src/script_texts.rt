@@ -1,28 +1,27 @@
 //! Scripts read whole, and refusals printed. Not tested here: rules that a line breaks by where it
 //! stands, which the tests of runs have.
 
-ghost use Rattle.std.specs.Prelude.{◌≡◌, ◌≤◌, IfOk, length, []};
+ghost use Rattle.std.specs.Prelude.{◌≤◌, length};
 
 use crate::scripts::{read_text, site};
 use okws_plan::configuration::Config;
 use plain_text::lines::first_line;
 use play_script::reading::read_first;
 use play_script::refusal::{config_refused, script_refused};
-use std::alloc::{AllocError, Global};
+use std::alloc::Global;
 use std::process::Abort;
-use std::test::Fail;
 
 /// The lines of a text, each with a `|` behind it.
-fn lines_text(alloc: Global, text: &[u8]) -> Result<Vec<u8>, AllocError> {
+fn lines_text(rt: &impl Abort, alloc: Global, text: &[u8]) -> Vec<u8> {
     let mut out = Vec::new(alloc);
     let mut rest = text;
     while !rest.is_empty() {
         let (line, after) = first_line(rest);
-        out.extend_from_slice(line)?;
-        out.push(b'|')?;
+        out.extend_from_slice(line).expect(rt, "memory was refused");
+        out.push(b'|').expect(rt, "memory was refused");
         rest = after;
     }
-    Ok(out)
+    out
 }
 
 const TEXTS: [(&[u8], &[u8]); 9] = [
@@ -38,16 +37,15 @@ const TEXTS: [(&[u8], &[u8]); 9] = [
 ];
 
 #[test]
-fn lines_of_texts(rt: HostRuntime) -> Result<(), Fail> {
+fn lines_of_texts(rt: HostRuntime) {
     for (text, wanted) in TEXTS {
-        let lines = lines_text(rt.alloc(), text)?;
-        assert_eq!(rt; lines.as_slice(), wanted, "at {text:?}");
+        let lines = lines_text(&rt, rt.alloc(), text);
+        assert!(rt; lines.as_slice() == wanted, "at {text:?}");
     }
-    Ok(())
 }
 
 /// What the lines of a script read as, each with an LF behind it.
-fn script_text(alloc: Global, config: &Config, script: &[u8]) -> Result<String, Fail>
+fn script_text(rt: &impl Abort, alloc: Global, config: &Config, script: &[u8]) -> String
     requires services { length config.now.services ≤ 64 }
     requires proxies { length config.now.proxies ≤ 16 }
     requires templates { length config.now.templates ≤ 64 }
@@ -55,12 +53,16 @@ fn script_text(alloc: Global, config: &Config, script: &[u8]) -> Result<String, 
     let mut out = String::new(alloc);
     let mut rest = script;
     while !rest.is_empty() {
-        let (read, after) = read_first(alloc, config, rest)?;
-        out.push_str(read_text(alloc, &read)?.as_str())?;
-        out.push_str("\n")?;
+        let (read, after) = match read_first(alloc, config, rest) {
+            Ok(first) => first,
+            Err(_) => panic!(rt; "memory was refused"),
+        };
+        let text = read_text(rt, alloc, &read);
+        out.push_str(text.as_str()).expect(rt, "memory was refused");
+        out.push_str("\n").expect(rt, "memory was refused");
         rest = after;
     }
-    Ok(out)
+    out
 }
 
 const SCRIPT: &[u8] = b"# a dialog\r
@@ -85,24 +87,16 @@ bytes 0 000000154500c80a746578742f706c61696e00000000026f6b
 ";
 
 #[test]
-fn a_script_is_read_whole(rt: HostRuntime) -> Result<(), Fail> {
-    let config = site(rt.alloc())?;
-    let text = script_text(rt.alloc(), &config, SCRIPT)?;
-    assert_eq!(rt; text.as_str(), SCRIPT_READ);
-    Ok(())
+fn a_script_is_read_whole(rt: HostRuntime) {
+    let config = site(&rt, rt.alloc());
+    let text = script_text(&rt, rt.alloc(), &config, SCRIPT);
+    assert!(rt; text.as_str() == SCRIPT_READ);
 }
 
 #[test]
-fn refusals(rt: HostRuntime) -> Result<(), Fail> {
-    let script = script_refused(rt.alloc(), 24, 3)?;
-    assert_eq!(rt;
-        script.as_slice(),
-        b"refused: script line 24 rule 3\n".as_slice()
-    );
-    let config = config_refused(rt.alloc(), 0, 16)?;
-    assert_eq!(rt;
-        config.as_slice(),
-        b"refused: config line 0 rule 16\n".as_slice()
-    );
-    Ok(())
+fn refusals(rt: HostRuntime) {
+    let script = script_refused(rt.alloc(), 24, 3).expect(&rt, "memory was refused");
+    assert!(rt; script.as_slice() == b"refused: script line 24 rule 3\n".as_slice());
+    let config = config_refused(rt.alloc(), 0, 16).expect(&rt, "memory was refused");
+    assert!(rt; config.as_slice() == b"refused: config line 0 rule 16\n".as_slice());
 }

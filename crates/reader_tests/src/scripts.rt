@@ -1,15 +1,14 @@
 //! Lines of scripts, and what each is read as. Not tested here: what a line does.
 
-ghost use Rattle.std.specs.Prelude.{◌≡◌, ◌≤◌, IfOk, length, []};
+ghost use Rattle.std.specs.Prelude.{◌≡◌, ◌≤◌, length, []};
 
 use okws_base::items::{Items, copies};
 use okws_base::name::Name;
 use okws_plan::configuration::{Config, ProxyPlan, ServicePlan};
 use okws_plan::script::{Line, Method, Place};
 use play_script::reading::{LineRead, read_line};
-use std::alloc::{AllocError, Global};
+use std::alloc::Global;
 use std::process::Abort;
-use std::test::Fail;
 
 fn none<T>(alloc: Global) -> Items<T>
     ensures { result ≡ [] }
@@ -17,50 +16,79 @@ fn none<T>(alloc: Global) -> Items<T>
     Items::of(Vec::new(alloc))
 }
 
-fn name(alloc: Global, text: &[u8]) -> Result<Name, Fail> {
-    Ok(Name::new(Items::of(copies(alloc, text)?)).ok_or("not a name")?)
+fn name(rt: &impl Abort, alloc: Global, text: &[u8]) -> Name {
+    let bytes = copies(alloc, text).expect(rt, "memory was refused");
+    Name::new(Items::of(bytes)).expect(rt, "not a name")
 }
 
-fn service(alloc: Global, text: &[u8]) -> Result<ServicePlan, Fail> {
-    Ok(ServicePlan {
-        name: name(alloc, text)?,
+fn service(rt: &impl Abort, alloc: Global, text: &[u8]) -> ServicePlan {
+    ServicePlan {
+        name: name(rt, alloc, text),
         words: none(alloc),
-    })
+    }
 }
 
-fn proxy(alloc: Global, text: &[u8]) -> Result<ProxyPlan, Fail> {
-    Ok(ProxyPlan {
-        name: name(alloc, text)?,
+fn proxy(rt: &impl Abort, alloc: Global, text: &[u8]) -> ProxyPlan {
+    ProxyPlan {
+        name: name(rt, alloc, text),
         tables: none(alloc),
         queries: none(alloc),
-    })
+    }
+}
+
+fn proxies(rt: &impl Abort, alloc: Global) -> Items<ProxyPlan>
+    ensures { length result ≡ 2 }
+{
+    match vec![in alloc; proxy(rt, alloc, b"main"), proxy(rt, alloc, b"side")] {
+        Ok(all) => Items::of(all),
+        Err(_) => panic!(rt; "memory was refused"),
+    }
+}
+
+fn services(rt: &impl Abort, alloc: Global) -> Items<ServicePlan>
+    ensures { length result ≡ 2 }
+{
+    match vec![in alloc; service(rt, alloc, b"guest"), service(rt, alloc, b"other")] {
+        Ok(all) => Items::of(all),
+        Err(_) => panic!(rt; "memory was refused"),
+    }
+}
+
+fn templates(rt: &impl Abort, alloc: Global) -> Items<Name>
+    ensures { length result ≡ 2 }
+{
+    match vec![in alloc; name(rt, alloc, b"page"), name(rt, alloc, b"secret")] {
+        Ok(all) => Items::of(all),
+        Err(_) => panic!(rt; "memory was refused"),
+    }
 }
 
 /// A site with the services guest and other, the proxies main and side, and the templates page and
 /// secret.
-pub fn site(alloc: Global) -> Result<Config, Fail>
-    ensures services { IfOk result (λ c. length c.services ≡ 2) }
-    ensures proxies { IfOk result (λ c. length c.proxies ≡ 2) }
-    ensures templates { IfOk result (λ c. length c.templates ≡ 2) }
+pub fn site(rt: &impl Abort, alloc: Global) -> Config
+    ensures services { length result.services ≡ 2 }
+    ensures proxies { length result.proxies ≡ 2 }
+    ensures templates { length result.templates ≡ 2 }
 {
-    Ok(Config {
-        proxies: Items::of(vec![in alloc; proxy(alloc, b"main")?, proxy(alloc, b"side")?]?),
-        services: Items::of(vec![in alloc; service(alloc, b"guest")?, service(alloc, b"other")?]?),
-        templates: Items::of(vec![in alloc; name(alloc, b"page")?, name(alloc, b"secret")?]?),
+    Config {
+        proxies: proxies(rt, alloc),
+        services: services(rt, alloc),
+        templates: templates(rt, alloc),
         retry: 3,
         paths: none(alloc),
         grants: none(alloc),
         readables: none(alloc),
         loggers: none(alloc),
-    })
+    }
 }
 
-fn place_text(alloc: Global, place: Place) -> Result<String, AllocError> {
-    match place {
+fn place_text(rt: &impl Abort, alloc: Global, place: Place) -> String {
+    let text = match place {
         Place::Proxy(proxy) => format!(in alloc; "proxy {proxy}"),
         Place::Pubd => String::from_str(alloc, "pubd"),
         Place::Oklogd => String::from_str(alloc, "oklogd"),
-    }
+    };
+    text.expect(rt, "memory was refused")
 }
 
 fn method_text(method: Method) -> &'static str {
@@ -71,16 +99,20 @@ fn method_text(method: Method) -> &'static str {
     }
 }
 
+fn digits(rt: &impl Abort, alloc: Global, bytes: &[u8]) -> String {
+    hex::encode(alloc, bytes).expect(rt, "memory was refused")
+}
+
 /// A line with numbers in the place of names, and bytes in lower-case hexadecimal digits.
-fn line_text(alloc: Global, line: &Line) -> Result<String, AllocError> {
-    match line {
+fn line_text(rt: &impl Abort, alloc: Global, line: &Line) -> String {
+    let text = match line {
         Line::Begin(service) => format!(in alloc; "begin {service}"),
         Line::Install { service, place } => {
-            let at = place_text(alloc, *place)?;
+            let at = place_text(rt, alloc, *place);
             format!(in alloc; "install {service} {at}")
         }
         Line::Revoke { service, place } => {
-            let at = place_text(alloc, *place)?;
+            let at = place_text(rt, alloc, *place);
             format!(in alloc; "revoke {service} {at}")
         }
         Line::Boot(service) => format!(in alloc; "boot {service}"),
@@ -94,50 +126,44 @@ fn line_text(alloc: Global, line: &Line) -> Result<String, AllocError> {
             content,
         } => {
             let method = method_text(*method);
-            let target = hex::encode(alloc, target.as_slice())?;
-            let content = hex::encode(alloc, content.as_slice())?;
+            let target = digits(rt, alloc, target.as_slice());
+            let content = digits(rt, alloc, content.as_slice());
             format!(in alloc; "accept {method} {target} {content}")
         }
         Line::Dialog(request) => format!(in alloc; "dialog {request}"),
         Line::Bytes { service, bytes } => {
-            let bytes = hex::encode(alloc, bytes.as_slice())?;
+            let bytes = digits(rt, alloc, bytes.as_slice());
             format!(in alloc; "bytes {service} {bytes}")
         }
         Line::End(service) => format!(in alloc; "end {service}"),
         Line::Publish { template, content } => {
-            let content = hex::encode(alloc, content.as_slice())?;
+            let content = digits(rt, alloc, content.as_slice());
             format!(in alloc; "publish {template} {content}")
         }
-    }
+    };
+    text.expect(rt, "memory was refused")
 }
 
-pub fn read_text(alloc: Global, read: &LineRead) -> Result<String, AllocError> {
+pub fn read_text(rt: &impl Abort, alloc: Global, read: &LineRead) -> String {
     match read {
-        LineRead::Skipped => String::from_str(alloc, "skipped"),
+        LineRead::Skipped => String::from_str(alloc, "skipped").expect(rt, "memory was refused"),
         LineRead::Broken(rule) => {
             let number = rule.number();
-            format!(in alloc; "rule {number}")
+            format!(in alloc; "rule {number}").expect(rt, "memory was refused")
         }
-        LineRead::Says(line) => line_text(alloc, line),
+        LineRead::Says(line) => line_text(rt, alloc, line),
     }
 }
 
 /// The line reads as this.
-fn reads(
-    rt: &impl Abort,
-    alloc: Global,
-    config: &Config,
-    line: &[u8],
-    wanted: &str,
-) -> Result<(), Fail>
+fn reads(rt: &impl Abort, alloc: Global, config: &Config, line: &[u8], wanted: &str)
     requires services { length config.now.services ≤ 64 }
     requires proxies { length config.now.proxies ≤ 16 }
     requires templates { length config.now.templates ≤ 64 }
 {
-    let read = read_line(alloc, config, line)?;
-    let text = read_text(alloc, &read)?;
-    assert_eq!(rt; text.as_str(), wanted, "at {line:?}");
-    Ok(())
+    let read = read_line(alloc, config, line).expect(rt, "memory was refused");
+    let text = read_text(rt, alloc, &read);
+    assert!(rt; text.as_str() == wanted, "at {line:?}");
 }
 
 const LINES: [(&[u8], &str); 24] = [
@@ -255,57 +281,55 @@ const UNDECLARED: [&[u8]; 22] = [
 ];
 
 #[test]
-fn lines_say_what_they_do(rt: HostRuntime) -> Result<(), Fail> {
-    let config = site(rt.alloc())?;
+fn lines_say_what_they_do(rt: HostRuntime) {
+    let config = site(&rt, rt.alloc());
     for (line, wanted) in LINES {
-        reads(&rt, rt.alloc(), &config, line, wanted)?;
+        reads(&rt, rt.alloc(), &config, line, wanted);
     }
-    Ok(())
 }
 
 #[test]
-fn skipped_lines_are_not_judged(rt: HostRuntime) -> Result<(), Fail> {
-    let config = site(rt.alloc())?;
+fn skipped_lines_are_not_judged(rt: HostRuntime) {
+    let config = site(&rt, rt.alloc());
     for line in SKIPPED {
-        reads(&rt, rt.alloc(), &config, line, "skipped")?;
+        reads(&rt, rt.alloc(), &config, line, "skipped");
     }
-    Ok(())
 }
 
 #[test]
-fn lines_outside_the_grammar(rt: HostRuntime) -> Result<(), Fail> {
-    let config = site(rt.alloc())?;
+fn lines_outside_the_grammar(rt: HostRuntime) {
+    let config = site(&rt, rt.alloc());
     for line in BAD_LINES {
-        reads(&rt, rt.alloc(), &config, line, "rule 1")?;
+        reads(&rt, rt.alloc(), &config, line, "rule 1");
     }
-    Ok(())
 }
 
 #[test]
-fn names_that_are_not_declared(rt: HostRuntime) -> Result<(), Fail> {
-    let config = site(rt.alloc())?;
+fn names_that_are_not_declared(rt: HostRuntime) {
+    let config = site(&rt, rt.alloc());
     for line in UNDECLARED {
-        reads(&rt, rt.alloc(), &config, line, "rule 2")?;
+        reads(&rt, rt.alloc(), &config, line, "rule 2");
     }
-    Ok(())
 }
 
 /// How a line of a front and so many bytes behind it begins to read.
 fn long_line_text(
+    rt: &impl Abort,
     alloc: Global,
     config: &Config,
     front: &[u8],
     byte: u8,
     count: usize,
-) -> Result<String, Fail>
+) -> String
     requires services { length config.now.services ≤ 64 }
     requires proxies { length config.now.proxies ≤ 16 }
     requires templates { length config.now.templates ≤ 64 }
 {
-    let mut line = Vec::from_slice(alloc, front)?;
-    let end = vec![in alloc; byte; count]?;
-    line.extend_from_slice(&end)?;
-    match read_line(alloc, config, &line)? {
+    let mut line = Vec::from_slice(alloc, front).expect(rt, "memory was refused");
+    let end = vec![in alloc; byte; count].expect(rt, "memory was refused");
+    line.extend_from_slice(&end)
+        .expect(rt, "memory was refused");
+    match read_line(alloc, config, &line).expect(rt, "memory was refused") {
         LineRead::Says(
             Line::Accept {
                 method: _,
@@ -315,7 +339,7 @@ fn long_line_text(
         ) => {
             let target = target.as_slice().len();
             let content = content.as_slice().len();
-            Ok(format!(in alloc; "{target} {content}")?)
+            format!(in alloc; "{target} {content}").expect(rt, "memory was refused")
         }
         LineRead::Says(
             Line::Publish {
@@ -324,9 +348,9 @@ fn long_line_text(
             },
         ) => {
             let content = content.as_slice().len();
-            Ok(format!(in alloc; "{content}")?)
+            format!(in alloc; "{content}").expect(rt, "memory was refused")
         }
-        read => Ok(read_text(alloc, &read)?),
+        read => read_text(rt, alloc, &read),
     }
 }
 
@@ -343,11 +367,10 @@ const LONG_LINES: [(&[u8], usize, &str); 9] = [
 ];
 
 #[test]
-fn long_lines(rt: HostRuntime) -> Result<(), Fail> {
-    let config = site(rt.alloc())?;
+fn long_lines(rt: HostRuntime) {
+    let config = site(&rt, rt.alloc());
     for (front, count, wanted) in LONG_LINES {
-        let text = long_line_text(rt.alloc(), &config, front, b'0', count)?;
-        assert_eq!(rt; text.as_str(), wanted, "at {front:?} {count}");
+        let text = long_line_text(&rt, rt.alloc(), &config, front, b'0', count);
+        assert!(rt; text.as_str() == wanted, "at {front:?} {count}");
     }
-    Ok(())
 }

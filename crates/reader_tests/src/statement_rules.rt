@@ -5,7 +5,6 @@ use crate::statements::{is_refused, tables};
 use okws_plan::configuration::Table;
 use statement_core::{TextRule, compile, text_of};
 use std::alloc::Global;
-use std::test::*;
 
 /// Whether the text compiles, and this is its canonical text.
 fn has_canonical(alloc: Global, tables: &[Table], text: &[u8], canonical: &[u8]) -> bool {
@@ -65,12 +64,11 @@ const TABLES_COLUMNS_AND_KINDS: [(&[u8], usize, TextRule); 15] = [
 ];
 
 #[test]
-fn tables_columns_and_kinds(rt: HostRuntime) -> Result<(), Fail> {
-    let tables = tables(rt.alloc())?;
+fn tables_columns_and_kinds(rt: HostRuntime) {
+    let tables = tables(&rt, rt.alloc());
     for (text, at, rule) in TABLES_COLUMNS_AND_KINDS {
         assert!(rt; is_refused(rt.alloc(), &tables, text, at, rule));
     }
-    Ok(())
 }
 
 const PARAMETERS_SETTINGS_AND_PARTS: [(&[u8], usize, TextRule); 23] = [
@@ -188,12 +186,11 @@ const PARAMETERS_SETTINGS_AND_PARTS: [(&[u8], usize, TextRule); 23] = [
 ];
 
 #[test]
-fn parameters_settings_and_parts(rt: HostRuntime) -> Result<(), Fail> {
-    let tables = tables(rt.alloc())?;
+fn parameters_settings_and_parts(rt: HostRuntime) {
+    let tables = tables(&rt, rt.alloc());
     for (text, at, rule) in PARAMETERS_SETTINGS_AND_PARTS {
         assert!(rt; is_refused(rt.alloc(), &tables, text, at, rule));
     }
-    Ok(())
 }
 
 /// Texts and their canonical texts.
@@ -313,11 +310,10 @@ const TEXTS: [(&[u8], &[u8]); 28] = [
 ];
 
 #[test]
-fn canonical_texts(rt: HostRuntime) -> Result<(), Fail> {
-    let tables = tables(rt.alloc())?;
+fn canonical_texts(rt: HostRuntime) {
+    let tables = tables(&rt, rt.alloc());
     for (text, canonical) in TEXTS {
         assert!(rt; has_canonical(rt.alloc(), &tables, text, canonical));
         assert!(rt; has_canonical(rt.alloc(), &tables, canonical, canonical));
     }
-    Ok(())
 }

@@ -6,40 +6,38 @@ use okws_base::value::Kind;
 use okws_plan::configuration::{Column, Table};
 use statement_core::{CompileError, TextRule, compile};
 use std::alloc::Global;
-use std::test::*;
+use std::process::Abort;
 
-fn identifier(alloc: Global, name: &[u8]) -> Result<Identifier, Fail> {
-    let bytes = Vec::from_slice(alloc, name)
-        .ok()
-        .ok_or("memory for a name")?;
-    Ok(Identifier::new(Items::of(bytes)).ok_or("an identifier")?)
+fn identifier(rt: &impl Abort, alloc: Global, name: &[u8]) -> Identifier {
+    let bytes = Vec::from_slice(alloc, name).expect(rt, "memory was refused");
+    Identifier::new(Items::of(bytes)).expect(rt, "not an identifier")
 }
 
-fn column(alloc: Global, name: &[u8], kind: Kind, key: bool) -> Result<Column, Fail> {
-    Ok(Column {
-        name: identifier(alloc, name)?,
+fn column(rt: &impl Abort, alloc: Global, name: &[u8], kind: Kind, key: bool) -> Column {
+    Column {
+        name: identifier(rt, alloc, name),
         kind,
         key,
-    })
+    }
 }
 
 /// `msgs (id INT KEY, who TEXT, note TEXT)` and `blobs (b BYTES)`.
-pub fn tables(alloc: Global) -> Result<Vec<Table>, Fail> {
-    let id = column(alloc, b"id", Kind::Int, true)?;
-    let who = column(alloc, b"who", Kind::Text, false)?;
-    let note = column(alloc, b"note", Kind::Text, false)?;
-    let b = column(alloc, b"b", Kind::Bytes, false)?;
+pub fn tables(rt: &impl Abort, alloc: Global) -> Vec<Table> {
+    let id = column(rt, alloc, b"id", Kind::Int, true);
+    let who = column(rt, alloc, b"who", Kind::Text, false);
+    let note = column(rt, alloc, b"note", Kind::Text, false);
+    let b = column(rt, alloc, b"b", Kind::Bytes, false);
     let msgs = Table {
-        name: identifier(alloc, b"msgs")?,
-        columns: Items::of(vec![in alloc; id, who, note].ok().ok_or("memory")?),
+        name: identifier(rt, alloc, b"msgs"),
+        columns: Items::of(vec![in alloc; id, who, note].expect(rt, "memory was refused")),
         first: Items::of(Vec::new(alloc)),
     };
     let blobs = Table {
-        name: identifier(alloc, b"blobs")?,
-        columns: Items::of(vec![in alloc; b].ok().ok_or("memory")?),
+        name: identifier(rt, alloc, b"blobs"),
+        columns: Items::of(vec![in alloc; b].expect(rt, "memory was refused")),
         first: Items::of(Vec::new(alloc)),
     };
-    Ok(vec![in alloc; msgs, blobs].ok().ok_or("memory")?)
+    vec![in alloc; msgs, blobs].expect(rt, "memory was refused")
 }
 
 /// Whether the text is refused at this place by this rule.
@@ -66,12 +64,11 @@ const STATED_REFUSALS: [(&[u8], usize, TextRule); 4] = [
 ];
 
 #[test]
-fn stated_refusals(rt: HostRuntime) -> Result<(), Fail> {
-    let tables = tables(rt.alloc())?;
+fn stated_refusals(rt: HostRuntime) {
+    let tables = tables(&rt, rt.alloc());
     for (text, at, rule) in STATED_REFUSALS {
         assert!(rt; is_refused(rt.alloc(), &tables, text, at, rule));
     }
-    Ok(())
 }
 
 const BAD_TOKENS: [(&[u8], usize, TextRule); 26] = [
@@ -156,12 +153,11 @@ const BAD_TOKENS: [(&[u8], usize, TextRule); 26] = [
 ];
 
 #[test]
-fn bad_tokens(rt: HostRuntime) -> Result<(), Fail> {
-    let tables = tables(rt.alloc())?;
+fn bad_tokens(rt: HostRuntime) {
+    let tables = tables(&rt, rt.alloc());
     for (text, at, rule) in BAD_TOKENS {
         assert!(rt; is_refused(rt.alloc(), &tables, text, at, rule));
     }
-    Ok(())
 }
 
 const UNEXPECTED_TOKENS: [(&[u8], usize, TextRule); 43] = [
@@ -255,10 +251,9 @@ const UNEXPECTED_TOKENS: [(&[u8], usize, TextRule); 43] = [
 ];
 
 #[test]
-fn unexpected_tokens(rt: HostRuntime) -> Result<(), Fail> {
-    let tables = tables(rt.alloc())?;
+fn unexpected_tokens(rt: HostRuntime) {
+    let tables = tables(&rt, rt.alloc());
     for (text, at, rule) in UNEXPECTED_TOKENS {
         assert!(rt; is_refused(rt.alloc(), &tables, text, at, rule));
     }
-    Ok(())
 }

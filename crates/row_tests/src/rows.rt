@@ -1,7 +1,7 @@
 //! Each statement on a small table, and calls that fail. Not tested here: large tables, and each
 //! comparison, which the tests of statements have.
 
-ghost use Rattle.std.specs.Prelude.{◌≡◌, [], ◌∷◌, IfOk};
+ghost use Rattle.std.specs.Prelude.{◌≡◌, [], ◌∷◌};
 ghost use Rattle.row_keeper.specs.Example.{tables, statement, IsExample};
 
 use okws_base::items::{Items, copies};
@@ -13,68 +13,83 @@ use okws_plan::statement::{
     Action, Answer, Assignment, Comparison, Condition, Operand, Selection, Statement,
 };
 use row_keeper::ListKeeper;
-use std::alloc::{AllocError, Global};
-use std::test::Fail;
+use std::alloc::Global;
+use std::process::Abort;
 
-fn identifier(alloc: Global, text: &[u8]) -> Result<Identifier, Fail>
-    ensures { IfOk result (λ name. name ≡ text.now) }
+fn identifier(rt: &impl Abort, alloc: Global, text: &[u8]) -> Identifier
+    ensures { result ≡ text.now }
 {
-    let bytes = Items::of(copies(alloc, text)?);
-    Ok(Identifier::new(bytes).ok_or("not an identifier")?)
+    let bytes = match copies(alloc, text) {
+        Ok(bytes) => bytes,
+        Err(_) => panic!(rt; "memory was refused"),
+    };
+    match Identifier::new(Items::of(bytes)) {
+        Some(name) => name,
+        None => panic!(rt; "not an identifier"),
+    }
 }
 
-fn column(alloc: Global, text: &[u8], key: bool) -> Result<Column, Fail>
-    ensures { IfOk result (λ c. c ≡ record { name = text.now; kind = Kind.Int; key = key }) }
+fn column(rt: &impl Abort, alloc: Global, text: &[u8], key: bool) -> Column
+    ensures { result ≡ record { name = text.now; kind = Kind.Int; key = key } }
 {
-    Ok(Column {
-        name: identifier(alloc, text)?,
+    Column {
+        name: identifier(rt, alloc, text),
         kind: Kind::Int,
         key,
-    })
+    }
 }
 
-fn one<T: Drop>(alloc: Global, item: T) -> Result<Items<T>, AllocError>
-    ensures { IfOk result (λ v. v ≡ item ∷ []) }
+fn one<R: Abort, T: Drop>(rt: &R, alloc: Global, item: T) -> Items<T>
+    ensures { result ≡ item ∷ [] }
 {
     let mut items = Vec::new(alloc);
-    items.push(item)?;
-    Ok(Items::of(items))
+    match items.push(item) {
+        Ok(()) => Items::of(items),
+        Err(_) => panic!(rt; "memory was refused"),
+    }
 }
 
-fn two<T: Drop>(alloc: Global, first: T, second: T) -> Result<Items<T>, AllocError>
-    ensures { IfOk result (λ v. v ≡ first ∷ second ∷ []) }
+fn two<R: Abort, T: Drop>(rt: &R, alloc: Global, first: T, second: T) -> Items<T>
+    ensures { result ≡ first ∷ second ∷ [] }
 {
     let mut items = Vec::new(alloc);
-    items.push(first)?;
-    items.push(second)?;
-    Ok(Items::of(items))
+    match items.push(first) {
+        Ok(()) => {}
+        Err(_) => panic!(rt; "memory was refused"),
+    }
+    match items.push(second) {
+        Ok(()) => Items::of(items),
+        Err(_) => panic!(rt; "memory was refused"),
+    }
 }
 
-fn keeper(alloc: Global, failing: &[u64]) -> Result<ListKeeper, Fail>
-    ensures { IfOk result (λ k. ⟦<ListKeeper as Keeper>⟧.tables k ≡ tables) }
+fn keeper(rt: &impl Abort, alloc: Global, failing: &[u64]) -> ListKeeper
+    ensures { ⟦<ListKeeper as Keeper>⟧.tables result ≡ tables }
 {
-    let columns = two(
-        alloc,
-        column(alloc, b"id", true)?,
-        column(alloc, b"n", false)?,
-    )?;
+    let id = column(rt, alloc, b"id", true);
+    let n = column(rt, alloc, b"n", false);
+    let columns = two(rt, alloc, id, n);
     let table = Table {
-        name: identifier(alloc, b"t")?,
+        name: identifier(rt, alloc, b"t"),
         columns,
         first: Items::of(Vec::new(alloc)),
     };
-    let tables = one(alloc, table)?;
-    Ok(ListKeeper::new(alloc, tables.as_slice(), failing.to_vec(alloc)?)?)
+    let tables = one(rt, alloc, table);
+    let failing = failing.to_vec(alloc).expect(rt, "memory was refused");
+    match ListKeeper::new(alloc, tables.as_slice(), failing) {
+        Ok(keeper) => keeper,
+        Err(_) => panic!(rt; "memory was refused"),
+    }
 }
 
-fn of_action(alloc: Global, action: Action) -> Result<Statement, AllocError>
-    ensures { IfOk result (λ st. st ≡ statement action) }
+fn of_action(rt: &impl Abort, alloc: Global, action: Action) -> Statement
+    ensures { result ≡ statement action }
 {
-    Ok(Statement {
+    Statement {
         table: 0,
-        parameters: two(alloc, Kind::Int, Kind::Int)?,
+        parameters: two(rt, alloc, Kind::Int, Kind::Int),
         action,
-    })
+    }
 }
 
 fn condition(column: u8, comparison: Comparison, parameter: u8) -> Condition
@@ -87,100 +102,104 @@ fn condition(column: u8, comparison: Comparison, parameter: u8) -> Condition
     }
 }
 
-fn insertion(alloc: Global) -> Result<Statement, AllocError>
-    ensures { IfOk result (λ st. IsExample st) }
+fn insertion(rt: &impl Abort, alloc: Global) -> Statement
+    ensures { IsExample result }
 {
-    let values = two(alloc, Operand::Parameter(2), Operand::Parameter(1))?;
-    of_action(alloc, Action::Insert { values })
+    let values = two(rt, alloc, Operand::Parameter(2), Operand::Parameter(1));
+    of_action(rt, alloc, Action::Insert { values })
 }
 
-fn updating(alloc: Global) -> Result<Statement, AllocError>
-    ensures { IfOk result (λ st. IsExample st) }
+fn updating(rt: &impl Abort, alloc: Global) -> Statement
+    ensures { IsExample result }
 {
     let set = Assignment {
         column: 1,
         operand: Operand::Parameter(1),
     };
     let action = Action::Update {
-        assignments: one(alloc, set)?,
-        conditions: one(alloc, condition(0, Comparison::Equal, 2))?,
+        assignments: one(rt, alloc, set),
+        conditions: one(rt, alloc, condition(0, Comparison::Equal, 2)),
     };
-    of_action(alloc, action)
+    of_action(rt, alloc, action)
 }
 
-fn selection(alloc: Global) -> Result<Statement, AllocError>
-    ensures { IfOk result (λ st. IsExample st) }
+fn selection(rt: &impl Abort, alloc: Global) -> Statement
+    ensures { IsExample result }
 {
     let n = condition(1, Comparison::Equal, 1);
     let action = Action::Select(Selection {
-        columns: two(alloc, 0, 1)?,
-        conditions: two(alloc, n, condition(0, Comparison::Equal, 2))?,
+        columns: two(rt, alloc, 0, 1),
+        conditions: two(rt, alloc, n, condition(0, Comparison::Equal, 2)),
         order: None,
         limit: None,
     });
-    of_action(alloc, action)
+    of_action(rt, alloc, action)
 }
 
-fn deletion(alloc: Global) -> Result<Statement, AllocError>
-    ensures { IfOk result (λ st. IsExample st) }
+fn deletion(rt: &impl Abort, alloc: Global) -> Statement
+    ensures { IsExample result }
 {
     let n = condition(1, Comparison::Differs, 1);
-    let conditions = two(alloc, n, condition(0, Comparison::Equal, 2))?;
-    of_action(alloc, Action::Delete { conditions })
+    let conditions = two(rt, alloc, n, condition(0, Comparison::Equal, 2));
+    of_action(rt, alloc, Action::Delete { conditions })
 }
 
 // Runs a statement with two numbers.
 #[tactic(auto, using(row_keeper::proofs::Lawful::lawful, row_keeper::proofs::Lawful::fitting))]
 fn run(
+    rt: &impl Abort,
     alloc: Global,
     keeper: &mut ListKeeper,
-    made: Result<Statement, AllocError>,
+    made: &Statement,
     n: i64,
     id: i64,
 ) -> Result<Answer, RunError>
     requires tables { ⟦<ListKeeper as Keeper>⟧.tables keeper.old ≡ tables }
-    requires example { IfOk made (λ st. IsExample st) }
+    requires example { IsExample made.now }
     ensures { ⟦<ListKeeper as Keeper>⟧.tables keeper.new ≡ tables }
 {
-    let statement = made?;
-    let args = two(alloc, Value::Int(n), Value::Int(id))?;
-    keeper.run(alloc, &statement, args.as_slice())
+    let args = two(rt, alloc, Value::Int(n), Value::Int(id));
+    keeper.run(alloc, made, args.as_slice())
 }
 
-fn rows(alloc: Global, all: &[(i64, i64)]) -> Result<Answer, AllocError> {
+fn rows(rt: &impl Abort, alloc: Global, all: &[(i64, i64)]) -> Answer {
     let mut rows = Vec::new(alloc);
     for (id, n) in all {
-        let row: Row = two(alloc, Value::Int(*id), Value::Int(*n))?;
-        rows.push(row)?;
+        let row: Row = two(rt, alloc, Value::Int(*id), Value::Int(*n));
+        rows.push(row).expect(rt, "memory was refused");
     }
-    Ok(Answer::Rows {
+    Answer::Rows {
         columns: 2,
         rows: Items::of(rows),
-    })
+    }
 }
 
 #[test]
-fn each_statement_is_run(rt: HostRuntime) -> Result<(), Fail> {
+fn each_statement_is_run(rt: HostRuntime) {
     let alloc = rt.alloc();
-    let mut keeper = keeper(alloc, &[])?;
-    assert!(rt; run(alloc, &mut keeper, insertion(alloc), 10, 1) == Ok(Answer::Changed(1)));
-    assert!(rt; run(alloc, &mut keeper, insertion(alloc), 20, 1) == Ok(Answer::Duplicate));
-    assert!(rt; run(alloc, &mut keeper, insertion(alloc), 20, 2) == Ok(Answer::Changed(1)));
-    assert!(rt; run(alloc, &mut keeper, updating(alloc), 30, 2) == Ok(Answer::Changed(1)));
-    assert!(rt; run(alloc, &mut keeper, selection(alloc), 30, 2) == Ok(rows(alloc, &[(2, 30)])?));
-    assert!(rt; run(alloc, &mut keeper, deletion(alloc), 20, 2) == Ok(Answer::Changed(1)));
-    assert!(rt; run(alloc, &mut keeper, selection(alloc), 30, 2) == Ok(rows(alloc, &[])?));
-    Ok(())
+    let mut keeper = keeper(&rt, alloc, &[]);
+    let insert = insertion(&rt, alloc);
+    let update = updating(&rt, alloc);
+    let select = selection(&rt, alloc);
+    let delete = deletion(&rt, alloc);
+    assert!(rt; run(&rt, alloc, &mut keeper, &insert, 10, 1) == Ok(Answer::Changed(1)));
+    assert!(rt; run(&rt, alloc, &mut keeper, &insert, 20, 1) == Ok(Answer::Duplicate));
+    assert!(rt; run(&rt, alloc, &mut keeper, &insert, 20, 2) == Ok(Answer::Changed(1)));
+    assert!(rt; run(&rt, alloc, &mut keeper, &update, 30, 2) == Ok(Answer::Changed(1)));
+    assert!(rt; run(&rt, alloc, &mut keeper, &select, 30, 2) == Ok(rows(&rt, alloc, &[(2, 30)])));
+    assert!(rt; run(&rt, alloc, &mut keeper, &delete, 20, 2) == Ok(Answer::Changed(1)));
+    assert!(rt; run(&rt, alloc, &mut keeper, &select, 30, 2) == Ok(rows(&rt, alloc, &[])));
 }
 
 #[test]
-fn listed_calls_fail_and_are_counted(rt: HostRuntime) -> Result<(), Fail> {
+fn listed_calls_fail_and_are_counted(rt: HostRuntime) {
     let alloc = rt.alloc();
-    let mut keeper = keeper(alloc, &[1])?;
-    assert!(rt; run(alloc, &mut keeper, insertion(alloc), 10, 1) == Ok(Answer::Changed(1)));
-    assert!(rt; run(alloc, &mut keeper, insertion(alloc), 20, 2) == Err(RunError::Failed));
-    assert!(rt; run(alloc, &mut keeper, selection(alloc), 20, 2) == Ok(rows(alloc, &[])?));
-    assert!(rt; run(alloc, &mut keeper, insertion(alloc), 20, 2) == Ok(Answer::Changed(1)));
-    assert_eq!(rt; keeper.faults(), 1);
-    Ok(())
+    let mut keeper = keeper(&rt, alloc, &[1]);
+    let insert = insertion(&rt, alloc);
+    let select = selection(&rt, alloc);
+    assert!(rt; run(&rt, alloc, &mut keeper, &insert, 10, 1) == Ok(Answer::Changed(1)));
+    assert!(rt; run(&rt, alloc, &mut keeper, &insert, 20, 2) == Err(RunError::Failed));
+    assert!(rt; run(&rt, alloc, &mut keeper, &select, 20, 2) == Ok(rows(&rt, alloc, &[])));
+    assert!(rt; run(&rt, alloc, &mut keeper, &insert, 20, 2) == Ok(Answer::Changed(1)));
+    assert!(rt; keeper.faults() == 1);
 }

@@ -4,10 +4,9 @@
 use crate::guest::guest;
 use okws_outer::memory::link::{FedLink, MemoryLink};
 use okws_outer::stream::Link;
-use std::alloc::{AllocError, Global};
+use std::alloc::Global;
 use std::process::Abort;
 use std::sync::Wait;
-use std::test::Fail;
 use svc_kit::stop::Stop;
 
 /// A Boot of incarnation 1 of service 0, with its token for proxy 0; and one without tokens.
@@ -73,19 +72,42 @@ const BAD_PAGE: &str = "00000012030470616765\
 const FILLED: &str = "000000254500c809746578742f68746d6c0000000013\
 3c703e3120616e6e0a3220626f620a3c2f703e";
 
+/// The bytes of these hexadecimal digits.
+fn decoded(rt: &impl Abort, alloc: Global, digits: &str) -> Vec<u8> {
+    match hex::decode(alloc, digits) {
+        Ok(bytes) => bytes,
+        Err(_) => panic!(rt; "no hexadecimal digits"),
+    }
+}
+
+/// The hexadecimal digits of these bytes.
+fn encoded(rt: &impl Abort, alloc: Global, bytes: &[u8]) -> String {
+    match hex::encode(alloc, bytes) {
+        Ok(digits) => digits,
+        Err(_) => panic!(rt; "memory was refused"),
+    }
+}
+
+/// Puts bytes behind a frame.
+fn extend(rt: &impl Abort, frame: &mut Vec<u8>, bytes: &[u8]) {
+    frame
+        .extend_from_slice(bytes)
+        .expect(rt, "memory was refused");
+}
+
 /// The digits of a Request.
-fn request(alloc: Global, head: &str, content: &str) -> Result<String, Fail> {
+fn request(rt: &impl Abort, alloc: Global, head: &str, content: &str) -> String {
     let length = (head.len() as u64)
         .saturating_add(content.len() as u64)
         .saturating_add(9);
     let mut frame = Vec::new(alloc);
-    frame.extend_from_slice(&length.to_be_bytes()[4..])?;
-    frame.push(2)?;
-    frame.extend_from_slice(&(head.len() as u64).to_be_bytes()[4..])?;
-    frame.extend_from_slice(head.as_bytes())?;
-    frame.extend_from_slice(&(content.len() as u64).to_be_bytes()[4..])?;
-    frame.extend_from_slice(content.as_bytes())?;
-    Ok(hex::encode(alloc, &frame)?)
+    extend(rt, &mut frame, &length.to_be_bytes()[4..]);
+    frame.push(2).expect(rt, "memory was refused");
+    extend(rt, &mut frame, &(head.len() as u64).to_be_bytes()[4..]);
+    extend(rt, &mut frame, head.as_bytes());
+    extend(rt, &mut frame, &(content.len() as u64).to_be_bytes()[4..]);
+    extend(rt, &mut frame, content.as_bytes());
+    encoded(rt, alloc, &frame)
 }
 
 /// One letter for each way to end.
@@ -101,29 +123,24 @@ fn letter_of(stop: &Stop) -> char {
 }
 
 /// The guestbook hears these frames, says those, and ends so.
-fn says<R: Abort + Wait>(
-    rt: &R,
-    alloc: Global,
-    heard: &[&str],
-    said: &[&str],
-    end: char,
-) -> Result<(), Fail> {
+fn says<R: Abort + Wait>(rt: &R, alloc: Global, heard: &[&str], said: &[&str], end: char) {
     for piece in [1, 4096] {
         let mut link = MemoryLink::new(alloc, piece, &[]);
-        link.make_room(4096)?;
+        link.make_room(4096).expect(rt, "memory was refused");
         for digits in heard {
-            link.feed(&hex::decode(alloc, *digits)?)?;
+            let bytes = decoded(rt, alloc, digits);
+            link.feed(&bytes).expect(rt, "memory was refused");
         }
         link.feed_end();
         let stop = guest(rt, alloc, &mut link);
-        assert_eq!(rt; letter_of(&stop), end);
+        assert!(rt; letter_of(&stop) == end);
         let mut due = String::new(alloc);
         for digits in said {
-            due.push_str(digits)?;
+            due.push_str(digits).expect(rt, "memory was refused");
         }
-        assert_eq!(rt; hex::encode(alloc, link.given())?.as_str(), due.as_str());
+        let given = encoded(rt, alloc, link.given());
+        assert!(rt; given.as_str() == due.as_str());
     }
-    Ok(())
 }
 
 const GET: &str = "GET /guest HTTP/1.1\r\nHost: localhost\r\n\r\n";
@@ -131,9 +148,9 @@ const GET: &str = "GET /guest HTTP/1.1\r\nHost: localhost\r\n\r\n";
 const POST: &str = "\r\nPOST /guest HTTP/1.1\r\nHost: localhost\r\n\r\n";
 
 #[test]
-fn entries_are_shown(rt: HostRuntime) -> Result<(), Fail> {
+fn entries_are_shown(rt: HostRuntime) {
     let alloc = rt.alloc();
-    let get = request(alloc, GET, "")?;
+    let get = request(&rt, alloc, GET, "");
     let get = get.as_str();
     let open = [BOOT, get, OPENED];
     says(
@@ -142,7 +159,7 @@ fn entries_are_shown(rt: HostRuntime) -> Result<(), Fail> {
         &[BOOT, get, OPENED, ROWS],
         &[OPEN, SELECT, LISTED],
         'E',
-    )?;
+    );
     // The session stays.
     says(
         &rt,
@@ -150,10 +167,10 @@ fn entries_are_shown(rt: HostRuntime) -> Result<(), Fail> {
         &[BOOT, get, OPENED, ROWS, get, ROWS],
         &[OPEN, SELECT, LISTED, SELECT, LISTED],
         'E',
-    )?;
+    );
     for answer in [CHANGED, DUPLICATE, DENIED, FAILED, NO_MEMORY] {
         let heard = [open[0], open[1], open[2], answer];
-        says(&rt, alloc, &heard, &[OPEN, SELECT, REFUSED], 'E')?;
+        says(&rt, alloc, &heard, &[OPEN, SELECT, REFUSED], 'E');
     }
     // A row that is no INT and TEXT.
     let row = "0000000f0501000000010100000000000000\
@@ -164,13 +181,13 @@ fn entries_are_shown(rt: HostRuntime) -> Result<(), Fail> {
         &[BOOT, get, OPENED, row],
         &[OPEN, SELECT, REFUSED],
         'E',
-    )
+    );
 }
 
 #[test]
-fn entries_are_made(rt: HostRuntime) -> Result<(), Fail> {
+fn entries_are_made(rt: HostRuntime) {
     let alloc = rt.alloc();
-    let post = request(alloc, POST, "id=3&who=cy&note=x&id=4")?;
+    let post = request(&rt, alloc, POST, "id=3&who=cy&note=x&id=4");
     let post = post.as_str();
     let all = [OPEN, INSERT, LOG, SEE_OTHER];
     says(
@@ -179,14 +196,14 @@ fn entries_are_made(rt: HostRuntime) -> Result<(), Fail> {
         &[BOOT, post, OPENED, CHANGED, LOGGED],
         &all,
         'E',
-    )?;
+    );
     says(
         &rt,
         alloc,
         &[BOOT, post, OPENED, DUPLICATE],
         &[OPEN, INSERT, TAKEN],
         'E',
-    )?;
+    );
     for answer in [ROWS, DENIED, FAILED, NO_MEMORY] {
         says(
             &rt,
@@ -194,17 +211,16 @@ fn entries_are_made(rt: HostRuntime) -> Result<(), Fail> {
             &[BOOT, post, OPENED, answer],
             &[OPEN, INSERT, REFUSED],
             'E',
-        )?;
+        );
     }
     for answer in [DENIED, FAILED, NO_MEMORY] {
         let heard = [BOOT, post, OPENED, CHANGED, answer];
-        says(&rt, alloc, &heard, &[OPEN, INSERT, LOG, REFUSED], 'E')?;
+        says(&rt, alloc, &heard, &[OPEN, INSERT, LOG, REFUSED], 'E');
     }
-    Ok(())
 }
 
 #[test]
-fn forms_are_judged(rt: HostRuntime) -> Result<(), Fail> {
+fn forms_are_judged(rt: HostRuntime) {
     let alloc = rt.alloc();
     for form in [
         "",
@@ -218,16 +234,16 @@ fn forms_are_judged(rt: HostRuntime) -> Result<(), Fail> {
         "id=9223372036854775808&who=cy&note=x",
         "id=-9223372036854775809&who=cy&note=x",
     ] {
-        let post = request(alloc, POST, form)?;
+        let post = request(&rt, alloc, POST, form);
         says(
             &rt,
             alloc,
             &[BOOT, post.as_str(), OPENED],
             &[OPEN, BAD_FORM],
             'E',
-        )?;
+        );
     }
-    let least = request(alloc, POST, "note=&who=%26+&id=-9223372036854775808")?;
+    let least = request(&rt, alloc, POST, "note=&who=%26+&id=-9223372036854775808");
     let insert = "0000001f42000000000000000203\
 01800000000000000002000000022620\
 0200000000";
@@ -238,26 +254,26 @@ fn forms_are_judged(rt: HostRuntime) -> Result<(), Fail> {
         &[BOOT, least.as_str(), OPENED],
         &[OPEN, insert],
         'E',
-    )
+    );
 }
 
 #[test]
-fn pages_are_filled(rt: HostRuntime) -> Result<(), Fail> {
+fn pages_are_filled(rt: HostRuntime) {
     let alloc = rt.alloc();
-    let get = request(alloc, GET, "")?;
+    let get = request(&rt, alloc, GET, "");
     let get = get.as_str();
     let heard = [BOOT, PAGE, OTHER_PAGE, get, OPENED, ROWS];
-    says(&rt, alloc, &heard, &[OPEN, SELECT, FILLED], 'E')?;
+    says(&rt, alloc, &heard, &[OPEN, SELECT, FILLED], 'E');
     let heard = [BOOT, PAGE, BAD_PAGE, get, OPENED, ROWS];
-    says(&rt, alloc, &heard, &[OPEN, SELECT, REFUSED], 'E')
+    says(&rt, alloc, &heard, &[OPEN, SELECT, REFUSED], 'E');
 }
 
 #[test]
-fn sessions_are_tried_again(rt: HostRuntime) -> Result<(), Fail> {
+fn sessions_are_tried_again(rt: HostRuntime) {
     let alloc = rt.alloc();
-    let get = request(alloc, GET, "")?;
+    let get = request(&rt, alloc, GET, "");
     let get = get.as_str();
-    says(&rt, alloc, &[BARE_BOOT, get, get], &[REFUSED, REFUSED], 'E')?;
+    says(&rt, alloc, &[BARE_BOOT, get, get], &[REFUSED, REFUSED], 'E');
     for answer in [DENIED, FAILED, NO_MEMORY] {
         says(
             &rt,
@@ -265,49 +281,50 @@ fn sessions_are_tried_again(rt: HostRuntime) -> Result<(), Fail> {
             &[BOOT, get, answer, get, OPENED, ROWS],
             &[OPEN, REFUSED, OPEN, SELECT, LISTED],
             'E',
-        )?;
+        );
     }
-    Ok(())
 }
 
 #[test]
-fn frames_that_are_not_due_end_it(rt: HostRuntime) -> Result<(), Fail> {
+fn frames_that_are_not_due_end_it(rt: HostRuntime) {
     let alloc = rt.alloc();
-    let get = request(alloc, GET, "")?;
+    let get = request(&rt, alloc, GET, "");
     let get = get.as_str();
-    says(&rt, alloc, &[get], &[], 'U')?;
-    says(&rt, alloc, &[BOOT, BOOT], &[], 'U')?;
-    says(&rt, alloc, &[BOOT, get, ROWS], &[OPEN], 'U')?;
+    says(&rt, alloc, &[get], &[], 'U');
+    says(&rt, alloc, &[BOOT, BOOT], &[], 'U');
+    says(&rt, alloc, &[BOOT, get, ROWS], &[OPEN], 'U');
     says(
         &rt,
         alloc,
         &[BOOT, get, OPENED, LOGGED],
         &[OPEN, SELECT],
         'U',
-    )?;
+    );
     says(
         &rt,
         alloc,
         &[BOOT, get, OPENED, ROWS, OPENED],
         &[OPEN, SELECT, LISTED],
         'U',
-    )?;
-    says(&rt, alloc, &[], &[], 'E')?;
-    says(&rt, alloc, &[BOOT, "0000"], &[], 'B')?;
-    says(&rt, alloc, &[BOOT, "0000000141"], &[], 'B')
+    );
+    says(&rt, alloc, &[], &[], 'E');
+    says(&rt, alloc, &[BOOT, "0000"], &[], 'B');
+    says(&rt, alloc, &[BOOT, "0000000141"], &[], 'B');
 }
 
 #[test]
-fn faults_end_it(rt: HostRuntime) -> Result<(), Fail> {
+fn faults_end_it(rt: HostRuntime) {
     let alloc = rt.alloc();
     // The link is asked for four bytes of the Boot and then for the rest; the third call fails. So does a put without room.
     for (failing, room) in [([2u64].as_slice(), 64usize), (&[], 10)] {
         let mut link = MemoryLink::new(alloc, 4096, failing);
-        link.make_room(room)?;
-        link.feed(&hex::decode(alloc, BOOT)?)?;
-        link.feed(&hex::decode(alloc, request(alloc, GET, "")?.as_str())?)?;
-        assert_eq!(rt; letter_of(&guest(&rt, alloc, &mut link)), 'F');
+        link.make_room(room).expect(&rt, "memory was refused");
+        let boot = decoded(&rt, alloc, BOOT);
+        link.feed(&boot).expect(&rt, "memory was refused");
+        let get = request(&rt, alloc, GET, "");
+        let get = decoded(&rt, alloc, get.as_str());
+        link.feed(&get).expect(&rt, "memory was refused");
+        assert!(rt; letter_of(&guest(&rt, alloc, &mut link)) == 'F');
         assert!(rt; link.given().len() <= 10);
     }
-    Ok(())
 }

@@ -6,7 +6,6 @@ use okws_outer::memory::link::{FedLink, MemoryLink};
 use okws_outer::stream::Link;
 use std::alloc::Global;
 use std::process::Abort;
-use std::test::Fail;
 use svc_kit::stop::Stop;
 
 /// The Boot of service 0, incarnation 1, with a token at proxy 0.
@@ -32,40 +31,53 @@ fn letter_of(end: &Result<(), Early>) -> char {
     }
 }
 
+/// The bytes of these hexadecimal digits.
+fn decoded(rt: &impl Abort, alloc: Global, digits: &str) -> Vec<u8> {
+    match hex::decode(alloc, digits) {
+        Ok(bytes) => bytes,
+        Err(_) => panic!(rt; "no hexadecimal digits"),
+    }
+}
+
+/// The hexadecimal digits of these bytes.
+fn encoded(rt: &impl Abort, alloc: Global, bytes: &[u8]) -> String {
+    match hex::encode(alloc, bytes) {
+        Ok(digits) => digits,
+        Err(_) => panic!(rt; "memory was refused"),
+    }
+}
+
 /// The probe with these words, which are parted by spaces, hears these frames and says these digits.
-fn says(
-    rt: &impl Abort,
-    alloc: Global,
-    words: &str,
-    frames: &[&str],
-    end: char,
-    digits: &[&str],
-) -> Result<(), Fail> {
+fn says(rt: &impl Abort, alloc: Global, words: &str, frames: &[&str], end: char, digits: &[&str]) {
     let mut link = MemoryLink::new(alloc, 7, &[]);
-    link.make_room(100)?;
+    link.make_room(100).expect(rt, "memory was refused");
     for frame in frames {
-        link.feed(&hex::decode(alloc, *frame)?)?;
+        let bytes = decoded(rt, alloc, frame);
+        link.feed(&bytes).expect(rt, "memory was refused");
     }
     link.feed_end();
     let mut texts = Vec::new(alloc);
     for word in words.split_whitespace() {
-        texts.push(String::from_str(alloc, word)?)?;
+        let text = String::from_str(alloc, word).expect(rt, "memory was refused");
+        texts.push(text).expect(rt, "memory was refused");
     }
-    assert_eq!(rt; letter_of(&probe(alloc, &mut link, &texts)), end, "{words}");
+    assert!(rt;
+        letter_of(&probe(alloc, &mut link, &texts)) == end,
+        "{words}"
+    );
     let mut want = String::new(alloc);
     for part in digits {
-        want.push_str(part)?;
+        want.push_str(part).expect(rt, "memory was refused");
     }
-    let said = hex::encode(alloc, link.given())?;
-    assert_eq!(rt; said.as_str(), want.as_str(), "{words}");
-    Ok(())
+    let said = encoded(rt, alloc, link.given());
+    assert!(rt; said.as_str() == want.as_str(), "{words}");
 }
 
 #[test]
-fn words_are_said(rt: HostRuntime) -> Result<(), Fail> {
+fn words_are_said(rt: HostRuntime) {
     let alloc = rt.alloc();
     let rt = &rt;
-    says(rt, alloc, "0000", &[BOOT, REQUEST], 'E', &["0000"])?;
+    says(rt, alloc, "0000", &[BOOT, REQUEST], 'E', &["0000"]);
     says(
         rt,
         alloc,
@@ -73,7 +85,7 @@ fn words_are_said(rt: HostRuntime) -> Result<(), Fail> {
         &[BOOT, REQUEST],
         'E',
         &["00000017410000", TOKEN],
-    )?;
+    );
     says(
         rt,
         alloc,
@@ -81,7 +93,7 @@ fn words_are_said(rt: HostRuntime) -> Result<(), Fail> {
         &[BOOT, REQUEST],
         'E',
         &[TOKEN, "ab", TOKEN],
-    )?;
+    );
     // A word for each request, whatever comes between them; and then none, or `end`.
     let answered = [
         BOOT,
@@ -91,19 +103,19 @@ fn words_are_said(rt: HostRuntime) -> Result<(), Fail> {
         REQUEST,
         REQUEST,
     ];
-    says(rt, alloc, "01 02t", &answered, '.', &["0102", TOKEN])?;
-    says(rt, alloc, "01 end 03", &answered, '.', &["01"])?;
-    says(rt, alloc, "", &answered, '.', &[])
+    says(rt, alloc, "01 02t", &answered, '.', &["0102", TOKEN]);
+    says(rt, alloc, "01 end 03", &answered, '.', &["01"]);
+    says(rt, alloc, "", &answered, '.', &[]);
 }
 
 #[test]
-fn ends_without_a_word(rt: HostRuntime) -> Result<(), Fail> {
+fn ends_without_a_word(rt: HostRuntime) {
     let alloc = rt.alloc();
     let rt = &rt;
-    says(rt, alloc, "01", &[], 'E', &[])?;
-    says(rt, alloc, "01", &[BOOT], 'E', &[])?;
-    says(rt, alloc, "01", &[REQUEST], 'U', &[])?;
-    says(rt, alloc, "01", &[BOOT, "0000000141"], 'B', &[])?;
+    says(rt, alloc, "01", &[], 'E', &[]);
+    says(rt, alloc, "01", &[BOOT], 'E', &[]);
+    says(rt, alloc, "01", &[REQUEST], 'U', &[]);
+    says(rt, alloc, "01", &[BOOT, "0000000141"], 'B', &[]);
     // No token in Boot.
     says(
         rt,
@@ -112,8 +124,8 @@ fn ends_without_a_word(rt: HostRuntime) -> Result<(), Fail> {
         &["000000080100000000000100", REQUEST],
         'E',
         &["0102"],
-    )?;
+    );
     // Words that spell nothing.
-    says(rt, alloc, "01 0g", &[BOOT, REQUEST], 'W', &[])?;
-    says(rt, alloc, "0t1", &[BOOT, REQUEST], 'W', &[])
+    says(rt, alloc, "01 0g", &[BOOT, REQUEST], 'W', &[]);
+    says(rt, alloc, "0t1", &[BOOT, REQUEST], 'W', &[]);
 }

@@ -8,7 +8,6 @@ use crate::row::take_rounds;
 use crate::run::{column, take_turns};
 use std::rt::Clock;
 use std::sync::Wait;
-use std::test::Fail;
 use std::thread;
 use std::thread::Threads;
 use std::time::{Duration, Instant};
@@ -37,24 +36,21 @@ fn every_turn_is_made<R: Threads + Wait + Sync>(
 }
 
 #[test]
-fn two_workers_take_a_hundred_thousand_turns(rt: HostRuntime) -> Result<(), Fail> {
+fn two_workers_take_a_hundred_thousand_turns(rt: HostRuntime) {
     let alloc = rt.alloc();
     assert!(rt; every_turn_is_made(&rt, alloc, 2, 25_000));
-    Ok(())
 }
 
 #[test]
-fn four_workers_take_a_hundred_thousand_turns(rt: HostRuntime) -> Result<(), Fail> {
+fn four_workers_take_a_hundred_thousand_turns(rt: HostRuntime) {
     let alloc = rt.alloc();
     assert!(rt; every_turn_is_made(&rt, alloc, 4, 12_500));
-    Ok(())
 }
 
 #[test]
-fn sixty_four_workers_take_a_hundred_thousand_turns(rt: HostRuntime) -> Result<(), Fail> {
+fn sixty_four_workers_take_a_hundred_thousand_turns(rt: HostRuntime) {
     let alloc = rt.alloc();
     assert!(rt; every_turn_is_made(&rt, alloc, 64, 782));
-    Ok(())
 }
 
 // So many workers make so many rounds at a row of so many columns: every turn is made.
@@ -78,29 +74,27 @@ fn every_round_is_made<R: Threads + Wait + Sync>(
 }
 
 #[test]
-fn workers_take_a_hundred_thousand_turns_at_sixty_four_locks(rt: HostRuntime) -> Result<(), Fail> {
+fn workers_take_a_hundred_thousand_turns_at_sixty_four_locks(rt: HostRuntime) {
     let alloc = rt.alloc();
     assert!(rt; every_round_is_made(&rt, alloc, 64, 2, 782));
     assert!(rt; every_round_is_made(&rt, alloc, 64, 4, 391));
     assert!(rt; every_round_is_made(&rt, alloc, 64, 64, 25));
-    Ok(())
 }
 
 #[test]
-fn sixty_four_threads_draw_each_number_once(rt: HostRuntime) -> Result<(), Fail> {
+fn sixty_four_threads_draw_each_number_once(rt: HostRuntime) {
     let alloc = rt.alloc();
-    let drawers = draw_numbers(&rt, alloc, 64, 1_000)?;
-    let mut seen = Vec::from_elem(alloc, false, 64_000)?;
+    let drawers = draw_numbers(&rt, alloc, 64, 1_000).expect(&rt, "memory was refused");
+    let mut seen = Vec::from_elem(alloc, false, 64_000).expect(&rt, "memory was refused");
     for drawer in &drawers {
-        assert_eq!(rt; drawer.numbers().len(), 1_000);
+        assert!(rt; drawer.numbers().len() == 1_000);
         for &number in drawer.numbers() {
             let again = seen
                 .get_mut(number as usize)
                 .map(|was| std::mem::replace(was, true));
-            assert_eq!(rt; again, Some(false), "the number {number}");
+            assert!(rt; again == Some(false), "the number {number}");
         }
     }
-    Ok(())
 }
 
 // Takes the turn, and sleeps with it.
@@ -114,19 +108,22 @@ fn sleep_in_turn<R: Wait + Clock>(rt: &R, turn: &Turn<Ledger>, mut seat: Seat<Le
 }
 
 #[test]
-fn a_turn_is_taken_while_the_holder_sleeps(rt: HostRuntime) -> Result<(), Fail> {
+fn a_turn_is_taken_while_the_holder_sleeps(rt: HostRuntime) {
     let alloc = rt.alloc();
-    let (turn, seats) = column(alloc, 0, 4)?;
+    let Ok((turn, seats)) = column(alloc, 0, 4) else {
+        panic!(rt; "memory was refused");
+    };
     let lock = &turn;
-    let start = Instant::now(&rt)?;
+    let start = Instant::now(&rt).expect(&rt, "no clock");
     let done = thread::map_vec(
         &rt,
         seats,
         &|seat: Seat<Ledger>| -> bool
             requires { (seat.lock ≡ lock.now.id) × (seat.held ≡ false) }
         { sleep_in_turn(&rt, lock, seat) },
-    )?;
-    assert_eq!(rt; done.len(), 4);
-    assert!(rt; start.elapsed(&rt)? >= Duration::from_millis(200));
-    Ok(())
+    );
+    let done = done.expect(&rt, "memory was refused");
+    assert!(rt; done.len() == 4);
+    let elapsed = start.elapsed(&rt).expect(&rt, "no clock");
+    assert!(rt; elapsed >= Duration::from_millis(200));
 }

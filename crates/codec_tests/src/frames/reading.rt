@@ -4,26 +4,27 @@ use super::service_digits;
 use frame_codec::reading::{Read, read_service_frame};
 use std::alloc::Global;
 use std::process::Abort;
-use std::test::Fail;
 
 /// The frame that these hexadecimal digits spell is read from the front, with two bytes behind it,
 /// and spelled by the same digits again.
-fn reads(rt: &impl Abort, alloc: Global, digits: &str) -> Result<(), Fail> {
-    let mut bytes = hex::decode(alloc, digits)?;
+fn reads(rt: &impl Abort, alloc: Global, digits: &str) {
+    let mut bytes = hex::decode(alloc, digits).expect(rt, "hexadecimal digits");
     let len = bytes.len();
-    bytes.extend_from_slice(&[0, 1])?;
+    bytes
+        .extend_from_slice(&[0, 1])
+        .expect(rt, "memory was refused");
     match read_service_frame(alloc, &bytes) {
         Read::Frame(frame, taken) => {
-            assert_eq!(rt; taken, len, "{digits}");
-            assert_eq!(rt; service_digits(alloc, &frame)?.as_str(), digits);
+            assert!(rt; taken == len, "{digits}");
+            let spelled = service_digits(rt, alloc, &frame);
+            assert!(rt; spelled.as_str() == digits, "{spelled} is not {digits}");
         }
         _ => assert!(rt; false, "no frame: {digits}"),
     }
-    Ok(())
 }
 
 #[test]
-fn frames(rt: HostRuntime) -> Result<(), Fail> {
+fn frames(rt: HostRuntime) {
     for digits in [
         "000000174100000000000000000001ade0b876903df1a0e56a5d40",
         "0000000a42000000000000000100",
@@ -35,23 +36,22 @@ fn frames(rt: HostRuntime) -> Result<(), Fail> {
         "0000000744000000026869",
         "000000154500c80a746578742f706c61696e00000000026f6b",
     ] {
-        reads(&rt, rt.alloc(), digits)?;
+        reads(&rt, rt.alloc(), digits);
     }
-    Ok(())
 }
 
-fn is_short(alloc: Global, digits: &str) -> Result<bool, Fail> {
-    let bytes = hex::decode(alloc, digits)?;
-    Ok(matches!(read_service_frame(alloc, &bytes), Read::Short))
+fn is_short(rt: &impl Abort, alloc: Global, digits: &str) -> bool {
+    let bytes = hex::decode(alloc, digits).expect(rt, "hexadecimal digits");
+    matches!(read_service_frame(alloc, &bytes), Read::Short)
 }
 
-fn is_bad(alloc: Global, digits: &str) -> Result<bool, Fail> {
-    let bytes = hex::decode(alloc, digits)?;
-    Ok(matches!(read_service_frame(alloc, &bytes), Read::BadFrame))
+fn is_bad(rt: &impl Abort, alloc: Global, digits: &str) -> bool {
+    let bytes = hex::decode(alloc, digits).expect(rt, "hexadecimal digits");
+    matches!(read_service_frame(alloc, &bytes), Read::BadFrame)
 }
 
 #[test]
-fn parts_of_frames(rt: HostRuntime) -> Result<(), Fail> {
+fn parts_of_frames(rt: HostRuntime) {
     for digits in [
         "",
         "0000",
@@ -60,13 +60,12 @@ fn parts_of_frames(rt: HostRuntime) -> Result<(), Fail> {
         "0000000643047061",
         "000000174100000000000000000001ade0b876903df1a0e56a5d",
     ] {
-        assert!(rt; is_short(rt.alloc(), digits)?, "not short: {digits}");
+        assert!(rt; is_short(&rt, rt.alloc(), digits), "not short: {digits}");
     }
-    Ok(())
 }
 
 #[test]
-fn no_frames(rt: HostRuntime) -> Result<(), Fail> {
+fn no_frames(rt: HostRuntime) {
     for digits in [
         // No length, and one that is too long.
         "00000000",
@@ -86,7 +85,6 @@ fn no_frames(rt: HostRuntime) -> Result<(), Fail> {
         "000000154500ca0a746578742f706c61696e00000000026f6b",
         "000000154500c80a746578742f706c61692000000000026f6b",
     ] {
-        assert!(rt; is_bad(rt.alloc(), digits)?, "not bad: {digits}");
+        assert!(rt; is_bad(&rt, rt.alloc(), digits), "not bad: {digits}");
     }
-    Ok(())
 }

@@ -4,35 +4,34 @@ use frame_codec::reading::{Read, read_server_frame};
 use frame_codec::server::write_server_frame;
 use std::alloc::Global;
 use std::process::Abort;
-use std::test::Fail;
 
 /// The bytes begin with a frame, which these digits spell.
-fn again(rt: &impl Abort, alloc: Global, bytes: &[u8], digits: &str) -> Result<(), Fail> {
+fn again(rt: &impl Abort, alloc: Global, bytes: &[u8], digits: &str) {
     match read_server_frame(alloc, bytes) {
         Read::Frame(frame, taken) => {
-            assert_eq!(rt; 2 * taken, digits.len(), "{digits}");
+            assert!(rt; 2 * taken == digits.len(), "{digits}");
             assert!(rt; frame.has_spelling());
-            let written = hex::encode(alloc, write_server_frame(alloc, &frame)?)?;
-            assert_eq!(rt; written.as_str(), digits);
+            let bytes = write_server_frame(alloc, &frame).expect(rt, "memory was refused");
+            let written = hex::encode(alloc, bytes).expect(rt, "memory was refused");
+            assert!(rt; written.as_str() == digits, "{written} is not {digits}");
         }
         _ => assert!(rt; false, "no frame: {digits}"),
     }
-    Ok(())
 }
 
 /// The frame that these digits spell is read, also with a byte behind it, and no part of it is one.
-fn is_read(rt: &impl Abort, alloc: Global, digits: &str) -> Result<(), Fail> {
-    let mut bytes = hex::decode(alloc, digits)?;
-    again(rt, alloc, &bytes, digits)?;
+fn is_read(rt: &impl Abort, alloc: Global, digits: &str) {
+    let mut bytes = hex::decode(alloc, digits).expect(rt, "hexadecimal digits");
+    again(rt, alloc, &bytes, digits);
     for end in 0..bytes.len() {
         assert!(rt; matches!(read_server_frame(alloc, &bytes[..end]), Read::Short));
     }
-    bytes.push(0xff)?;
-    again(rt, alloc, &bytes, digits)
+    bytes.push(0xff).expect(rt, "memory was refused");
+    again(rt, alloc, &bytes, digits);
 }
 
 #[test]
-fn frames_are_read_again(rt: HostRuntime) -> Result<(), Fail> {
+fn frames_are_read_again(rt: HostRuntime) {
     for digits in [
         "0000001e010000000000010100000000000000000001ade0b876903df1a0e56a5d40",
         "000000310200000028474554202f677565737420485454502f312e310d0a486f73743a206c6f63616c686f73740d0a0d0a00000000",
@@ -50,13 +49,12 @@ fn frames_are_read_again(rt: HostRuntime) -> Result<(), Fail> {
         "000000010b",
         "000000010c",
     ] {
-        is_read(&rt, rt.alloc(), digits)?;
+        is_read(&rt, rt.alloc(), digits);
     }
-    Ok(())
 }
 
 #[test]
-fn other_bytes_are_no_frames(rt: HostRuntime) -> Result<(), Fail> {
+fn other_bytes_are_no_frames(rt: HostRuntime) {
     for digits in [
         // No length that a frame has.
         "00000000",
@@ -76,11 +74,10 @@ fn other_bytes_are_no_frames(rt: HostRuntime) -> Result<(), Fail> {
         "0000000f050100000001040000000000000001",
         "0000000c0501000000010200000001ff",
     ] {
-        let bytes = hex::decode(rt.alloc(), digits)?;
+        let bytes = hex::decode(rt.alloc(), digits).expect(&rt, "hexadecimal digits");
         assert!(&rt;
             matches!(read_server_frame(rt.alloc(), &bytes), Read::BadFrame),
             "{digits}"
         );
     }
-    Ok(())
 }

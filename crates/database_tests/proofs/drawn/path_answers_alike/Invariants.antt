@@ -3,4 +3,4 @@ use Rattle.okws_plan.specs.Configuration.{tables}
 use Rattle.database_tests.proofs.drawn.path_answers_alike.Given as goal
 
 abbrev pub invariant-loop-turn : goal.invariant-loop-turn
-invariant-loop-turn l = l.other.tables.items ≡ tables l.config 0
+invariant-loop-turn g l = l.other.tables.items ≡ tables l.config 0

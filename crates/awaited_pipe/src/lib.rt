@@ -8,7 +8,7 @@ mod patience;
 use libc::net::{POLLIN, poll};
 use libc::types::pollfd;
 use os::set_nonblocking;
-pub use patience::Patience;
+pub use patience::{Looks, Patience};
 use std::io;
 use std::io::{ErrorKind, Read};
 use std::os::fd::{AsRawFd, RawFd};
@@ -31,20 +31,16 @@ fn is_ready(fd: RawFd, wait: i32) -> bool {
 
 /// Looks for a while whether something came at the descriptor.
 pub fn look_for(fd: RawFd, patience: &Patience) {
-    let looks = patience.looks();
-    if looks == 0 {
+    let mut looks = patience.begin();
+    if looks.ended {
         return;
     }
-    for _ in 0..looks {
-        if is_ready(fd, 0) {
-            patience.found();
-            return;
-        }
-        if !patience.lasts() {
+    while !is_ready(fd, 0) {
+        if !looks.again() {
             return;
         }
     }
-    patience.missed();
+    looks.end();
 }
 
 /// A reading end. It gives the bytes that come at it, and a read of it takes the place of a look.
@@ -64,31 +60,23 @@ impl<R: Read + AsRawFd> Awaited<R> {
             patience: Patience::new(LOOKS),
         }
     }
-
-    /// Waits behind a look, of which there have been so many before, for the next one, or asleep where it was the last.
-    fn wait(&self, look: u64, looks: u64) {
-        if look < looks && self.patience.lasts() {
-            return;
-        }
-        if look == looks && looks > 0 {
-            self.patience.missed();
-        }
-        is_ready(self.end.as_raw_fd(), FOREVER);
-    }
 }
 
 impl<R: Read + AsRawFd> Read for Awaited<R> {
     ghost remaining = { λ a. R.remaining a.end };
 
     fn read(&mut self, into: &mut [u8]) -> io::Result<usize> {
-        let looks = self.patience.looks();
-        for look in 0..u64::MAX {
-            match self.end.read(into) {
-                Err(error) if error.kind() == ErrorKind::WouldBlock => self.wait(look, looks),
-                read => {
-                    if look < looks {
-                        self.patience.found();
+        let Awaited { end, patience } = self;
+        let mut looks = patience.begin();
+        for _ in 0..u64::MAX {
+            match end.read(into) {
+                Err(error) if error.kind() == ErrorKind::WouldBlock => {
+                    if !looks.again() {
+                        is_ready(end.as_raw_fd(), FOREVER);
                     }
+                }
+                read => {
+                    looks.end();
                     return read;
                 }
             }

@@ -1,5 +1,7 @@
 //! How long a thread looks for what it awaits before it sleeps.
 
+ghost use Rattle.std.specs.Prelude.{◌≡◌, ◌+◌, true};
+
 use libc::types::timespec;
 use libc::{CLOCK_MONOTONIC, clock_gettime};
 use std::sync::atomic::{AtomicU64, Ordering};
@@ -32,7 +34,7 @@ fn nanos() -> u64 {
 /// twice as many waits are without looks as behind the one before, and half as many where looks find something.
 #[derive(Drop)]
 pub struct Patience {
-    // How often to look in a wait.
+    // How often to look again in a wait.
     most: u64,
     // So many waits more are without looks.
     without: AtomicU64,
@@ -41,8 +43,10 @@ pub struct Patience {
 }
 
 impl Patience {
-    /// Looks from the first wait on, so often at most in each.
-    pub fn new(most: u64) -> Patience {
+    /// Looks from the first wait on, and so often at most again in each.
+    pub fn new(most: u64) -> Patience
+        ensures most { result.most ≡ most }
+    {
         Patience {
             most,
             without: AtomicU64::new(0),
@@ -50,38 +54,33 @@ impl Patience {
         }
     }
 
-    /// Begins a wait, and tells how often to look in it, which may be not at all.
-    pub fn looks(&self) -> u64 {
+    /// Begins a wait.
+    pub fn begin(&self) -> Looks<'_>
+        ensures left { result.left ≡ self.now.most }
+    {
         let without = self.without.load(Ordering::Relaxed);
-        if without == 0 {
-            return self.most;
+        if without != 0 {
+            self.without
+                .store(without.saturating_sub(1), Ordering::Relaxed);
         }
-        self.without
-            .store(without.saturating_sub(1), Ordering::Relaxed);
-        0
+        Looks {
+            patience: self,
+            ended: without != 0,
+            left: self.most,
+            since: None,
+        }
     }
 
-    /// Lets other threads run between two looks, and tells whether to look on.
-    pub fn lasts(&self) -> bool {
-        let before = nanos();
-        yield_now();
-        if nanos().saturating_sub(before) < LONG {
-            return true;
-        }
-        self.without.store(WAITS, Ordering::Relaxed);
-        false
-    }
-
-    /// Ends a wait whose looks found what was awaited.
-    pub fn found(&self) {
+    /// Behind a wait whose looks found what was awaited, fewer waits are to be without looks.
+    pub(crate) fn found(&self) {
         let pause = self.pause.load(Ordering::Relaxed);
         if pause != 0 {
             self.pause.store(pause / 2, Ordering::Relaxed);
         }
     }
 
-    /// Ends a wait whose looks, of which there were some, were in vain.
-    pub fn missed(&self) {
+    /// Behind a wait whose looks were in vain, some waits are without looks.
+    pub(crate) fn missed(&self) {
         let pause = self
             .pause
             .load(Ordering::Relaxed)
@@ -90,5 +89,57 @@ impl Patience {
             .min(PAUSE);
         self.pause.store(pause, Ordering::Relaxed);
         self.without.store(pause, Ordering::Relaxed);
+    }
+}
+
+/// The looks of a wait, of which there may be none but the first.
+#[derive(Drop)]
+pub struct Looks<'a> {
+    patience: &'a Patience,
+    // Whether who waits is to sleep.
+    pub(crate) ended: bool,
+    // How often to look again yet.
+    left: u64,
+    // When others were last let run, in nanoseconds.
+    since: Option<u64>,
+}
+
+impl<'a> Looks<'a> {
+    /// Behind a look that found nothing: whether to look again, before which others were let run, or to sleep.
+    pub fn again(&mut self) -> bool
+        ensures fewer { result ≡ true → self.new.left + 1 ≡ self.old.left }
+    {
+        if self.ended {
+            return false;
+        }
+        if self.left == 0 {
+            self.ended = true;
+            self.patience.missed();
+            return false;
+        }
+        self.left -= 1;
+        self.ended = !self.others_run();
+        if self.ended {
+            self.patience.without.store(WAITS, Ordering::Relaxed);
+        }
+        !self.ended
+    }
+
+    /// Lets other threads run, and tells whether they kept the processor for a short time alone.
+    fn others_run(&mut self) -> bool
+        ensures stays { self.new.left ≡ self.old.left }
+    {
+        let before = self.since.unwrap_or_else(nanos);
+        yield_now();
+        let now = nanos();
+        self.since = Some(now);
+        now.saturating_sub(before) < LONG
+    }
+
+    /// Ends a wait in which what was awaited came, by a look or behind a sleep.
+    pub fn end(self) {
+        if !self.ended {
+            self.patience.found();
+        }
     }
 }

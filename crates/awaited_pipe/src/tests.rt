@@ -4,22 +4,28 @@ use crate::{Awaited, Patience, look_for};
 use std::io::{Read, Write, pipe};
 use std::os::fd::AsRawFd;
 use std::rt::Clock;
-use std::test::Fail;
 use std::thread;
 use std::thread::Threads;
 use std::time::Duration;
+
+const PIPE: &str = "a pipe failed";
+
+// Whether a wait that is begun looks more than once.
+fn looks(patience: &Patience) -> bool {
+    !patience.begin().ended
+}
 
 // Behind each wait that looked in vain there are twice as many without looks as behind the one before, and one more, 63 at most.
 #[test]
 fn more_waits_are_without_looks_the_more_were_in_vain(rt: HostRuntime) {
     let patience = Patience::new(5);
-    assert_eq!(rt; patience.looks(), 5);
+    assert!(rt; looks(&patience));
     for pause in [1u32, 3, 7, 15, 31, 63, 63] {
         patience.missed();
         for _ in 0..pause {
-            assert_eq!(rt; patience.looks(), 0, "within {pause}");
+            assert!(rt; !looks(&patience), "within {pause}");
         }
-        assert_eq!(rt; patience.looks(), 5, "behind {pause}");
+        assert!(rt; looks(&patience), "behind {pause}");
     }
 }
 
@@ -30,58 +36,74 @@ fn looks_that_find_something_halve_them(rt: HostRuntime) {
         patience.missed();
     }
     for _ in 0..7 {
-        assert_eq!(rt; patience.looks(), 0);
+        assert!(rt; !looks(&patience));
     }
-    patience.found();
-    patience.found();
+    for _ in 0..2 {
+        patience.begin().end();
+    }
     patience.missed();
     for _ in 0..3 {
-        assert_eq!(rt; patience.looks(), 0);
+        assert!(rt; !looks(&patience));
     }
-    assert_eq!(rt; patience.looks(), 5);
+    assert!(rt; looks(&patience));
+}
+
+// Where something comes in a wait that was without looks, or had ended them, as many stay without.
+#[test]
+fn who_slept_has_found_nothing_by_looks(rt: HostRuntime) {
+    let patience = Patience::new(0);
+    let mut wait = patience.begin();
+    assert!(rt; !wait.again());
+    assert!(rt; !wait.again());
+    wait.end();
+    patience.begin().end();
+    let mut next = patience.begin();
+    assert!(rt; !next.again());
+    for _ in 0..3 {
+        assert!(rt; !looks(&patience));
+    }
+    assert!(rt; looks(&patience));
 }
 
 #[test]
-fn a_read_gives_what_came(rt: HostRuntime) -> Result<(), Fail> {
-    let (end, mut other) = pipe(&rt)?;
+fn a_read_gives_what_came(rt: HostRuntime) {
+    let (end, mut other) = pipe(&rt).expect(&rt, PIPE);
     let mut awaited = Awaited::new(end);
-    other.write_all(b"abcde")?;
+    other.write_all(b"abcde").expect(&rt, PIPE);
     let mut piece = [0u8; 3];
-    assert_eq!(rt; awaited.read(&mut piece)?, 3);
+    assert_eq!(rt; awaited.read(&mut piece).expect(&rt, PIPE), 3);
     assert_eq!(rt; piece, *b"abc");
-    assert_eq!(rt; awaited.read(&mut piece)?, 2);
+    assert_eq!(rt; awaited.read(&mut piece).expect(&rt, PIPE), 2);
     assert_eq!(rt; piece, *b"dec");
     drop(other);
-    assert_eq!(rt; awaited.read(&mut piece)?, 0);
-    Ok(())
+    assert_eq!(rt; awaited.read(&mut piece).expect(&rt, PIPE), 0);
 }
 
 // The reader has looked in vain, and sleeps, when the bytes come.
 #[test]
-fn a_read_waits_for_what_comes_late(rt: HostRuntime) -> Result<(), Fail> {
-    let (end, mut other) = pipe(&rt)?;
+fn a_read_waits_for_what_comes_late(rt: HostRuntime) {
+    let (end, mut other) = pipe(&rt).expect(&rt, PIPE);
     let mut awaited = Awaited::new(end);
     let late = thread::spawn(&rt, move || {
         rt.sleep(Duration::from_millis(20));
         other.write_all(b"late").is_ok()
-    })?;
+    })
+    .expect(&rt, "no thread was given");
     let mut piece = [0u8; 8];
-    assert_eq!(rt; awaited.read(&mut piece)?, 4);
+    assert_eq!(rt; awaited.read(&mut piece).expect(&rt, PIPE), 4);
     assert_eq!(rt; piece.first(), Some(&b'l'));
     assert!(rt; late.join(&rt));
-    Ok(())
 }
 
 // A look takes nothing, whether something came or not.
 #[test]
-fn a_look_takes_nothing(rt: HostRuntime) -> Result<(), Fail> {
-    let (mut end, mut other) = pipe(&rt)?;
+fn a_look_takes_nothing(rt: HostRuntime) {
+    let (mut end, mut other) = pipe(&rt).expect(&rt, PIPE);
     let patience = Patience::new(2);
     look_for(end.as_raw_fd(), &patience);
-    assert_eq!(rt; patience.looks(), 0);
-    other.write_all(b"x")?;
+    assert!(rt; !looks(&patience));
+    other.write_all(b"x").expect(&rt, PIPE);
     look_for(end.as_raw_fd(), &patience);
     let mut piece = [0u8; 2];
-    assert_eq!(rt; end.read(&mut piece)?, 1);
-    Ok(())
+    assert_eq!(rt; end.read(&mut piece).expect(&rt, PIPE), 1);
 }

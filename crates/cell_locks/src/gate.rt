@@ -26,18 +26,15 @@ impl DialogGate {
 
     /// Passes the gate, which is shut for others until the guard is let go.
     pub(crate) fn pass<R: Wait>(&self, rt: &R) -> MutexGuard<'_, bool> {
-        let tries = self.patience.looks();
-        for _ in 0..tries {
+        let mut looks = self.patience.begin();
+        for _ in 0..u64::MAX {
             if let Some(guard) = self.shut.try_lock() {
-                self.patience.found();
+                looks.end();
                 return guard;
             }
-            if !self.patience.lasts() {
-                return self.shut.lock(rt);
+            if !looks.again() {
+                break;
             }
-        }
-        if tries > 0 {
-            self.patience.missed();
         }
         self.shut.lock(rt)
     }

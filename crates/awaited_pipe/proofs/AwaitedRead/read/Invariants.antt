@@ -1,5 +1,5 @@
 use Rattle.std.specs.Io.KnownBytes.{Keeps}
 use Rattle.awaited_pipe.proofs.AwaitedRead.read.Given as goal
 
-abbrev pub invariant-loop-look : goal.invariant-loop-look
-invariant-loop-look g l = Keeps (g.R.Read.remaining l.fn.self.end) (g.R.Read.remaining l.self.end)
+abbrev pub invariant-loop : goal.invariant-loop
+invariant-loop g l = Keeps (g.R.Read.remaining l.fn.self.end) (g.R.Read.remaining l.end)

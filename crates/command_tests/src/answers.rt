@@ -1,20 +1,20 @@
 //! What is told of words that are no command, and which words `clap` takes.
 
-use crate::commands::words_of;
+use crate::commands::{MEMORY, words_of};
 use command_line::answer::answer;
-use std::alloc::{AllocError, Global};
-use std::test::Fail;
+use std::alloc::Global;
+use std::process::Abort;
 
 /// What is told of the words of a line.
-fn told(alloc: Global, line: &str) -> Result<String, AllocError> {
-    let words = words_of(alloc, line)?;
-    answer(alloc, &words)
+fn told(rt: &impl Abort, alloc: Global, line: &str) -> String {
+    let words = words_of(rt, alloc, line);
+    answer(alloc, &words).expect(rt, MEMORY)
 }
 
 #[test]
-fn help_names_each_command(rt: HostRuntime) -> Result<(), Fail> {
+fn help_names_each_command(rt: HostRuntime) {
     for line in ["help", "--help", "-h"] {
-        let text = told(rt.alloc(), line)?;
+        let text = told(&rt, rt.alloc(), line);
         for part in [
             "Usage: okws <COMMAND>\n",
             "\n  check  Reads a configuration, and lists its queries\n",
@@ -25,13 +25,12 @@ fn help_names_each_command(rt: HostRuntime) -> Result<(), Fail> {
             assert!(rt; text.as_str().contains(part), "at {line}: {text}");
         }
     }
-    Ok(())
 }
 
 #[test]
-fn help_of_a_server_names_each_option(rt: HostRuntime) -> Result<(), Fail> {
+fn help_of_a_server_names_each_option(rt: HostRuntime) {
     for line in ["help serve", "serve --help"] {
-        let text = told(rt.alloc(), line)?;
+        let text = told(&rt, rt.alloc(), line);
         for part in [
             "--port <PORT>",
             "--doors <DOORS>",
@@ -43,11 +42,10 @@ fn help_of_a_server_names_each_option(rt: HostRuntime) -> Result<(), Fail> {
             assert!(rt; text.as_str().contains(part), "at {line}: {text}");
         }
     }
-    Ok(())
 }
 
 #[test]
-fn refusals_say_why(rt: HostRuntime) -> Result<(), Fail> {
+fn refusals_say_why(rt: HostRuntime) {
     for (line, part) in [
         ("check", "<CONFIG>"),
         ("other", "other"),
@@ -58,32 +56,31 @@ fn refusals_say_why(rt: HostRuntime) -> Result<(), Fail> {
             "without sign or leading zero",
         ),
     ] {
-        let text = told(rt.alloc(), line)?;
+        let text = told(&rt, rt.alloc(), line);
         assert!(rt; text.as_str().contains(part), "at {line}: {text}");
         assert!(rt; text.as_str().ends_with("\n"), "at {line}: {text}");
     }
-    Ok(())
 }
 
 #[test]
-fn each_answer_ends_with_how_the_program_is_called(rt: HostRuntime) -> Result<(), Fail> {
+fn each_answer_ends_with_how_the_program_is_called(rt: HostRuntime) {
     let usage = "\nokws check CONFIG\nokws play CONFIG SCRIPT\nokws drill SEED EVENTS\n\
         okws serve CONFIG --port PORT --serve COUNT [--doors DOORS] [--store FILE] [--log FILE] [--audit FILE]\n";
     for line in ["", "help serve", "check", "other", "drill 01 1"] {
-        let text = told(rt.alloc(), line)?;
+        let text = told(&rt, rt.alloc(), line);
         assert!(rt; text.as_str().ends_with(usage), "at {line}: {text}");
     }
-    Ok(())
 }
 
 /// Whether `clap` takes the words of a line: all that is told of such is how numbers are written.
-fn is_taken(alloc: Global, line: &str) -> Result<bool, AllocError> {
-    let text = told(alloc, line)?;
-    Ok(text.as_str().contains("without sign or leading zero"))
+fn is_taken(rt: &impl Abort, alloc: Global, line: &str) -> bool {
+    told(rt, alloc, line)
+        .as_str()
+        .contains("without sign or leading zero")
 }
 
 #[test]
-fn clap_takes_what_is_a_command(rt: HostRuntime) -> Result<(), Fail> {
+fn clap_takes_what_is_a_command(rt: HostRuntime) {
     for line in [
         "check site",
         "check -- --site",
@@ -98,13 +95,12 @@ fn clap_takes_what_is_a_command(rt: HostRuntime) -> Result<(), Fail> {
         "drill +1 1",
         "serve site --port 080 --serve 10",
     ] {
-        assert!(rt; is_taken(rt.alloc(), line)?, "at {line}");
+        assert!(rt; is_taken(&rt, rt.alloc(), line), "at {line}");
     }
-    Ok(())
 }
 
 #[test]
-fn clap_refuses_what_is_no_command(rt: HostRuntime) -> Result<(), Fail> {
+fn clap_refuses_what_is_no_command(rt: HostRuntime) {
     for line in [
         "",
         "check",
@@ -122,7 +118,6 @@ fn clap_refuses_what_is_no_command(rt: HostRuntime) -> Result<(), Fail> {
         "serve site --port 80 --serve 10 -p 1",
         "serve site -- --port 80 --serve 10",
     ] {
-        assert!(rt; !is_taken(rt.alloc(), line)?, "at {line}");
+        assert!(rt; !is_taken(&rt, rt.alloc(), line), "at {line}");
     }
-    Ok(())
 }

@@ -1,32 +1,34 @@
 //! Which command the words are.
 
 use command_line::command::{Command, Server, command_of};
-use std::alloc::{AllocError, Global};
-use std::test::Fail;
+use std::alloc::Global;
+use std::process::Abort;
+
+pub(crate) const MEMORY: &str = "memory was refused";
 
 /// The words of a line, which spaces part.
-pub(crate) fn words_of(alloc: Global, line: &str) -> Result<Vec<String>, AllocError> {
+pub(crate) fn words_of(rt: &impl Abort, alloc: Global, line: &str) -> Vec<String> {
     let mut words = Vec::new(alloc);
     for word in line.split(' ') {
-        words.push(String::from_str(alloc, word)?)?;
+        let word = String::from_str(alloc, word).expect(rt, MEMORY);
+        words.push(word).expect(rt, MEMORY);
     }
-    Ok(words)
+    words
 }
 
 /// Whether the words of a line are this command.
-fn is(alloc: Global, line: &str, want: &Command<'_>) -> Result<bool, AllocError> {
-    let words = words_of(alloc, line)?;
-    match command_of(alloc, &words)? {
-        Some(found) => Ok(found == *want),
-        None => Ok(false),
+fn is(rt: &impl Abort, alloc: Global, line: &str, want: &Command<'_>) -> bool {
+    let words = words_of(rt, alloc, line);
+    match command_of(alloc, &words).expect(rt, MEMORY) {
+        Some(found) => found == *want,
+        None => false,
     }
 }
 
 /// Whether the words of a line are no command.
-fn is_none(alloc: Global, line: &str) -> Result<bool, AllocError> {
-    let words = words_of(alloc, line)?;
-    let found = command_of(alloc, &words)?;
-    Ok(found.is_none())
+fn is_none(rt: &impl Abort, alloc: Global, line: &str) -> bool {
+    let words = words_of(rt, alloc, line);
+    command_of(alloc, &words).expect(rt, MEMORY).is_none()
 }
 
 const SERVER: Server<'static> = Server {
@@ -40,7 +42,7 @@ const SERVER: Server<'static> = Server {
 };
 
 #[test]
-fn small_commands_are_read(rt: HostRuntime) -> Result<(), Fail> {
+fn small_commands_are_read(rt: HostRuntime) {
     for (line, want) in [
         ("check site", Command::Check { config: "site" }),
         ("check -- --site", Command::Check { config: "--site" }),
@@ -61,13 +63,12 @@ fn small_commands_are_read(rt: HostRuntime) -> Result<(), Fail> {
         ),
         ("drill 0 0", Command::Drill { seed: 0, events: 0 }),
     ] {
-        assert!(rt; is(rt.alloc(), line, &want)?, "at {line}");
+        assert!(rt; is(&rt, rt.alloc(), line, &want), "at {line}");
     }
-    Ok(())
 }
 
 #[test]
-fn servers_are_read(rt: HostRuntime) -> Result<(), Fail> {
+fn servers_are_read(rt: HostRuntime) {
     let mut every = SERVER;
     every.port = 65_535;
     every.doors = 64;
@@ -84,13 +85,15 @@ fn servers_are_read(rt: HostRuntime) -> Result<(), Fail> {
             every,
         ),
     ] {
-        assert!(rt; is(rt.alloc(), line, &Command::Serve(want))?, "at {line}");
+        assert!(rt;
+            is(&rt, rt.alloc(), line, &Command::Serve(want)),
+            "at {line}"
+        );
     }
-    Ok(())
 }
 
 #[test]
-fn other_words_are_no_command(rt: HostRuntime) -> Result<(), Fail> {
+fn other_words_are_no_command(rt: HostRuntime) {
     for line in [
         "",
         "help",
@@ -109,13 +112,12 @@ fn other_words_are_no_command(rt: HostRuntime) -> Result<(), Fail> {
         "drill 18446744073709551616 1",
         "drill 1 100001",
     ] {
-        assert!(rt; is_none(rt.alloc(), line)?, "at {line}");
+        assert!(rt; is_none(&rt, rt.alloc(), line), "at {line}");
     }
-    Ok(())
 }
 
 #[test]
-fn other_servers_are_no_command(rt: HostRuntime) -> Result<(), Fail> {
+fn other_servers_are_no_command(rt: HostRuntime) {
     for line in [
         "serve site",
         "serve site --port 80",
@@ -136,7 +138,6 @@ fn other_servers_are_no_command(rt: HostRuntime) -> Result<(), Fail> {
         "serve site --port 80 --serve 10 -p 1",
         "serve site -- --port 80 --serve 10",
     ] {
-        assert!(rt; is_none(rt.alloc(), line)?, "at {line}");
+        assert!(rt; is_none(&rt, rt.alloc(), line), "at {line}");
     }
-    Ok(())
 }

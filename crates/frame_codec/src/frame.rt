@@ -4,7 +4,6 @@ use okws_base::items::Items;
 use okws_base::value::{Row, Token, Value};
 
 /// What a service says.
-#[derive(Drop)]
 pub enum ServiceFrame {
     /// Asks a database proxy for a session, and shows it a token.
     Open {
@@ -31,6 +30,32 @@ pub enum ServiceFrame {
     },
 }
 
+impl Drop for ServiceFrame {
+    fn drop(self) {
+        match self {
+            ServiceFrame::Call {
+                proxy: _,
+                session: _,
+                query: _,
+                args,
+            } => drop(args),
+            ServiceFrame::Get(it) => drop(it),
+            ServiceFrame::Log(it) => drop(it),
+            ServiceFrame::Reply {
+                status: _,
+                content_type,
+                location,
+                content,
+            } => {
+                drop(content_type);
+                drop(location);
+                drop(content);
+            }
+            ServiceFrame::Open { proxy: _, shown: _ } => {}
+        }
+    }
+}
+
 /// A token, and the proxy for which it was made.
 #[derive(Clone, Copy, PartialEq, Eq)]
 pub struct Issued {
@@ -39,7 +64,6 @@ pub struct Issued {
 }
 
 /// What a service hears.
-#[derive(Drop)]
 pub enum ServerFrame {
     /// Tells a service which incarnation it is, and gives it at most 255 tokens.
     Boot {
@@ -82,4 +106,40 @@ pub enum ServerFrame {
     NoMemory,
     /// Answers a Call whose insertion would give a key twice.
     Duplicate,
+}
+
+impl Drop for ServerFrame {
+    fn drop(self) {
+        match self {
+            ServerFrame::Boot {
+                service: _,
+                incarnation: _,
+                tokens,
+            } => drop(tokens),
+            ServerFrame::Request { head, content } => {
+                drop(head);
+                drop(content);
+            }
+            ServerFrame::Push {
+                template,
+                edition: _,
+                content,
+            } => {
+                drop(template);
+                drop(content);
+            }
+            ServerFrame::Rows { columns: _, rows } => drop(rows),
+            ServerFrame::Template {
+                edition: _,
+                content,
+            } => drop(content),
+            ServerFrame::Opened(_)
+            | ServerFrame::Changed(_)
+            | ServerFrame::Logged
+            | ServerFrame::Denied(_)
+            | ServerFrame::Failed
+            | ServerFrame::NoMemory
+            | ServerFrame::Duplicate => {}
+        }
+    }
 }

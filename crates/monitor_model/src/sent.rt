@@ -7,10 +7,19 @@ use okws_base::told::{Says, Told};
 use std::marker::Model;
 
 /// What the link of an incarnation was given, where it tells.
-#[derive(Drop)]
 pub struct Sent {
     pub incarnation: u32,
     pub given: Option<Items<u8>>,
+}
+
+impl Drop for Sent {
+    fn drop(self) {
+        let Sent {
+            incarnation: _,
+            given,
+        } = self;
+        drop(given);
+    }
 }
 
 /// What the links of a cell's incarnations were given, the last one first. It has no bytes: contracts

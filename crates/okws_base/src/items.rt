@@ -26,9 +26,15 @@ impl Exact for u16 {
 }
 
 /// A list of items, which contracts see as their list.
-#[derive(Drop)]
 pub struct Items<T> {
     items: Vec<T>,
+}
+
+impl<T: Drop> Drop for Items<T> {
+    fn drop(self) {
+        let Items { items } = self;
+        drop(items);
+    }
 }
 
 impl<T> Model for Items<T> {
@@ -51,7 +57,8 @@ impl<T> Items<T> {
     pub fn into_vec(self) -> Vec<T>
         ensures { result.items ≡ self }
     {
-        self.items
+        let Items { items } = self;
+        items
     }
 
     pub fn as_slice(&self) -> &[T]

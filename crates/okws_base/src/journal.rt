@@ -8,10 +8,16 @@ use std::alloc::{AllocError, Global};
 use std::marker::Model;
 
 /// One event, and the number of the worker that made it.
-#[derive(Drop)]
 pub struct Entry<E> {
     pub worker: u16,
     pub event: E,
+}
+
+impl<E: Drop> Drop for Entry<E> {
+    fn drop(self) {
+        let Entry { worker: _, event } = self;
+        drop(event);
+    }
 }
 
 impl<E: Exact> Exact for Entry<E> {
@@ -25,11 +31,21 @@ impl<E: Exact> Exact for Entry<E> {
 
 /// What happened, seen as a list with the newest first. Its items are in memory where they were
 /// kept; otherwise it is known to proofs alone, and has no bytes.
-#[derive(Drop)]
 pub struct Past<T> {
     keeps: bool,
     items: Vec<T>,
     told: Told<T>,
+}
+
+impl<T: Drop> Drop for Past<T> {
+    fn drop(self) {
+        let Past {
+            keeps: _,
+            items,
+            told: _,
+        } = self;
+        drop(items);
+    }
 }
 
 impl<T> Model for Past<T> {
@@ -73,11 +89,21 @@ impl<T: Exact> Exact for Past<T> {
 /// A list that grows at its end and keeps room ahead: contracts see what was entered, the newest
 /// first, for how many more entries there is room, and whether the items are kept. Where they aren't,
 /// an entered item is let go at once, and the list takes no memory.
-#[derive(Drop)]
 pub struct Journal<T> {
     keeps: bool,
     items: Vec<T>,
     told: Told<T>,
+}
+
+impl<T: Drop> Drop for Journal<T> {
+    fn drop(self) {
+        let Journal {
+            keeps: _,
+            items,
+            told: _,
+        } = self;
+        drop(items);
+    }
 }
 
 impl<T> Model for Journal<T> {
@@ -164,10 +190,7 @@ impl<T: Drop> Journal<T> {
     pub fn into_past(self) -> Past<T>
         ensures { result ≡ self.past }
     {
-        Past {
-            keeps: self.keeps,
-            items: self.items,
-            told: self.told,
-        }
+        let Journal { keeps, items, told } = self;
+        Past { keeps, items, told }
     }
 }

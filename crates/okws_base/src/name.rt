@@ -11,9 +11,15 @@ use std::marker::Model;
 
 /// The name of a proxy, a service or a template: 1 to 64 bytes of letters, digits, `_`, `-` and
 /// `.`. Names are compared byte by byte.
-#[derive(Drop)]
 pub struct Name {
     bytes: Items<u8>,
+}
+
+impl Drop for Name {
+    fn drop(self) {
+        let Name { bytes } = self;
+        drop(bytes);
+    }
 }
 
 impl Model for Name {
@@ -77,9 +83,15 @@ pub fn is_a_name(bytes: &[u8]) -> bool
 
 /// The name of a table or a column: 1 to 64 bytes, a letter or `_` first, then letters, digits and
 /// `_`, and no keyword of the query language in any ASCII case. Identifiers are compared byte by byte.
-#[derive(Drop)]
 pub struct Identifier {
     bytes: Items<u8>,
+}
+
+impl Drop for Identifier {
+    fn drop(self) {
+        let Identifier { bytes } = self;
+        drop(bytes);
+    }
 }
 
 impl Model for Identifier {
@@ -213,9 +225,15 @@ pub fn is_an_identifier(bytes: &[u8]) -> bool
 
 /// A path that a service owns: 1 to 1,024 bytes 33 to 126 without `?` and `#`, `/` first. Paths
 /// are compared byte by byte, undecoded.
-#[derive(Drop)]
 pub struct Path {
     bytes: Items<u8>,
+}
+
+impl Drop for Path {
+    fn drop(self) {
+        let Path { bytes } = self;
+        drop(bytes);
+    }
 }
 
 impl Model for Path {

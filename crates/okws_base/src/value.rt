@@ -9,9 +9,15 @@ use std::cmp::Ordering;
 use std::marker::Model;
 
 /// A text of UTF-8, seen as its bytes.
-#[derive(Drop)]
 pub struct Text {
     text: String,
+}
+
+impl Drop for Text {
+    fn drop(self) {
+        let Text { text } = self;
+        drop(text);
+    }
 }
 
 impl Model for Text {

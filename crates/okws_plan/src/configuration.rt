@@ -10,11 +10,21 @@ use okws_base::value::{Kind, Row};
 use std::alloc::{AllocError, Global};
 
 /// A column of a table; `key` marks the one whose values may stand in one row only.
-#[derive(Drop)]
 pub struct Column {
     pub name: Identifier,
     pub kind: Kind,
     pub key: bool,
+}
+
+impl Drop for Column {
+    fn drop(self) {
+        let Column {
+            name,
+            kind: _,
+            key: _,
+        } = self;
+        drop(name);
+    }
 }
 
 impl Exact for Column {
@@ -28,11 +38,23 @@ impl Exact for Column {
 }
 
 /// A table of a proxy, with the rows that it has when a run begins.
-#[derive(Drop)]
 pub struct Table {
     pub name: Identifier,
     pub columns: Items<Column>,
     pub first: Items<Row>,
+}
+
+impl Drop for Table {
+    fn drop(self) {
+        let Table {
+            name,
+            columns,
+            first,
+        } = self;
+        drop(name);
+        drop(columns);
+        drop(first);
+    }
 }
 
 impl Exact for Table {
@@ -46,32 +68,66 @@ impl Exact for Table {
 }
 
 /// A query of a proxy; numbers are 0 to 65,535 and need not follow one another.
-#[derive(Drop)]
 pub struct Query {
     pub number: u16,
     pub statement: Statement,
 }
 
+impl Drop for Query {
+    fn drop(self) {
+        let Query {
+            number: _,
+            statement,
+        } = self;
+        drop(statement);
+    }
+}
+
 /// A database proxy: its tables and the queries that may be called there.
-#[derive(Drop)]
 pub struct ProxyPlan {
     pub name: Name,
     pub tables: Items<Table>,
     pub queries: Items<Query>,
 }
 
+impl Drop for ProxyPlan {
+    fn drop(self) {
+        let ProxyPlan {
+            name,
+            tables,
+            queries,
+        } = self;
+        drop(name);
+        drop(tables);
+        drop(queries);
+    }
+}
+
 /// A service, and the words that start its program.
-#[derive(Drop)]
 pub struct ServicePlan {
     pub name: Name,
     pub words: Items<Items<u8>>,
 }
 
+impl Drop for ServicePlan {
+    fn drop(self) {
+        let ServicePlan { name, words } = self;
+        drop(name);
+        drop(words);
+    }
+}
+
 /// A path that a service owns.
-#[derive(Drop)]
 pub struct Owned {
     pub path: Path,
     pub service: u16,
+}
+
+impl Drop for Owned {
+    fn drop(self) {
+        let Owned { path, service: _ } = self;
+        drop(path);
+    }
 }
 
 /// A query of a proxy that a service may call.
@@ -91,7 +147,6 @@ pub struct Readable {
 
 /// What an operator's file says of a site. Proxies, services and templates are numbered from 0 in
 /// the order of their declaration; `retry` is the number of tries after which a service is given up.
-#[derive(Drop)]
 pub struct Config {
     pub proxies: Items<ProxyPlan>,
     pub services: Items<ServicePlan>,
@@ -101,6 +156,28 @@ pub struct Config {
     pub grants: Items<Granted>,
     pub readables: Items<Readable>,
     pub loggers: Items<u16>,
+}
+
+impl Drop for Config {
+    fn drop(self) {
+        let Config {
+            proxies,
+            services,
+            templates,
+            retry: _,
+            paths,
+            grants,
+            readables,
+            loggers,
+        } = self;
+        drop(proxies);
+        drop(services);
+        drop(templates);
+        drop(paths);
+        drop(grants);
+        drop(readables);
+        drop(loggers);
+    }
 }
 
 /// The name of the service, or nothing where there is none of this number.

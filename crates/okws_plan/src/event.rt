@@ -4,11 +4,26 @@ use okws_base::items::Items;
 use okws_base::value::{Token, Value};
 
 /// What okd enters: which incarnation of a service is up, and the paths of accepted requests.
-#[derive(Drop)]
 pub enum OkdEvent {
     Up { service: u16, incarnation: u32 },
     Down { service: u16, incarnation: u32 },
     Accept(Items<u8>),
+}
+
+impl Drop for OkdEvent {
+    fn drop(self) {
+        match self {
+            OkdEvent::Accept(it) => drop(it),
+            OkdEvent::Up {
+                service: _,
+                incarnation: _,
+            }
+            | OkdEvent::Down {
+                service: _,
+                incarnation: _,
+            } => {}
+        }
+    }
 }
 
 /// Whether the keeper of the rows did what an allowed call asked.
@@ -19,7 +34,6 @@ pub enum Mark {
 }
 
 /// A call of a query on a session of an incarnation; sessions count from 0.
-#[derive(Drop)]
 pub struct Call {
     pub service: u16,
     pub incarnation: u32,
@@ -28,8 +42,20 @@ pub struct Call {
     pub args: Items<Value>,
 }
 
+impl Drop for Call {
+    fn drop(self) {
+        let Call {
+            service: _,
+            incarnation: _,
+            session: _,
+            query: _,
+            args,
+        } = self;
+        drop(args);
+    }
+}
+
 /// What a database proxy enters.
-#[derive(Drop)]
 pub enum ProxyEvent {
     Install {
         service: u16,
@@ -48,8 +74,29 @@ pub enum ProxyEvent {
     Call(Call, Mark),
 }
 
+impl Drop for ProxyEvent {
+    fn drop(self) {
+        match self {
+            ProxyEvent::Call(it, _) => drop(it),
+            ProxyEvent::Install {
+                service: _,
+                incarnation: _,
+                token: _,
+            }
+            | ProxyEvent::Revoke {
+                service: _,
+                incarnation: _,
+            }
+            | ProxyEvent::Open {
+                service: _,
+                incarnation: _,
+                shown: _,
+            } => {}
+        }
+    }
+}
+
 /// What the template publisher enters. A Get carries the name that was asked for, of any bytes.
-#[derive(Drop)]
 pub enum PubdEvent {
     Install {
         service: u16,
@@ -74,8 +121,35 @@ pub enum PubdEvent {
     },
 }
 
+impl Drop for PubdEvent {
+    fn drop(self) {
+        match self {
+            PubdEvent::Publish {
+                template: _,
+                content,
+            } => drop(content),
+            PubdEvent::Get {
+                service: _,
+                incarnation: _,
+                name,
+            } => drop(name),
+            PubdEvent::Install {
+                service: _,
+                incarnation: _,
+            }
+            | PubdEvent::Revoke {
+                service: _,
+                incarnation: _,
+            }
+            | PubdEvent::Drain {
+                service: _,
+                incarnation: _,
+            } => {}
+        }
+    }
+}
+
 /// What the log daemon enters.
-#[derive(Drop)]
 pub enum LogEvent {
     Install {
         service: u16,
@@ -90,6 +164,26 @@ pub enum LogEvent {
         incarnation: u32,
         text: Items<u8>,
     },
+}
+
+impl Drop for LogEvent {
+    fn drop(self) {
+        match self {
+            LogEvent::Log {
+                service: _,
+                incarnation: _,
+                text,
+            } => drop(text),
+            LogEvent::Install {
+                service: _,
+                incarnation: _,
+            }
+            | LogEvent::Revoke {
+                service: _,
+                incarnation: _,
+            } => {}
+        }
+    }
 }
 
 /// What the launcher enters: an incarnation begun, a start that failed, a crash, a service given up

@@ -4,10 +4,18 @@ use okws_base::items::Items;
 use okws_base::value::{Kind, Row, Value};
 
 /// A value of a statement: a parameter by its number from 1, or a literal.
-#[derive(Drop)]
 pub enum Operand {
     Parameter(u8),
     Literal(Value),
+}
+
+impl Drop for Operand {
+    fn drop(self) {
+        match self {
+            Operand::Parameter(_) => {}
+            Operand::Literal(it) => drop(it),
+        }
+    }
 }
 
 /// How a condition compares: `=`, `<>`, `<`, `<=`, `>`, `>=`.
@@ -22,23 +30,38 @@ pub enum Comparison {
 }
 
 /// A column compared with an operand.
-#[derive(Drop)]
 pub struct Condition {
     pub column: u8,
     pub comparison: Comparison,
     pub operand: Operand,
 }
 
+impl Drop for Condition {
+    fn drop(self) {
+        let Condition {
+            column: _,
+            comparison: _,
+            operand,
+        } = self;
+        drop(operand);
+    }
+}
+
 /// A column that is set.
-#[derive(Drop)]
 pub struct Assignment {
     pub column: u8,
     pub operand: Operand,
 }
 
+impl Drop for Assignment {
+    fn drop(self) {
+        let Assignment { column: _, operand } = self;
+        drop(operand);
+    }
+}
+
 /// What a SELECT lists of the rows that meet all its conditions, by which column they are ordered,
 /// if by any, and how many come at the most.
-#[derive(Drop)]
 pub struct Selection {
     pub columns: Items<u8>,
     pub conditions: Items<Condition>,
@@ -46,8 +69,20 @@ pub struct Selection {
     pub limit: Option<u32>,
 }
 
+impl Drop for Selection {
+    fn drop(self) {
+        let Selection {
+            columns,
+            conditions,
+            order: _,
+            limit: _,
+        } = self;
+        drop(columns);
+        drop(conditions);
+    }
+}
+
 /// What a statement does at its table.
-#[derive(Drop)]
 pub enum Action {
     Select(Selection),
     Insert {
@@ -62,12 +97,44 @@ pub enum Action {
     },
 }
 
+impl Drop for Action {
+    fn drop(self) {
+        match self {
+            Action::Select(it) => drop(it),
+            Action::Insert { values } => {
+                drop(values);
+            }
+            Action::Update {
+                assignments,
+                conditions,
+            } => {
+                drop(assignments);
+                drop(conditions);
+            }
+            Action::Delete { conditions } => {
+                drop(conditions);
+            }
+        }
+    }
+}
+
 /// A statement over one table, and the kinds of its parameters.
-#[derive(Drop)]
 pub struct Statement {
     pub table: u8,
     pub parameters: Items<Kind>,
     pub action: Action,
+}
+
+impl Drop for Statement {
+    fn drop(self) {
+        let Statement {
+            table: _,
+            parameters,
+            action,
+        } = self;
+        drop(parameters);
+        drop(action);
+    }
 }
 
 /// What a statement answers: rows, each of so many columns; how many rows met the conditions, or 1

@@ -15,6 +15,7 @@ use okws_outer::keeper::{Keeper, RunError};
 use okws_outer::stores::Stores;
 use okws_plan::configuration::{Config, ProxyPlan, Table};
 use std::alloc::Global;
+use std::mem;
 use store_keeper::StoredKeeper;
 use store_keeper::loading::read_tables;
 
@@ -119,7 +120,7 @@ pub fn open_site<S: Stores>(
     ensures failed { IsErrOf result MakeError.Failed → HasFailed (S.depot stores.old) (S.depot stores.new) }
     ensures spared { IsErrOf result MakeError.NoMemory → (S.depot stores.new).faults ≡ (S.depot stores.old).faults }
 {
-    let mut plans = config.proxies.into_vec();
+    let mut plans = mem::replace(&mut config.proxies, Items::of(Vec::new(alloc))).into_vec();
     let count = plans.len();
     let mut keepers = Vec::with_capacity(alloc, count)?;
     for proxy in 0..count {

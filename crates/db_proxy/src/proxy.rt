@@ -50,7 +50,6 @@ impl Granting for ProxyColumn {
 }
 
 /// The column of a database proxy: a value that stands for its journal.
-#[derive(Drop)]
 pub struct Proxy<K: Keeper> {
     alloc: Global,
     config: Arc<Config, Global>,
@@ -59,6 +58,23 @@ pub struct Proxy<K: Keeper> {
     keeper: K,
     // The seed of the tokens that are issued, which proofs alone know.
     seed: Told<Seed>,
+}
+
+impl<K: Keeper + Drop> Drop for Proxy<K> {
+    fn drop(self) {
+        let Proxy {
+            alloc: _,
+            config,
+            number: _,
+            head,
+            keeper,
+            seed,
+        } = self;
+        drop(config);
+        drop(head);
+        drop(keeper);
+        drop(seed);
+    }
 }
 
 impl<K: Keeper> Model for Proxy<K> {
@@ -119,7 +135,15 @@ impl<K: Keeper> Proxy<K> {
         ensures steady { K.steady result.1 ≡ self.steady }
         ensures tables { K.tables result.1 ≡ tables self.config self.number }
     {
-        (self.head.close(), self.keeper)
+        let Proxy {
+            alloc: _,
+            config: _,
+            number: _,
+            head,
+            keeper,
+            seed: _,
+        } = self;
+        (head.close(), keeper)
     }
 
     /// The incarnation of the service that stands.

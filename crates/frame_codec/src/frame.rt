@@ -64,6 +64,7 @@ pub struct Issued {
 }
 
 /// What a service hears.
+#[derive(Drop)]
 pub enum ServerFrame {
     /// Tells a service which incarnation it is, and gives it at most 255 tokens.
     Boot {
@@ -106,40 +107,4 @@ pub enum ServerFrame {
     NoMemory,
     /// Answers a Call whose insertion would give a key twice.
     Duplicate,
-}
-
-impl Drop for ServerFrame {
-    fn drop(self) {
-        match self {
-            ServerFrame::Boot {
-                service: _,
-                incarnation: _,
-                tokens,
-            } => drop(tokens),
-            ServerFrame::Request { head, content } => {
-                drop(head);
-                drop(content);
-            }
-            ServerFrame::Push {
-                template,
-                edition: _,
-                content,
-            } => {
-                drop(template);
-                drop(content);
-            }
-            ServerFrame::Rows { columns: _, rows } => drop(rows),
-            ServerFrame::Template {
-                edition: _,
-                content,
-            } => drop(content),
-            ServerFrame::Opened(_)
-            | ServerFrame::Changed(_)
-            | ServerFrame::Logged
-            | ServerFrame::Denied(_)
-            | ServerFrame::Failed
-            | ServerFrame::NoMemory
-            | ServerFrame::Duplicate => {}
-        }
-    }
 }

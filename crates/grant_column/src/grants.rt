@@ -41,12 +41,24 @@ pub struct Issue {
 }
 
 /// The grants of one column: contracts see them as finite maps.
-#[derive(Drop)]
 pub struct Grants {
     services: Vec<Service>,
     // How many sessions the incarnations before the last ones opened.
     ended: HashMap<Incarnation, u32>,
     issues: HashMap<Issue, u32>,
+}
+
+impl Drop for Grants {
+    fn drop(self) {
+        let Grants {
+            services,
+            ended,
+            issues,
+        } = self;
+        drop(services);
+        drop(ended);
+        drop(issues);
+    }
 }
 
 impl Model for Grants {

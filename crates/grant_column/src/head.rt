@@ -25,11 +25,22 @@ pub trait Granting {
 
 /// The journal of a column, what it says of the incarnations that stand, and the number that new
 /// entries name. Room is kept in the journal for the revocation of each incarnation that stands.
-#[derive(Drop)]
 pub struct Head<G: Granting> {
     journal: Journal<Entry<G::Event>>,
     grants: Grants,
     holder: u16,
+}
+
+impl<G: Granting> Drop for Head<G> {
+    fn drop(self) {
+        let Head {
+            journal,
+            grants,
+            holder: _,
+        } = self;
+        drop(journal);
+        drop(grants);
+    }
 }
 
 impl<G: Granting> Model for Head<G> {
@@ -214,6 +225,11 @@ impl<G: Granting> Head<G> {
     pub fn close(self) -> Past<Entry<G::Event>>
         ensures { result ≡ self.past }
     {
-        self.journal.into_past()
+        let Head {
+            journal,
+            grants: _,
+            holder: _,
+        } = self;
+        journal.into_past()
     }
 }

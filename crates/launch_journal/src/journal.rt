@@ -38,12 +38,25 @@ const BLANK: Tally = Tally {
 
 /// The launcher's journal of a site, which keeps the launcher's law. Each call enters at most one event,
 /// under the holder's number, and takes no memory: the room for it is made before.
-#[derive(Drop)]
 pub struct LaunchJournal {
     config: Arc<Config, Global>,
     journal: Journal<Entry<LauncherEvent>>,
     tallies: Vec<Tally>,
     holder: u16,
+}
+
+impl Drop for LaunchJournal {
+    fn drop(self) {
+        let LaunchJournal {
+            config,
+            journal,
+            tallies,
+            holder: _,
+        } = self;
+        drop(config);
+        drop(journal);
+        drop(tallies);
+    }
 }
 
 impl Model for LaunchJournal {
@@ -268,7 +281,13 @@ impl LaunchJournal {
         ensures past { result ≡ self.past }
         ensures law { LauncherLaw self.config result }
     {
-        self.journal.into_past()
+        let LaunchJournal {
+            config: _,
+            journal,
+            tallies: _,
+            holder: _,
+        } = self;
+        journal.into_past()
     }
 }
 

@@ -51,7 +51,6 @@ pub enum WriteOut {
 }
 
 /// The log column of a site: a value that stands for its journal.
-#[derive(Drop)]
 pub struct LogDaemon<S: Sink> {
     alloc: Global,
     config: Arc<Config, Global>,
@@ -60,6 +59,23 @@ pub struct LogDaemon<S: Sink> {
     // The end of the log's text that the sink wasn't given yet.
     due: Vec<u8>,
     stopped: bool,
+}
+
+impl<S: Sink + Drop> Drop for LogDaemon<S> {
+    fn drop(self) {
+        let LogDaemon {
+            alloc: _,
+            config,
+            head,
+            sink,
+            due,
+            stopped: _,
+        } = self;
+        drop(config);
+        drop(head);
+        drop(sink);
+        drop(due);
+    }
 }
 
 impl<S: Sink> Model for LogDaemon<S> {
@@ -106,7 +122,15 @@ impl<S: Sink> LogDaemon<S> {
         ensures given { S.given result.1 ≡ self.given }
         ensures faults { S.faults result.1 ≡ self.faults }
     {
-        (self.head.close(), self.sink)
+        let LogDaemon {
+            alloc: _,
+            config: _,
+            head,
+            sink,
+            due: _,
+            stopped: _,
+        } = self;
+        (head.close(), sink)
     }
 
     /// The incarnation of the service that stands.

@@ -24,13 +24,26 @@ use std::sync::Arc;
 use turn_lock::Journaled;
 
 /// The column of okd, which tells where requests go: a value that stands for its journal.
-#[derive(Drop)]
 pub struct Okd {
     config: Arc<Config, Global>,
     journal: Journal<Entry<OkdEvent>>,
     // The incarnation of each service that is up.
     ups: Vec<Option<u32>>,
     holder: u16,
+}
+
+impl Drop for Okd {
+    fn drop(self) {
+        let Okd {
+            config,
+            journal,
+            ups,
+            holder: _,
+        } = self;
+        drop(config);
+        drop(journal);
+        drop(ups);
+    }
 }
 
 impl Model for Okd {
@@ -151,7 +164,13 @@ impl Okd {
         ensures past { result ≡ self.past }
         ensures law { OkdLaw result }
     {
-        self.journal.into_past()
+        let Okd {
+            config: _,
+            journal,
+            ups: _,
+            holder: _,
+        } = self;
+        journal.into_past()
     }
 }
 

@@ -32,7 +32,6 @@ use std::sync::Arc;
 use turn_lock::Journaled;
 
 /// The template column of a site: a value that stands for its journal.
-#[derive(Drop)]
 pub struct Pubd {
     alloc: Global,
     config: Arc<Config, Global>,
@@ -45,6 +44,25 @@ pub struct Pubd {
     publications: Vec<Publication>,
     // The incarnations that have taken what was due, and stand or may yet stand.
     readers: Vec<Reader>,
+}
+
+impl Drop for Pubd {
+    fn drop(self) {
+        let Pubd {
+            alloc: _,
+            config,
+            head,
+            currents,
+            count: _,
+            publications,
+            readers,
+        } = self;
+        drop(config);
+        drop(head);
+        drop(currents);
+        drop(publications);
+        drop(readers);
+    }
 }
 
 // The template column, as one that grants.
@@ -96,7 +114,16 @@ impl Pubd {
         ensures past { result ≡ self.past }
         ensures law { PubdLaw self.config result }
     {
-        self.head.close()
+        let Pubd {
+            alloc: _,
+            config: _,
+            head,
+            currents: _,
+            count: _,
+            publications: _,
+            readers: _,
+        } = self;
+        head.close()
     }
 
     /// The incarnation of the service that stands.

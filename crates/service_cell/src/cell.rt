@@ -31,7 +31,6 @@ use std::sync::Arc;
 use token_core::Seed;
 
 /// What stands of one service: the link to its program, its incarnation, and what happened.
-#[derive(Drop)]
 pub struct Cell<L: Link> {
     pub(crate) alloc: Global,
     config: Arc<Config, Global>,
@@ -44,6 +43,29 @@ pub struct Cell<L: Link> {
     pub(crate) speaking: Option<Speaking>,
     pub(crate) wire: Option<L>,
     sent: Sents,
+}
+
+impl<L: Link + Drop> Drop for Cell<L> {
+    fn drop(self) {
+        let Cell {
+            alloc: _,
+            config,
+            seed: _,
+            service: _,
+            incarnation: _,
+            last_booted: _,
+            keeps: _,
+            events,
+            speaking,
+            wire,
+            sent,
+        } = self;
+        drop(config);
+        drop(events);
+        drop(speaking);
+        drop(wire);
+        drop(sent);
+    }
 }
 
 impl<L: Link> Model for Cell<L> {

@@ -14,13 +14,25 @@ use std::alloc::{AllocError, Global};
 use std::marker::Model;
 
 /// A dialog that ended. Contracts see it whole; its end and its Reply are at hand.
-#[derive(Drop)]
 pub struct Finished {
     worker: u16,
     // All but its Reply.
     items: Journal<Item>,
     reply: Option<ServiceFrame>,
     end: End,
+}
+
+impl Drop for Finished {
+    fn drop(self) {
+        let Finished {
+            worker: _,
+            items,
+            reply,
+            end: _,
+        } = self;
+        drop(items);
+        drop(reply);
+    }
 }
 
 impl Model for Finished {
@@ -98,10 +110,17 @@ impl Finished {
 
 /// The events of a cell, seen as a journal. Of a dialog that is the last one the end and the Reply stay
 /// in memory.
-#[derive(Drop)]
 pub(crate) struct Events {
     journal: Journal<CellEvent>,
     last: Option<Finished>,
+}
+
+impl Drop for Events {
+    fn drop(self) {
+        let Events { journal, last } = self;
+        drop(journal);
+        drop(last);
+    }
 }
 
 impl Model for Events {

@@ -33,12 +33,24 @@ use turn_lock::Journaled;
 /// A cell of a run as it stands behind its lock: by its type no dialog is open at it, and its site and
 /// its seed are the run's. Each call enters at most one event, under the holder's number. What is entered at
 /// the lock tells whether the link is there: taking it out is entered too where that is no event of the cell.
-#[derive(Drop)]
 pub struct SiteCell<N: Numbered, L: Link> {
     holder: u16,
     cell: Cell<L>,
     entered: Entered,
     of: PhantomData<N>,
+}
+
+impl<N: Numbered, L: Link + Drop> Drop for SiteCell<N, L> {
+    fn drop(self) {
+        let SiteCell {
+            holder: _,
+            cell,
+            entered,
+            of: _,
+        } = self;
+        drop(cell);
+        drop(entered);
+    }
 }
 
 impl<N: Numbered, L: Link> Model for SiteCell<N, L> {

@@ -2,7 +2,6 @@
 //! it, and has a keeper run what is allowed. What lists rows may be started within a turn and finished after it.
 #![tactic(auto)]
 
-mod answering;
 mod granting;
 mod proxy;
 mod starting;

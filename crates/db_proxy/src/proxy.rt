@@ -20,7 +20,6 @@ ghost use Rattle.db_proxy.specs.Permit.{MayBeAnswered};
 ghost use Rattle.db_proxy.specs.Seen.{entered};
 ghost use Rattle.started_call.specs.Starting.{verdict_of, LeavesLength};
 
-use crate::answering::within;
 use crate::granting::{allowed, denial};
 use crate::starting::begin;
 use grant_column::{Granting, Head};
@@ -225,47 +224,12 @@ impl<K: Keeper> Proxy<K> {
         Ok(verdict)
     }
 
-    /// Decides a call, and has the keeper run its query where it is allowed. Its entry is marked as a
-    /// fault where the keeper failed, which leaves the rows as they were. A call that breaks a rule
-    /// leaves the count of faults. Over a keeper that tells no rows, what is answered is what the query
-    /// may answer: Duplicate comes of an INSERT into a table with a KEY alone. Where memory is refused,
-    /// all is as before.
-    pub fn call(&mut self, call: Call) -> Result<Verdict, AllocError>
-        requires { call.service < length self.old.config.services }
-        ensures entry { IfOk result (λ v. (mark : Mark) × (self.new.past ≡ record { worker = self.old.holder; event = event.Call call mark } ∷ self.old.past)
-            × (mark ≡ Mark.Fault → (call_denial self.old.config self.old.number self.old.past call ≡ None) × Rose self.old.faults self.new.faults)
-            × (self.old.steady ≡ true → mark ≡ Mark.Done)
-            × ((answer : Answer) × (v ≡ call_answer (call_denial self.old.config self.old.number self.old.past call) mark answer)
-            × (call_denial self.old.config self.old.number self.old.past call ≡ None → mark ≡ Mark.Done → self.old.told ≡ None → MayBeAnswered self.old.config self.old.number call answer))
-            × IfSome self.old.told (λ _. v ≡ call_verdict self.old.config self.old.number self.old.past call mark)) }
-        ensures rows { OnOk result (self.new.told ≡ option_map (λ _. rows self.new.config self.new.number self.new.past) self.old.told) }
-        ensures same { self.new ≡ record self.old { past = self.new.past; told = self.new.told; faults = self.new.faults } }
-        ensures later { self.old.faults ≤ self.new.faults }
-        ensures denied { IsSome (call_denial self.old.config self.old.number self.old.past call) → self.new.faults ≡ self.old.faults }
-        ensures err { OnErr result (self.new ≡ self.old) }
-    {
-        self.head.make_room()?;
-        let is_live = self.head.standing(call.service) == Some(call.incarnation);
-        let opened = self.head.opened(call.service, call.incarnation);
-        let (mark, verdict) = match allowed(&self.config, self.number, &call, is_live, opened) {
-            Err(rule) => (Mark::Done, Verdict::Denied(rule)),
-            Ok(query) => match self
-                .keeper
-                .run(self.alloc, &query.statement, call.args.as_slice())
-            {
-                Ok(answer) => (Mark::Done, within(answer)),
-                Err(RunError::Failed) => (Mark::Fault, Verdict::Failed),
-                Err(RunError::NoMemory) => return Err(AllocError),
-            },
-        };
-        self.head.enter(ProxyEvent::Call(call, mark));
-        Ok(verdict)
-    }
-
-    /// Decides a call and enters it, as `call` does, but leaves rows to be found by `finish` when the
-    /// turn is given back: the answer of a SELECT is pinned before the entry. Whether the rows' frame
-    /// is too long is left to `finish` too; what the two tell together is what `call` answers. Where
-    /// memory is refused, all is as before.
+    /// Decides a call, has the keeper run its query where it is allowed, and enters it. Rows are left to
+    /// be found by `finish` when the turn is given back: the answer of a SELECT is pinned before the entry.
+    /// Whether the rows' frame is too long is left to `finish` too. The entry is marked as a fault where the
+    /// keeper failed, which leaves the rows as they were. A call that breaks a rule leaves the count of
+    /// faults. Over a keeper that tells no rows, what is answered is what the query may answer: Duplicate
+    /// comes of an INSERT into a table with a KEY alone. Where memory is refused, all is as before.
     pub fn start(&mut self, call: Call) -> Result<Started<K::Pin>, AllocError>
         requires { call.service < length self.old.config.services }
         ensures entry { IfOk result (λ s. (mark : Mark) × (self.new.past ≡ record { worker = self.old.holder; event = event.Call call mark } ∷ self.old.past)

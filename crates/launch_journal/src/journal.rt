@@ -117,35 +117,11 @@ impl LaunchJournal {
         self.tally(service).greatest
     }
 
-    /// How many incarnations of the service were tried since it was asked for last.
-    pub fn tries(&self, service: u16) -> u32
-        ensures { result ≡ tries self.now.past service }
-    {
-        self.tally(service).tries
-    }
-
     /// After how many tries the service was given up, where nobody has asked for it since.
     pub fn given_up(&self, service: u16) -> Option<u32>
         ensures { result ≡ given_up self.now.past service }
     {
         self.tally(service).given_up
-    }
-
-    /// Whether the service was given up, and nobody has asked for it since.
-    pub fn is_dead(&self, service: u16) -> bool
-        ensures { result ≡ is_dead self.now.past service }
-    {
-        let _tallies = &self.tallies;
-        self.tally(service).given_up.is_some()
-    }
-
-    /// Whether the next incarnation of the service may begin, where there is one.
-    pub fn may_begin(&self, service: u16) -> bool
-        ensures { result ≡ may_begin self.now.config self.now.past service (begun self.now.past service + 1) }
-    {
-        let tally = self.tally(service);
-        let few = tally.tries == 0 || tally.tries < u32::from(self.config.retry);
-        few && tally.given_up.is_none()
     }
 
     /// Whether the service may be given up.

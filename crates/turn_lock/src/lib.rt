@@ -9,5 +9,5 @@ mod rule;
 mod turn;
 
 pub use journaled::Journaled;
-pub use row::{close_row, end_row, join_row, make_row};
+pub use row::{end_row, join_row, make_row};
 pub use turn::{Note, Seat, Turn};

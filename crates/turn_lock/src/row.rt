@@ -121,31 +121,3 @@ pub fn end_row<V: Journaled>(
     turns.destroy_empty();
     seats.destroy_empty();
 }
-
-/// Joins all rows of seats into the last, ends the locks, and puts their values into `done`, the last first.
-/// It takes no memory. The journal of each goes on from what each of its seats had seen by entries of others
-/// alone.
-pub fn close_row<V: Journaled>(
-    turns: Vec<Turn<V>>,
-    mut rows: Vec<Vec<Seat<V>>>,
-    done: &mut Vec<V>,
-    count: u16,
-)
-    requires some { 0 < vec_len rows }
-    requires rest { RestRows turns.items (map (λ s. s.items) rows.items) }
-    requires counts { AllCount count turns.items }
-    requires all { (k : ℕ) → k < count → SomeRowHas k (map (λ s. s.items) rows.items) }
-    requires room { (done.old.items ≡ []) × (vec_len turns ≤ vec_capacity done.old) }
-    ensures told { GrownRows V.by (map (λ s. s.items) rows.items) (reverse (map V.journal done.new.items)) }
-    ensures none { NoneFrom V.by count (reverse (map V.journal done.new.items)) }
-    ensures labels { reverse (map V.label done.new.items) ≡ map (λ t. t.label) turns.items }
-{
-    let Some(mut all) = rows.pop() else {
-        unreachable!()
-    };
-    while let Some(row) = rows.pop() {
-        join_row(&turns, &mut all, row);
-    }
-    rows.destroy_empty();
-    end_row(turns, all, done, count);
-}

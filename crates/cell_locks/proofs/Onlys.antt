@@ -13,11 +13,6 @@ set_length [] i x = refl
 set_length (y ∷ xs) zero x = refl
 set_length (y ∷ xs) (suc i) x = ap suc (set_length xs i x)
 
-set_twice : {A : Type 0} (xs : List A) (i : ℕ) (x y : A) → set (set xs i x) i y ≡ set xs i y
-set_twice [] i x y = refl
-set_twice (z ∷ xs) zero x y = refl
-set_twice (z ∷ xs) (suc i) x y = ap (λ l. z ∷ l) (set_twice xs i x y)
-
 get_else : {A : Type 0} (xs : List A) (i j : ℕ) (x d : A) → j ≢ i → get_or (set xs i x) j d ≡ get_or xs j d
 get_else [] i j x d ne = refl
 get_else (y ∷ xs) zero zero x d ne = absurd (ne refl)
@@ -37,18 +32,6 @@ only_else s r a b ne h = ap (λ (x : CellsSeen). seen_at x r) h ∙ get_else a.c
 pub link_else : (s r : ℕ) (a b : CellsSeen) → r ≢ s → OnlyAt s a b → link_at b r ≡ link_at a r
 link_else s r a b ne h = ap (λ (x : CellsSeen). link_at x r) h ∙ get_else a.links s r (link_at b s) false ne
 
-pub only_on : (s : ℕ) (a b c : CellsSeen) → OnlyAt s a b → OnlyAt s b c → OnlyAt s a c
-only_on s a b c p q =
-    let n = only_number s a b p in
-    let l = ap (λ (x : CellsSeen). x.cells) p in
-    let m = ap (λ (x : CellsSeen). x.links) p in
-    q
-    ∙ (λ i. record {
-      number = n i;
-      cells = (ap (λ l. set l s (seen_at c s)) l ∙ set_twice a.cells s (seen_at b s) (seen_at c s)) i;
-      links = (ap (λ l. set l s (link_at c s)) m ∙ set_twice a.links s (link_at b s) (link_at c s)) i;
-    })
-
 none_at : (Js : List (List CellEvent)) (s : ℕ) → AllNone Js → get_or Js s [] ≡ []
 none_at [] s h = refl
 none_at (J ∷ Js) zero h = h.0
@@ -64,9 +47,3 @@ new_pop cells last (x ∷ as') a h =
     let m = push_length as' a in
     let e : length (as' ++ a ∷ []) + last ≡ length as' + suc last = omega arith in
     ((subst (λ n. IsNew cells n x) e h.0, r.0), r.1)
-
-pub new_have : (cells n : ℕ) (as' : List CellsSeen) → AreNew cells 0 as' → n < length as' → HasNumber n as'
-new_have cells n [] h l = absurd (omega arith)
-new_have cells n (a ∷ as') h l = dite (ℕ_discrete n (length as'))
-    (λ e. inl (h.0.number_is ∙ (let q : length as' + 0 ≡ n = omega arith in q)))
-    (λ ne. inr (new_have cells n as' h.1 (omega arith)))

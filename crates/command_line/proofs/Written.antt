@@ -82,24 +82,6 @@ pub number_in_some : (least most n : ℕ) (word : List ℕ) (within : Bool) → 
     number_in least most word ≡ (if within then Some n else None)
 number_in_some least most n word within plain e h = rw (plain, e, h) refl
 
--- what is no plain number of 64 bits is none of these
-pub number_in_none : (least most : ℕ) (word : List ℕ) → most < 2 ^ 64 → (is_plain word ≡ true → decimal_value word < 2 ^ 64 → ⊥) → None ≡ number_in least most word
-number_in_none least most word fits none = go (is_plain word) refl
-  where
-    inner : (t : Bool) → (nat_le least (decimal_value word) && nat_le (decimal_value word) most) ≡ t → is_plain word ≡ true → t ≡ true → ⊥
-    inner t e plain f =
-        let both = and_parts (nat_le least (decimal_value word)) (nat_le (decimal_value word) most) (e ∙ f) in
-        let le : decimal_value word ≤ most = leb-true (decimal_value word) most both.1 in
-        none plain (omega (arith, le, fits))
-
-    last : (t : Bool) → (nat_le least (decimal_value word) && nat_le (decimal_value word) most) ≡ t → is_plain word ≡ true → None ≡ (if t then Some (decimal_value word) else None)
-    last true e plain = absurd (inner true e plain refl)
-    last false e plain = refl
-
-    go : (t : Bool) → is_plain word ≡ t → None ≡ number_in least most word
-    go false e = rw e refl
-    go true e = rw e (last (nat_le least (decimal_value word) && nat_le (decimal_value word) most) refl e)
-
 -- a number that is found is written so, and is one of these
 pub found_is_written : (least most n : ℕ) (word : List ℕ) → most < 2 ^ 64 → number_in least most word ≡ Some n → (word ≡ fmt.decimal n) × (least ≤ n) × (n ≤ most)
 found_is_written least most n word fits h = go (is_plain word && (nat_le least (decimal_value word) && nat_le (decimal_value word) most)) refl

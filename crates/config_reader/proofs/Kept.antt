@@ -64,12 +64,6 @@ or_last true false = refl
 or_last false true = refl
 or_last false false = refl
 
--- a row's KEY value is kept with it
-pub holds_row : (k n : KeyValues) (t : Table) (row : List Value) → HoldsKeys k t → ((v : Value) → keeps_value n v ≡ cond (has_key_value (key_place t.columns) row v) true (keeps_value k v)) → HoldsKeys n (with_row row t)
-holds_row k n t row h put = λ v.
-    put v ∙ ap (λ (x : Bool). cond (has_key_value (key_place t.columns) row v) true x) (h v) ∙ or_last (has_key_value (key_place t.columns) row v) (is_key_of t v)
-    ∙ sym (list_any-append (λ (r : List Value). has_key_value (key_place t.columns) r v) t.first (row ∷ []))
-
 -- the table that was found at a place is that of the name
 pub table_found : (seen tables : List Table) (name : List ℕ) (shown : List Table) (k : ℕ) (table : Table) → seen ≡ tables → shown ≡ seen → Some k ≡ table_number shown name → k < length shown → table ≡ get_or seen k table
     → option_and_then (slice_get tables) (table_number tables name) ≡ Some table

@@ -62,22 +62,3 @@ pub no_rows : (tables : List Table) (st : Statement) (args : List Value) (told n
     → is_select st.action ≡ false → Runs tables st args told now (Ok (Rows columns rows)) → ⊥
 no_rows tables st args None now columns rows is runs = no_rows_may (columns_of tables st.table) st.action columns rows is runs.0
 no_rows tables st args (Some T) now columns rows is runs = no_rows_meant (columns_of tables st.table) st.action args (slice_index_or T st.table []) columns rows is runs.0
-
-no_length_of : (found : Option Query) (args : List Value) → query_denial found args ≡ Some rule.AnswerTooLarge → ⊥
-no_length_of None args e = cc
-no_length_of (Some query) args e = by (fits query.statement.parameters args) e
-  where
-    by : (b : Bool) → (if b then None else Some rule.BadArguments) ≡ Some rule.AnswerTooLarge → ⊥
-    by true e = cc
-    by false e = cc
-
-no_length_at : (there live : Bool) (found : Option Query) (args : List Value)
-    → (if not there then Some rule.NoSession else if not live then Some rule.StaleToken else query_denial found args) ≡ Some rule.AnswerTooLarge → ⊥
-no_length_at false live found args e = cc
-no_length_at true false found args e = cc
-no_length_at true true found args e = no_length_of found args e
-
--- The rule that is broken before a statement runs is not the one on long answers.
-pub no_length : (C : Config) (p : ℕ) (call : Call) (live : Bool) (count : ℕ) (found : Rule) → denial_at C p call live count ≡ Some found → found ≡ rule.AnswerTooLarge → ⊥
-no_length C p call live count found is same =
-    no_length_at (nat_lt call.session count) live (granted C p call.service call.query) call.args (is ∙ ap (λ (r : Rule). Some r) same)

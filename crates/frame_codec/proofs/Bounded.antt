@@ -23,21 +23,6 @@ opened_has n low = (low, lawful (Opened n) 5 (simp sizes) (lit< tt) (lit≤ tt))
 pub changed_has : (n : ℕ) → n < 2 ^ 64 → HasSpelling (Changed n)
 changed_has n low = (low, lawful (Changed n) 9 (simp sizes) (lit< tt) (lit≤ tt))
 
-pub denied_has : (n : ℕ) → n < 256 → HasSpelling (Denied n)
-denied_has n low = (low, lawful (Denied n) 2 refl (lit< tt) (lit≤ tt))
-
-pub logged_has : HasSpelling Logged
-logged_has = (tt, lawful Logged 1 refl (lit< tt) (lit≤ tt))
-
-pub failed_has : HasSpelling Failed
-failed_has = (tt, lawful Failed 1 refl (lit< tt) (lit≤ tt))
-
-pub no_memory_has : HasSpelling NoMemory
-no_memory_has = (tt, lawful NoMemory 1 refl (lit< tt) (lit≤ tt))
-
-pub duplicate_has : HasSpelling Duplicate
-duplicate_has = (tt, lawful Duplicate 1 refl (lit< tt) (lit≤ tt))
-
 pub request_has : (head content : List ℕ) → Bytewise head → Bytewise content → length head + length content + 9 ≤ 1048576 → HasSpelling (Request head content)
 request_has head content p q high = ((p, q), lawful (Request head content) (length head + length content + 9) (simp sizes (omega arith)) (omega arith) high)
 

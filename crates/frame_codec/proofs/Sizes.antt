@@ -21,9 +21,3 @@ pub ruleset sizes = (length-two, length-four, length-eight)
 -- a count that began at n
 pub size_from : (n : ℕ) (parts : List (List ℕ)) → fold (λ (m : ℕ) (part : List ℕ). m + length part) n parts ≡ n + size parts
 size_from n parts = sum_by_from length n parts
-
--- the parts of one item are no longer than those of all
-pub size_of_one : {A : Type 0} (f : A → List (List ℕ)) (xs : List A) (i : ℕ) (x : A) → i < length xs → x ≡ get_or xs i x → size (f x) ≤ size (flat_map f xs)
-size_of_one f [] i x lt is = absurd (omega arith)
-size_of_one f (y ∷ xs) zero x lt is = omega (arith, sum_by-append length (f y) (flat_map f xs), ap (λ z. size (f z)) is)
-size_of_one f (y ∷ xs) (suc i) x lt is = omega (arith, sum_by-append length (f y) (flat_map f xs), size_of_one f xs i x (omega arith) is)

@@ -65,10 +65,6 @@ ServerBegins bytes frame rest = BeginsBy server_parts FitsServer bytes frame res
 abbrev pub ServerBeginsNone : List ℕ → Type 0
 ServerBeginsNone bytes = BeginsNoneBy server_parts FitsServer bytes
 
--- What stands at the front is neither a frame that a service hears nor a part of one that may go on.
-abbrev pub IsServerBad : List ℕ → Type 0
-IsServerBad bytes = IsBadBy server_parts FitsServer bytes
-
 -- The server's frames of a stream, and what is left behind them.
 abbrev pub ServerFramesOf : List ℕ → List ServerFrame → List ℕ → Type 0
 ServerFramesOf bytes frames rest = FramesBy server_parts FitsServer bytes frames rest

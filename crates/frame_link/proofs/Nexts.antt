@@ -54,9 +54,6 @@ ended_front parts fit (Some left) (Some rest) since took short some end =
 
 -- ---- one filling and another
 
-pub took_first : (old mid : Option (List ℕ)) (before now more : List ℕ) → before ≡ [] → Consumes old mid more → now ≡ before ++ more → Consumes old mid now
-took_first old mid before now more none took is = subst (λ (t : List ℕ). Consumes old mid t) (sym (is ∙ ap (λ (t : List ℕ). t ++ more) none)) took
-
 pub took_both : (old mid new : Option (List ℕ)) (before now more : List ℕ) → Consumes old mid before → Consumes mid new more → now ≡ before ++ more → Consumes old new now
 took_both old mid new before now more first took is = subst (λ (t : List ℕ). Consumes old new t) (sym is) (Consumes-trans old mid new before more first took)
 

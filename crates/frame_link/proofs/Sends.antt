@@ -42,12 +42,6 @@ sends_then start mid new text bytes result a b = record {
     both (Ok done) more = Appends-trans start.given mid.given new.given text bytes a.puts more
     both (Err fault) more = prefix_after start.given mid.given new.given text bytes a.puts more
 
-pub sends_nothing : (wire : Wire) → Sends wire [] (Ok tt) wire
-sends_nothing wire = record {
-  puts = Appends-nil wire.given;
-  link = record { faults = record { later = omega arith; cause = λ fault. absurd (fault refl) }; sure = λ steady room. refl; whose = refl; came = refl; left = refl; untold = λ none. none; steady = refl; ended = refl; room = omega arith };
-}
-
 -- ---- what is gathered
 
 -- after a fault nothing more was put
@@ -90,12 +84,6 @@ pub gathers_all : (start new : Wire) (text : List ℕ) (sent : Result (Unit {0})
 gathers_all start new text (Ok done) g = subst (λ (t : List ℕ). Sends start t (Ok done) new) (sym (g.1 ∙ append-nil g.0)) g.2
 gathers_all start new text (Err fault) g = g
 
-pub gathers_nothing : (wire : Wire) → Gathers wire [] (Ok tt) [] wire
-gathers_nothing wire = ([], refl, sends_nothing wire)
-
 pub gathers_failed : (start new : Wire) (text gathered : List ℕ) (sent : Result (Unit {0}) LinkFault) → (sent ≡ Ok tt → ⊥) → Gathers start text sent gathered new → Gathers start text sent [] new
 gathers_failed start new text gathered (Ok done) failed g = absurd (failed refl)
 gathers_failed start new text gathered (Err fault) failed g = g
-
-pub gathers_same : (start new : Wire) (text gathered : List ℕ) (sent : Result (Unit {0}) LinkFault) → gathered ≡ [] → Gathers start text sent gathered new → Gathers start text sent [] new
-gathers_same start new text gathered sent none g = subst (λ (t : List ℕ). Gathers start text sent t new) none g

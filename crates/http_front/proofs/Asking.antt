@@ -52,10 +52,6 @@ number_within m n e = within (nat_le m LONGEST_CONTENT) refl e
     within true is told = let same : m ≡ n = cc in subst (λ (k : ℕ). k ≤ LONGEST_CONTENT) same (leb-true m LONGEST_CONTENT is)
     within false is told = absurd (cc)
 
-digits_within : (b : Bool) (m n : ℕ) → told_length (if b then length_within m else NotDigits) ≡ Ok n → n ≤ LONGEST_CONTENT
-digits_within true m n e = number_within m n e
-digits_within false m n e = absurd (cc)
-
 value_within : (value : List ℕ) (n : ℕ) → told_length (length_of value) ≡ Ok n → n ≤ LONGEST_CONTENT
 value_within value n e = grind (arith, nat_tests, e)
 

@@ -55,17 +55,6 @@ nothing_written start before kept same none empty = (
 
 -- ---- a part waits
 
-pub part_waits : (start now : ConnWire) (before kept after : Kept) (text part : List ℕ) → Writes start before text now kept (Ok tt) → after.waiting.items ≡ kept.waiting.items ++ part → after.response ≡ kept.response → SameRequest kept after → Writes start before (text ++ part) now after (Ok tt)
-part_waits start now before kept after text part w waits count same = (
-  stays_same start now before kept after w.0 same,
-  record {
-    gone = w.1.gone;
-    together = ap (λ (t : List ℕ). t ++ part) w.1.together ∙ append_assoc w.1.gone kept.waiting.items part ∙ ap (λ (t : List ℕ). w.1.gone ++ t) (sym waits);
-    given = w.1.given;
-    count = count ∙ w.1.count;
-  },
-)
-
 -- ---- a put
 
 -- all that waits was put

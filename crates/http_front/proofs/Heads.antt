@@ -20,42 +20,10 @@ use Rattle.http_front.specs.declared.looking.Look.TheVariants.{Whole, TooLong, B
 
 -- ---- no whole head
 
-pub none_in_part : (bytes : List ℕ) (room : ℕ) (headers : List HeaderSpan) → room ≡ MOST_FIELDS → FindsRequest bytes room headers (Ok Partial) → HasNoWholeHead bytes
-none_in_part bytes room headers e found h rest whole = found h rest whole.reads (omega (arith, whole.few))
-
-pub none_at_error : (bytes : List ℕ) (room : ℕ) (headers : List HeaderSpan) (error : Error) → room ≡ MOST_FIELDS → FindsRequest bytes room headers (Err error) → HasNoWholeHead bytes
-none_at_error bytes room headers error e found h rest whole = found h rest whole.reads (omega (arith, whole.few))
-
-pub none_so_long : (bytes : List ℕ) (room : ℕ) (headers : List HeaderSpan) (spans : RequestSpans) → room ≡ MOST_FIELDS → LONGEST_HEAD < spans.len → FindsRequest bytes room headers (Ok (Complete spans)) → HasNoWholeHead bytes
-none_so_long bytes room headers spans e long found h rest whole =
-    let at = found h rest whole.reads (omega (arith, whole.few)) in
-    absurd (omega (arith, at.len, whole.size))
-
 -- ---- bytes without a whole head
-
-pub too_long_by_size : (bytes : List ℕ) → LONGEST_HEAD ≤ length bytes → is_too_long bytes ≡ true
-too_long_by_size bytes le = rw (le-leb LONGEST_HEAD (length bytes) le) refl
 
 clash : {A : Type 0} → true ≡ false → A
 clash e = absurd (cc)
-
-pub long_looks : (bytes : List ℕ) (look : Look) → HasNoWholeHead bytes → LONGEST_HEAD ≤ length bytes → LooksWithout bytes false look → Looks bytes look
-long_looks bytes (Whole whole) none le without = absurd without
-long_looks bytes TooLong none le without = (none, without)
-long_looks bytes Broken none le without = clash (sym without.1)
-long_looks bytes Open none le without = clash (sym (too_long_by_size bytes le) ∙ without.0)
-
-pub open_looks : (bytes : List ℕ) (look : Look) → HasNoWholeHead bytes → (MayBecomeRequest bytes ⊎ RequestExceeds MOST_FIELDS bytes) → LooksWithout bytes false look → Looks bytes look
-open_looks bytes (Whole whole) none may without = absurd without
-open_looks bytes TooLong none may without = (none, without)
-open_looks bytes Broken none may without = clash (sym without.1)
-open_looks bytes Open none may without = (none, without.0, may)
-
-pub broken_looks : (bytes : List ℕ) (look : Look) → HasNoWholeHead bytes → NeverHasRequest bytes → LooksWithout bytes true look → Looks bytes look
-broken_looks bytes (Whole whole) none never without = absurd without
-broken_looks bytes TooLong none never without = (none, without)
-broken_looks bytes Broken none never without = (none, without.0, never)
-broken_looks bytes Open none never without = clash without.1
 
 -- ---- a whole head
 

@@ -99,29 +99,6 @@ pass_field n m f more e field =
     ∙ pass_run n f.raw (print_end f.end ++ more) (some_left n m e) (plain_raw f.raw field.raw)
     ∙ pass_end n m f.end more e
 
--- behind no LF a name begins
-first_name : (n : ℕ) (name rest : List ℕ) → (n == 0) ≡ true → IsToken name → has_line_after n (name ++ rest) ≡ true
-first_name n [] rest is token = absurd (omega (arith, token.0))
-first_name n (b ∷ name) rest is token = let plain : ends_line b ≡ false = plain_token b (All-head (λ v. is_token_byte v ≡ true) b name token.1) in rw (is, plain) refl
-
--- behind fewer fields another line begins
-lines_over : (fields : List Field) (n : ℕ) (tail : List ℕ) → All IsField fields → n < length fields → has_line_after n (flat_map print_field fields ++ tail) ≡ true
-lines_over [] n tail all less = absurd (omega (arith, less))
-lines_over (f ∷ fs) n tail all less = pass (n == 0) refl (lines_over fs (n - 1) tail (All-tail IsField f fs all))
-  where
-    first : (print_field f ++ flat_map print_field fs) ++ tail ≡ print_field f ++ (flat_map print_field fs ++ tail)
-    first = append_assoc (print_field f) (flat_map print_field fs) tail
-
-    field : IsField f
-    field = All-head IsField f fs all
-
-    pass : (v : Bool) → (n == 0) ≡ v → (n - 1 < length fs → has_line_after (n - 1) (flat_map print_field fs ++ tail) ≡ true) → has_line_after n (flat_map print_field (f ∷ fs) ++ tail) ≡ true
-    pass true is rest =
-        ap (has_line_after n) (first ∙ apart f.name f.raw (print_end f.end) (flat_map print_field fs ++ tail)) ∙ first_name n f.name _ is field.name
-    pass false is rest =
-        let some : n ≡ (n - 1) + 1 = grind (arith, nat_tests, is) in
-        ap (has_line_after n) first ∙ pass_field n (n - 1) f (flat_map print_field fs ++ tail) some field ∙ rest (omega (arith, some, less))
-
 -- behind as many fields or more none does
 end_short : (n : ℕ) (end : LineEnd) → has_line_after n (print_end end) ≡ false
 end_short n lf = by (n == 0) refl
@@ -224,30 +201,8 @@ too_long_stays bytes more none long h rest whole =
 
 -- ---- more fields than are taken
 
-same_last : (xs ys : List ℕ) (b : ℕ) → xs ++ b ∷ [] ≡ ys ++ b ∷ [] → xs ≡ ys
-same_last xs ys b e = grind (arith, common_steps, e)
-
-end_apart : (end : LineEnd) → (front : List ℕ) × (print_end end ≡ front ++ 10 ∷ [])
-end_apart lf = ([], refl)
-end_apart crlf = (13 ∷ [], refl)
-
 regroup : (a b c d e f g z : List ℕ) → a ++ (b ++ 32 ∷ (c ++ 32 ∷ (d ++ (e ++ ((f ++ (g ++ z)) ++ []))))) ≡ (a ++ (b ++ 32 ∷ (c ++ 32 ∷ (d ++ (e ++ (f ++ g)))))) ++ z
 regroup a b c d e f g z = simp (append_assoc, append-nil)
 
 behind : (a b c d e f g r : List ℕ) → (a ++ (b ++ 32 ∷ (c ++ 32 ∷ (d ++ (e ++ (f ++ g)))))) ++ r ≡ a ++ (b ++ 32 ∷ (c ++ 32 ∷ (d ++ (e ++ (f ++ (g ++ r))))))
 behind a b c d e f g r = simp append_assoc
-
--- bytes with more fields than are taken are too long
-pub exceeds_is_too_long : (bytes : List ℕ) → RequestExceeds MOST_FIELDS bytes → is_too_long bytes ≡ true
-exceeds_is_too_long bytes (front, rest, e, h, reads, many) =
-    let end = end_apart h.last in
-    let lines : List ℕ = flat_map print_field h.fields in
-    let printed : front ++ 10 ∷ [] ≡ (print_blank h.blank ++ (h.method ++ 32 ∷ (h.target ++ 32 ∷ (print_version h.minor ++ (print_end h.line_end ++ (lines ++ end.0)))))) ++ 10 ∷ [] =
-    reads.1 ∙ print_request-append h []
-    ∙ ap (λ (t : List ℕ). print_blank h.blank ++ (h.method ++ 32 ∷ (h.target ++ 32 ∷ (print_version h.minor ++ (print_end h.line_end ++ ((lines ++ t) ++ [])))))) end.1
-    ∙ regroup (print_blank h.blank) h.method h.target (print_version h.minor) (print_end h.line_end) lines end.0 (10 ∷ []) in
-    let all : bytes ≡ print_blank h.blank ++ (h.method ++ 32 ∷ (h.target ++ 32 ∷ (print_version h.minor ++ (print_end h.line_end ++ (lines ++ (end.0 ++ rest)))))) =
-    e ∙ ap (λ (t : List ℕ). t ++ rest) (same_last front _ 10 printed)
-    ∙ behind (print_blank h.blank) h.method h.target (print_version h.minor) (print_end h.line_end) lines end.0 rest in
-    long_by_lines bytes
-    (ap (λ (t : List ℕ). has_line_after most_lines (after_blanks t)) all ∙ behind_line h (lines ++ (end.0 ++ rest)) reads.0 ∙ lines_over h.fields MOST_FIELDS (end.0 ++ rest) reads.0.fields many)

@@ -237,10 +237,6 @@ looks_quiet old new bytes piece before cut less stays front more e size at unfin
     let same : front ++ piece ≡ bytes = ap (λ (t : List ℕ). front ++ t) is ∙ sym e in
     (subst (λ (t : List ℕ). HasFront t Unfinished) same next.1, λ _. subst (At new) same next.0)
 
-pub looks_anew : (old new : Place) (bytes : List ℕ) (before : ℕ) (looked : Look) → Looks bytes looked → (looked ≡ look.Open → At old (take before bytes) → At new bytes) → LooksOn old bytes before new looked
-looks_anew old new bytes before looked looks next front more e size at unfinished =
-    (looks, λ is. next is (subst (At old) (sym (front_of bytes front more before e size)) at))
-
 -- what is told of bytes is told of the same bytes
 pub looked_on : (old new : Place) (seen bytes front more : List ℕ) (before : ℕ) (looked : Look) → LooksOn old seen before new looked → seen ≡ bytes → bytes ≡ front ++ more → before ≡ length front → At old front → HasFront front Unfinished → Looks bytes looked × (looked ≡ look.Open → At new bytes)
 looked_on old new seen bytes front more before looked told same e size at unfinished =

@@ -122,9 +122,6 @@ whole_content bytes h rest n whole passed le =
 pub one_head : (bytes : List ℕ) (h k : RequestHead) (r q : List ℕ) → IsWholeHead bytes h r → IsWholeHead bytes k q → h ≡ k
 one_head bytes h k r q x y = (request_unique bytes h k r q x.reads y.reads).0
 
-pub short_enough : (bytes : List ℕ) → is_too_long bytes ≡ false → length bytes < LONGEST_HEAD
-short_enough bytes not_long = grind (arith, nat_tests, not_long)
-
 -- a piece came where there was no whole head yet
 pub head_more : (start mid new : ConnWire) (before now : List ℕ) (written : ℕ) → HasRead start mid before written → HasFront before Unfinished → TakesPiece mid new before now piece.Came → HasRead start new now written
 head_more start mid new before now written read front took =

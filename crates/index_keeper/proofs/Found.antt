@@ -31,12 +31,6 @@ use Rattle.row_slots.specs.Index.{is_indexed, cell, is_value, IsIndex}
 use Rattle.index_keeper.specs.Places.{places_where, rows_of, passes_at, is_equality, leading, tests, tests_by}
 use Rattle.row_slots.specs.declared.slots.Slots.{Slots}
 
-pub filter_hit : {X : Type 0} (p : X → Bool) (xs : List X) (i : ℕ) (d : X) → i < length xs → p (get_or xs i d) ≡ true → filter p (take (i + 1) xs) ≡ filter p (take i xs) ++ get_or xs i d ∷ []
-filter_hit p xs i d h hit = filter_more p xs i d h ∙ ap (λ (b : Bool). filter p (take i xs) ++ cond b (get_or xs i d ∷ []) []) hit
-
-pub filter_miss : {X : Type 0} (p : X → Bool) (xs : List X) (i : ℕ) (d : X) → i < length xs → p (get_or xs i d) ≡ false → filter p (take (i + 1) xs) ≡ filter p (take i xs)
-filter_miss p xs i d h miss = filter_more p xs i d h ∙ ap (λ (b : Bool). filter p (take i xs) ++ cond b (get_or xs i d ∷ []) []) miss ∙ append-nil (filter p (take i xs))
-
 -- ---- order
 
 above_filtered : {X K : Type 0} (C : K → K → Ordering) (f : X → K) (p : X → Bool) (k : K) (xs : List X) → AllByRecursion (λ y. C k y ≡ Less) (map f xs) → AllByRecursion (λ y. C k y ≡ Less) (map f (filter p xs))

@@ -44,11 +44,6 @@ new_is columns rows slots own new index up rise has =
     ∙ any_rows there rows
     ∙ any_alike there (λ (row : List Value). value_eq (at_column row own) v) (rows_of rows) (λ (row : List Value). value_eq_is (at_column row own) v))
 
--- The rows where one came behind the others, or none did.
-pub came_rows : (came : Bool) (old now : Placed) (row : List Value) → (came ≡ true → now.entries ≡ old.entries ++ (old.next, row) ∷ []) → (came ≡ false → now ≡ old) → rows_of now.entries ≡ (if came then rows_of old.entries ++ row ∷ [] else rows_of old.entries)
-came_rows true old now row comes stays = ap rows_of (comes refl) ∙ map-append (λ (e : ℕ × List Value). e.1) old.entries ((old.next, row) ∷ [])
-came_rows false old now row comes stays = ap (λ (r : Placed). rows_of r.entries) (stays refl)
-
 removals_where : (test : List Value → Bool) (es : List (ℕ × List Value)) → removals_at (places_where test es) ≡ listed_changes (λ _. None) test es
 removals_where test [] = refl
 removals_where test (e ∷ es) = by (test e.1) refl (removals_where test es)

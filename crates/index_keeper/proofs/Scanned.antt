@@ -81,10 +81,6 @@ pub on_ok : {X E P Q : Type 0} (r : Result X E) → (P → Q) → OnOk r P → O
 on_ok (Ok x) f h = f h
 on_ok (Err e) f h = tt
 
-pub if_ok : {X E : Type 0} {P Q : X → Type 0} (r : Result X E) → ((x : X) → P x → Q x) → IfOk r P → IfOk r Q
-if_ok (Ok x) f h = f x h
-if_ok (Err e) f h = tt
-
 -- And what follows from two things that hold of it.
 pub if_ok_both : {X E R : Type 0} {P Q : X → Type 0} (r : Result X E) → ((x : X) → P x → R → Q x) → IfOk r P → OnOk r R → IfOk r Q
 if_ok_both (Ok x) f h k = f x h k

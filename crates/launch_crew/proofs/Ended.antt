@@ -188,18 +188,6 @@ stays_asked s r a answer b asks t k =
     ∙ (ap (λ (x : Life). (x.incarnation == k) && x.ended) asks.asks.life ∙ and_from (before.incarnation == k) (ended_after answer before.ended) h.0 (yes_stays answer before.ended h.1))))
     (λ apart. still_runs (crew_of r a) (crew_of r b) t k (ap (λ lives. running_at lives t) running ∙ here_else a.running s t (Some asks.after) apart) lives))
 
-runs_is : (k : ℕ) (child : Option Life) (life : Life) → child ≡ Some life → RunsAs k child → life.incarnation ≡ k
-runs_is k child life is runs = (subst (RunsAs k) is runs).0
-
--- the child of incarnation k of s answered Yes
-pub asked_ended : (s k : ℕ) (r : Recorded) (a b : StaffIs) → RunsAs k (running_at a.running s) → AsksLife s a Yes b → IsTrue (tells_ended (crew_of r b) s k)
-asked_ended s k r a b runs asks =
-    let running = ap (λ (x : StaffIs). x.running) asks.is in
-    let before = asks.before in
-    or_left (life_ended (running_at b.running s) k) (family_ended b.family s k)
-    (ap (λ (x : Option Life). life_ended x k) (ap (λ lives. running_at lives s) running ∙ some_here a.running s before asks.after asks.was)
-    ∙ (ap (λ (x : Life). (x.incarnation == k) && x.ended) asks.asks.life ∙ and_from (before.incarnation == k) true (eq-eqb before.incarnation k (runs_is k (running_at a.running s) before asks.was runs)) refl))
-
 -- ---- no child runs any more
 
 pub idle_so_far : (u : ℕ) (c d : CrewIs) → Empties u c d → ((s : ℕ) → s < u → child_of c s ≡ None) → (s : ℕ) → s < u + 1 → child_of d s ≡ None

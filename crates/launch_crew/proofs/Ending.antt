@@ -54,9 +54,6 @@ due_some : (k : ℕ) → (k == 0) ≡ false → retired_due k ≡ 1
 due_some zero h = absurd (true≢false h)
 due_some (suc k) h = refl
 
-not_here : (i s : ℕ) → s < i → i ≡ s → ⊥
-not_here i s less is = omega (arith, less, is)
-
 below_or : (s i : ℕ) → s < i + 1 → s ≢ i → s < i
 below_or s i less apart = omega (arith, less, apart)
 

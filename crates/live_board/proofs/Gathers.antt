@@ -19,10 +19,6 @@ pub fresh-push : (z : TableId) (b : ℕ) (cs : List SeatIs) (c : SeatIs) → Are
 fresh-push z b [] c a n = (subst (λ k. IsFresh z k c) (omega arith) n, tt)
 fresh-push z b (x ∷ cs) c a n = let h = push_length cs c in (subst (λ k. IsFresh z k x) (omega arith) a.0, fresh-push z b cs c a.1 n)
 
-pub fresh-pop : (z : TableId) (b : ℕ) (cs : List SeatIs) (c : SeatIs) → AreFresh z b (cs ++ c ∷ []) → AreFresh z (suc b) cs × IsFresh z b c
-fresh-pop z b [] c a = (tt, subst (λ k. IsFresh z k c) (omega arith) a.0)
-fresh-pop z b (x ∷ cs) c a = let h = fresh-pop z b cs c a.1 in let l = push_length cs c in ((subst (λ k. IsFresh z k x) (omega arith) a.0, h.0), h.1)
-
 saw-split : (n : ℕ) (greatest : List ℕ) (ps qs : List Part) → AllSaw n greatest (ps ++ qs) → AllSaw n greatest ps × AllSaw n greatest qs
 saw-split n greatest [] qs a = (tt, a)
 saw-split n greatest (p ∷ ps) qs a = let r = saw-split n greatest ps qs a.2 in ((a.0, a.1, r.0), r.1)

@@ -70,10 +70,6 @@ may_again C J s law given fallen =
     and_from (tries J s == tries J s) (nat_le C.retry (tries J s) && fell J s) (eq-eqb (tries J s) (tries J s) refl)
     (and_from (nat_le C.retry (tries J s)) (fell J s) (le-leb C.retry (tries J s) (dead_tries C J s law (sym (given_dead J s) ∙ given))) fallen)
 
--- the greatest has fallen where it crashed
-pub crashed_fell : (w s k : ℕ) (J : List (Entry LauncherEvent)) → k ≡ begun J s → fell (with_entry w (event.Crashed s k) J) s ≡ true
-crashed_fell w s k J is = rw (eq-eqb s s refl, eq-eqb k (begun J s) is) refl
-
 pub not_given : (o : Option ℕ) → is_some o ≡ false → o ≡ None
 not_given None h = refl
 not_given (Some n) h = absurd (let bad : true ≡ false = h in let never : ⊥ = cc in never)

@@ -22,9 +22,6 @@ pub record Spares (s : ℕ) (c d : CrewIs) : Type 0 where
   pub cell : (t : ℕ) → t ≢ s → seen_at d.watch t ≡ seen_at c.watch t
   pub child : (t : ℕ) → t ≢ s → child_of d t ≡ child_of c t
 
-pub spares_same : (s : ℕ) (c : CrewIs) → Spares s c c
-spares_same s c = record { up = λ t n. refl; stands = λ t at n. refl; lasts = λ t at n. refl; board = λ t n. refl; cell = λ t n. refl; child = λ t n. refl }
-
 pub spares_on : (s : ℕ) (c d e : CrewIs) → Spares s c d → Spares s d e → Spares s c e
 spares_on s c d e a b = record {
   up = λ t n. b.up t n ∙ a.up t n;

@@ -19,11 +19,6 @@ append_nil : {A : Type 0} (xs : List A) → xs ++ [] ≡ xs
 append_nil [] = refl
 append_nil (x ∷ xs) = ap (λ ys. x ∷ ys) (append_nil xs)
 
-pub pop_opening : (s k n : ℕ) (e : LauncherEvent) (closing : Option LauncherEvent) → events_of (Some e) s k n closing ≡ events_of None s k n closing ++ (e ∷ [])
-pop_opening s k n e closing =
-    ap (λ (es : List LauncherEvent). option_to_list closing ++ (es ++ e ∷ [])) (sym (append_nil (failed_from s k n)))
-    ∙ sym (append_assoc (option_to_list closing) (failed_from s k n ++ []) (e ∷ []))
-
 pub pop_attempt : (s k n : ℕ) (closing : Option LauncherEvent) → events_of None s k (suc n) closing ≡ events_of (Some (event.Failed s k)) s (k + 1) n closing ++ (event.Begun s k ∷ [])
 pop_attempt s k n closing =
     ap (λ (es : List LauncherEvent). option_to_list closing ++ es) (append_nil (failed_from s k (suc n)) ∙ (failed_more s k n ∙ sym (append_assoc (failed_from s (k + 1) n) (event.Failed s k ∷ []) (event.Begun s k ∷ []))))
@@ -40,9 +35,6 @@ pop_failed s k zero opening closing none more = absurd (no_more more)
 pop_failed s k (suc n) opening closing none more =
     ap (λ o. events_of o s k (suc n) closing) none
     ∙ subst (λ m. events_of None s k (suc n) closing ≡ events_of (Some (event.Failed s k)) s (k + 1) m closing ++ (event.Begun s k ∷ [])) (sym (one_less n)) (pop_attempt s k n closing)
-
-pub pop_closing : (s k : ℕ) (closing : Option LauncherEvent) → events_of None s k 0 closing ≡ option_to_list closing
-pop_closing s k closing = append_nil (option_to_list closing)
 
 -- ---- how many they are
 
@@ -73,6 +65,3 @@ enters_append w (x ∷ xs) ys J = ap (λ (es : List (Entry LauncherEvent)). reco
 
 pub enters_on : (w : ℕ) (xs ys : List LauncherEvent) (I J K : List (Entry LauncherEvent)) → Enters w ys I J → Enters w xs J K → Enters w (xs ++ ys) I K
 enters_on w xs ys I J K before after = after ∙ (ap (λ (es : List (Entry LauncherEvent)). entries_of w xs ++ es) before ∙ sym (enters_append w xs ys I))
-
-pub enters_nothing : (w : ℕ) (J K : List (Entry LauncherEvent)) → K ≡ J → Enters w [] J K
-enters_nothing w J K is = is

@@ -24,16 +24,6 @@ use Rattle.okld_launch.proofs.Begins.{begun_here}
 
 -- ---- an attempt
 
-pub attempts_of : (C : Config) (w s : ℕ) (J : List (Entry LauncherEvent)) (f : Family) (a : LaunchIs) (answer : Attempt) (l : LauncherIs)
-    → a.service ≡ s → a.incarnation ≡ begun J s + 1 → a.launcher.journal.past ≡ with_begun w s J → a.launcher.crew.family ≡ f → Closes C w a answer l → Attempts C w s J f answer l
-attempts_of C w s J f a (attempt.Up k) l here next past family h = (h.0 ∙ next, h.1 ∙ past, subst (λ t. up_in l t ≡ k) here h.2)
-attempts_of C w s J f a attempt.Failed l here next past family h = (
-  h.0 ∙ (λ i. with_entry w (event.Failed (here i) (next i)) (past i)),
-  subst (λ (x : ℕ × ℕ × Family). FailsBy x.0 x.1 x.2 l.crew.family) (λ i. (here i, next i, family i)) h.1,
-  subst (λ t. up_in l t ≡ 0) here h.2,
-)
-attempts_of C w s J f a attempt.NoMemory l here next past family h = inr (h.0 ∙ past, subst (λ t. IsOut C t l) here h.1)
-
 -- ---- the rest of an attempt
 
 closes_held : (C : Config) (w : ℕ) (a b : LaunchIs) (answer : Attempt) (l : LauncherIs) → GoesOn a b → Closes C w b answer l → Closes C w a answer l
@@ -69,10 +59,6 @@ goes_up C w s n k J f M h l fell allows a = record { failed = n; mid = M; told =
 pub goes_refused : (C : Config) (w s n : ℕ) (J : List (Entry LauncherEvent)) (f : Family) (M : List (Entry LauncherEvent)) (h : Family) (l : LauncherIs)
     → Fell C w s n J f M h → Allows C M s next.Begin → Attempts C w s M h attempt.NoMemory l → Goes C w s J f launched.NoMemory l
 goes_refused C w s n J f M h l fell allows a = record { failed = n; mid = M; told = h; fell = fell; ends = ⊎_elim (λ x. inl x) (λ x. inr (allows, x.0, x.1)) a }
-
-pub goes_end : (C : Config) (w s n : ℕ) (J : List (Entry LauncherEvent)) (f : Family) (M : List (Entry LauncherEvent)) (h : Family) (answer : Launched) (l : LauncherIs)
-    → Fell C w s n J f M h → Ends C w s M answer l → Goes C w s J f answer l
-goes_end C w s n J f M h answer l fell ends = record { failed = n; mid = M; told = h; fell = fell; ends = ends }
 
 pub begun_failed : (w s : ℕ) (J : List (Entry LauncherEvent)) → begun (with_failed w s J) s ≡ begun J s + 1
 begun_failed w s J = begun_here w s (begun J s + 1) J refl

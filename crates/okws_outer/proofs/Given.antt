@@ -29,10 +29,6 @@ prefix_after a b c x y h p = record {
   given = rw (take-append-add x y p.taken) (Appends-trans a b c x (take p.taken y) h p.given);
 }
 
--- the same, where what is due is told apart by an equation
-pub prefix_between : (a b c : Option (List ℕ)) (due x y z : List ℕ) → due ≡ x ++ y ++ z → Appends a b x → AppendsPrefix b c y → AppendsPrefix a c due
-prefix_between a b c due x y z e h p = rw e (prefix_of_part a c (x ++ y) z (prefix_after a b c x y h p))
-
 -- a list of pieces, cut before and after the piece at i
 pub pieces_at : {X : Type 0} (f : X → List ℕ) (xs : List X) (i : ℕ) (d : X) (z : List ℕ) → i < length xs →
     flat_map f xs ++ z ≡ flat_map f (take i xs) ++ f (get_or xs i d) ++ (flat_map f (drop (suc i) xs) ++ z)

@@ -16,10 +16,6 @@ prints_given old new bytes false whole part start due p =
     let all : Appends start new (due ++ bytes) = Appends-trans start old new due bytes (p.whole refl) (whole refl) in
     record { part = whole_is_part start new (due ++ bytes) all; whole = λ e. all }
 
--- nothing is given to one that has stopped
-pub prints_stopped : (old : Option (List ℕ)) (bytes : List ℕ) → Prints old true old true bytes
-prints_stopped old bytes start due p = record { part = prefix_of_part start old due bytes p.part; whole = λ e. cc }
-
 -- nothing is printed
 pub prints_nothing : (old : Option (List ℕ)) (stopped : Bool) → Prints old stopped old stopped []
 prints_nothing old stopped start due p = rw (append-nil due) p

@@ -33,11 +33,6 @@ pub request_fits : (C : Config) (m : Method) (target content : List ℕ) (goes :
     → FitsRequest C (record { method = m; head = request_head m target content; content = content; goes = goes; has_begun = b })
 request_fits C m target content goes b h k g = record { short = omega (arith, head_short m target content h k, k); goes = g }
 
--- one request more that fits
-pub all_fit : {A : Type 0} (P : A → Type 0) (xs : List A) (x : A) → Each P xs → P x → Each P (xs ++ x ∷ [])
-all_fit P [] x h k = (k, tt)
-all_fit P (y ∷ xs) x h k = (h.0, all_fit P xs x h.1 k)
-
 -- the path of a target that is one
 pub path_is : (b : Bool) (x y : List ℕ) → Some x ≡ (if b then Some y else None) → x ≡ y
 path_is true x y e = cc

@@ -69,9 +69,6 @@ fresh_more C seed n s cells now y h e is all = rw (all, is) (record {
   empty = map-append stand_by cells (fresh C seed s ∷ []) ∙ ap (λ (t : List Stand). t ++ empty_stand ∷ []) h.empty ∙ replicate_more n empty_stand;
 })
 
-pub fresh_none : (C : Config) (seed : List ℕ) (cells : List Standing) → cells ≡ [] → AreFresh C seed 0 cells
-fresh_none C seed cells e = rw e (record { seats = tt; count = refl; empty = refl })
-
 none_booted : (n s : ℕ) → last_booted (get_or (replicate n empty_stand) s empty_stand).past ≤ 0
 none_booted zero s = omega arith
 none_booted (suc n) zero = omega arith
@@ -131,21 +128,6 @@ run_set C seed columns now cells requests s y h below seat c d w l booted = reco
     by : (q : ℕ) → (q ≡ s) ⊎ (q ≢ s) → last_booted (stand_at (stands_by (slice_set cells s y)) q).past ≤ begun now.seen.launcher q
     by q (inl e) = rw (stands_set cells s y, e, stand_set (stands_by cells) s (stand_by y) (omega (arith, below, stands_long cells)), l) booted
     by q (inr other) = rw (stands_set cells s y, get_or-set_other (stands_by cells) s q (stand_by y) empty_stand other, l) (h.booted_are q)
-
--- the same where nothing changed but the columns
-pub run_same : (C : Config) (seed : List ℕ) (columns now : Site) (cells : List Standing) (requests : List Asked) (s : ℕ) (y : Standing)
-    → IsRun C seed columns cells requests → y ≡ get_or cells s y
-    → now.config ≡ columns.config → now.seed ≡ columns.seed → now.worker ≡ columns.worker → now.seen.launcher ≡ columns.seen.launcher → IsRun C seed now (slice_set cells s y) requests
-run_same C seed columns now cells requests s y h is c d w l = rw (set_same cells s y is) (record {
-  few = h.few;
-  config_is = c ∙ h.config_is;
-  seed_is = d ∙ h.seed_is;
-  worker_is = w ∙ h.worker_is;
-  cells_are = h.cells_are;
-  seats_are = h.seats_are;
-  booted_are = λ q. rw l (h.booted_are q);
-  requests_are = h.requests_are;
-})
 
 -- ---- links
 

@@ -14,10 +14,6 @@ pub unbroken : (b : Bool) (n : ℕ) (more : Option ℕ) → broken b n more ≡ 
 unbroken true n more h = absurd (cc)
 unbroken false n more h = refl
 
-pub unbroken_more : (b : Bool) (n : ℕ) (more : Option ℕ) → broken b n more ≡ None → more ≡ None
-unbroken_more true n more h = absurd (cc)
-unbroken_more false n more h = h
-
 -- a line that prints a text
 pub loud : (r : Result (Unit {0}) AllocError) (run after : Run) (line : Line) (a b : Printer) (X : Stage) (text : List ℕ) → Does run.config run.seed line run.stage text X → OnOk r (after ≡ at_stage run X) → PrintsAs r a b text → DoesAs line run a b r after
 loud (Ok v) run after line a b X text does e p =

@@ -19,11 +19,6 @@ same_as (Err v) a b x y e h = same_front a b x y e h
 pub all_front : (a b : Printer) (x : List ℕ) → PrintsOn a b x → PrintsFront a b x
 all_front a b x h = same_front a b (x ++ []) x (append-nil x) (whole_front a b x [] h)
 
--- what a call prints after another, whose text comes first
-pub then_as : {V E : Type 0} (r : Result V E) (a b c : Printer) (x y : List ℕ) → PrintsOn a b x → PrintsAs r b c y → PrintsAs r a c (x ++ y)
-then_as (Ok v) a b c x y h k = then_on a b c x y h k
-then_as (Err e) a b c x y h k = front_then a b c x y h k
-
 -- what holds where memory was refused
 pub by_err : {V E : Type 0} (r : Result V E) (P : Result V E → Type 0) → IsErr r → ((e : E) → P (Err e)) → P r
 by_err (Ok v) P h f = absurd cc

@@ -107,10 +107,6 @@ all_served wire C n t z most chairs entries es w before after qs q waiting opene
 pub posted_many : (t : TurnIs) (z : TableId) (most : ℕ) (chairs : ChairsAre) (es : List Entrance) (w : ConnWire) (ps : List (Post DoorIs ConsoleIs)) → ArePosted t z most chairs es w ps → length ps ≡ suc (length es)
 posted_many t z most chairs es w ps h = ap length h.posts_are ∙ (push_length h.doors (Console h.console) ∙ ap suc h.many)
 
--- the last post is at the console
-pub last_overseen : {X : Type 0} (wire : X → ConnWire) (C : Config) (n : ℕ) (c : ConsoleIs) (q : Post DoorIs ConsoleIs) → WorksAt wire C n (Console c) q → (d : DoorIs) → q ≡ Door d → ⊥
-last_overseen wire C n c q w d e = subst (λ x. WorksAt wire C n (Console c) x) e w
-
 pub here_overseen : {X : Type 0} (wire : X → ConnWire) (C : Config) (n : ℕ) (c : ConsoleIs) (q : Post DoorIs ConsoleIs) (d : ConsoleIs) → WorksAt wire C n (Console c) q → q ≡ Console d → OverseenIf C c c.overseen d
 here_overseen wire C n c q d w e = subst (λ x. WorksAt wire C n (Console c) x) e w
 

@@ -153,36 +153,6 @@ played_by a b config script C text old new rose R status.ConfigRefused reads h =
 played_by a b config script C text old new rose R status.ReadFault reads h = absurd h
 played_by a b config script C text old new rose R _ reads h = absurd h
 
--- a configuration that was read and listed
-pub checked_by : (a b : Shelf) (path : List ℕ) (C : Config) (old new : Option (List ℕ)) (rose : Type 0) (how : Status) →
-    GivesConfig (a.held path) C → Reads a b (path ∷ []) ⊥ → Lists C old new rose how → Checked a b path old new rose how
-checked_by a b path C old new rose status.Ok m reads h = (C, m, reads, h)
-checked_by a b path C old new rose status.OutFault m reads h = (C, m, reads, h)
-checked_by a b path C old new rose status.NoMemory m reads h = inr (C, m, reads, h)
-checked_by a b path C old new rose status.ConfigRefused m reads h = absurd h
-checked_by a b path C old new rose status.ReadFault m reads h = absurd h
-checked_by a b path C old new rose _ m reads h = absurd h
-
--- a configuration that is refused
-pub refusal_checked : (a b : Shelf) (path : List ℕ) (refusal : Refusal) (old new : Option (List ℕ)) (rose : Type 0) (how : Status) →
-    IsRefusedBy (a.held path) refusal → Reads a b (path ∷ []) ⊥ → TellsRefusal refusal old new rose how → Checked a b path old new rose how
-refusal_checked a b path refusal old new rose status.ConfigRefused m reads h = (reads, (refusal, m, h))
-refusal_checked a b path refusal old new rose status.NoMemory m reads h = inl (reads, h)
-refusal_checked a b path refusal old new rose status.Ok m reads h = absurd h
-refusal_checked a b path refusal old new rose status.OutFault m reads h = absurd h
-refusal_checked a b path refusal old new rose status.ReadFault m reads h = absurd h
-refusal_checked a b path refusal old new rose _ m reads h = absurd h
-
-pub refusal_played : (a b : Shelf) (config script : List ℕ) (refusal : Refusal) (old new : Option (List ℕ)) (rose : Type 0) (R : Record) (how : Status) →
-    IsRefusedBy (a.held config) refusal × Reads a b (config ∷ []) ⊥ → TellsRefusal refusal old new rose how → IsEmptyRecord R → Played a b config script old new rose R how
-refusal_played a b config script refusal old new rose R status.ConfigRefused m h empty = (empty, m.1, (refusal, m.0, h))
-refusal_played a b config script refusal old new rose R status.NoMemory m h empty = inl (empty, inl m.1, h)
-refusal_played a b config script refusal old new rose R status.Ok m h empty = absurd h
-refusal_played a b config script refusal old new rose R status.OutFault m h empty = absurd h
-refusal_played a b config script refusal old new rose R status.ScriptRefused m h empty = absurd h
-refusal_played a b config script refusal old new rose R status.ReadFault m h empty = absurd h
-refusal_played a b config script refusal old new rose R _ m h empty = absurd h
-
 -- the same bytes
 pub told_as : (old new : Option (List ℕ)) (given due : List ℕ) (rose : Type 0) → given ≡ due → Told old new given rose → Told old new due rose
 told_as old new given due rose e h = subst (λ (t : List ℕ). Told old new t rose) e h

@@ -54,11 +54,6 @@ pub reads_stop : (text : List ℕ) (e : ConfigError) → Fails e (meaning text) 
 reads_stop text (config_error.Refused refusal) m = (text, refl, m)
 reads_stop text config_error.NoMemory m = tt
 
--- a reader finds no fault of a file
-pub judged_stop : (e : ConfigError) → stop_of e ≡ config_stop.ReadFault → ⊥
-judged_stop (config_error.Refused refusal) is = cc
-judged_stop config_error.NoMemory is = cc
-
 -- what was read gives what the file gives
 pub reads_whole : (told : Option (List ℕ)) (text : List ℕ) (r : Result Config ConfigStop) → IsFrontOf told (LONGEST_CONFIGURATION + 1) text → ReadsConfig (Some text) r → ReadsConfig told r
 reads_whole told text (Ok C) front m = (front.0, front.1, sym (meaning_front front.0 text front.2) ∙ ap meaning m.1 ∙ m.2)
@@ -70,10 +65,3 @@ reads_whole told text (Err config_stop.NoMemory) front m = tt
 
 pub reads_as : (a b : Shelf) (paths : List (List ℕ)) (f h : Type 0) → Reads a b paths f → (h → f) → Reads a b paths h
 reads_as a b paths f h reads is = record { held = reads.held; opened = reads.opened; faults = record { later = reads.faults.later; cause = λ x. reads.faults.cause (is x) } }
-
-pub reads_two : (a b c : Shelf) (config script : List ℕ) (f g h : Type 0) → Reads a b (config ∷ []) f → Reads b c (script ∷ []) g → (h → g) → Reads a c (script ∷ config ∷ []) h
-reads_two a b c config script f g h first second is = record {
-  held = second.held ∙ first.held;
-  opened = second.opened ∙ ap (λ (paths : List (List ℕ)). script ∷ paths) first.opened;
-  faults = record { later = omega (arith, first.faults.later, second.faults.later); cause = λ x. omega (arith, first.faults.later, second.faults.cause (is x)) };
-}

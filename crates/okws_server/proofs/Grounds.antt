@@ -62,10 +62,6 @@ new_idle es n e = subst AllIdle (sym e) (all_idle n)
 pub doors_many : {D : Type 0} (entrance : D → Entrance) (ds : List D) (n : ℕ) → map entrance ds ≡ replicate n new_entrance → length ds ≡ n
 doors_many entrance ds n e = sym (length-map ds entrance) ∙ ap length e ∙ length-replicate n new_entrance
 
--- as many as may be
-pub doors_few : {D : Type 0} (entrance : D → Entrance) (ds : List D) (server : Serving) → map entrance ds ≡ replicate server.doors new_entrance → IsServing server → (0 < length ds) × (length ds ≤ MOST_DOORS)
-doors_few entrance ds server e words = let m = doors_many entrance ds server.doors e in (omega (arith, words.some), omega (arith, words.few))
-
 -- a site that was read can be served
 pub servable_by : (C : Config) → IsSound C → AreRuled C → ((t : ℕ) → length (template_name C t) < 256) → IsServable C
 servable_by C sound rules names = record {

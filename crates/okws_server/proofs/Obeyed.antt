@@ -38,21 +38,6 @@ file_served wire tells server a b C R status.ReadFault m reads h = absurd h.ends
 file_served wire tells server a b C R status.ConfigRefused m reads h = absurd h.ends
 file_served wire tells server a b C R _ m reads h = absurd h.ends
 
--- a configuration that is refused
-pub refusal_served : {X : Type 0} (wire : X → ConnWire) (tells : Type 0) (server : Serving) (a b : View) (refusal : Refusal) (R : Record) (how : Status) → IsRefusedBy ((a.shelf).held server.config) refusal → Reads a.shelf b.shelf (server.config ∷ []) ⊥ →
-    b.gear ≡ a.gear → TellsRefusal refusal a.given b.given (Rose a.faults b.faults) how → IsEmptyRecord R → Served wire tells server a b R how
-refusal_served wire tells server a b refusal R status.ConfigRefused m reads gear h empty = (empty, reads, gear, (refusal, m, h))
-refusal_served wire tells server a b refusal R status.NoMemory m reads gear h empty = inl (reads, gear, record { empty = empty; told = h })
-refusal_served wire tells server a b refusal R status.Ok m reads gear h empty = absurd h
-refusal_served wire tells server a b refusal R status.Usage m reads gear h empty = absurd h
-refusal_served wire tells server a b refusal R status.ReadFault m reads gear h empty = absurd h
-refusal_served wire tells server a b refusal R status.StoreFault m reads gear h empty = absurd h
-refusal_served wire tells server a b refusal R status.NetFault m reads gear h empty = absurd h
-refusal_served wire tells server a b refusal R status.LogFault m reads gear h empty = absurd h
-refusal_served wire tells server a b refusal R status.ConsoleFault m reads gear h empty = absurd h
-refusal_served wire tells server a b refusal R status.OutFault m reads gear h empty = absurd h
-refusal_served wire tells server a b refusal R _ m reads gear h empty = absurd h
-
 -- ---- the words
 
 says_none : {X : Type 0} (wire : X → ConnWire) (tells : Type 0) (a b : View) (R : Record) (how : Status) → b.seed ≡ a.seed → IsEmptyRecord R → b.shelf ≡ a.shelf → b.gear ≡ a.gear → Says a.given b.given (Rose a.faults b.faults) how →

@@ -115,13 +115,6 @@ pub ran_lost : {S : Type 0} (P : Ran → Type 0) (ran : Option Ran) (log : Optio
 ran_lost P None log e h = tt
 ran_lost P (Some r) log e h = let there : is_some log ≡ true = h refl in absurd (false≢true (sym (ap is_some e) ∙ there))
 
--- its log's text goes nowhere
-pub ran_unlogged : {X S : Type 0} (wire : X → ConnWire) (server : Serving) (C : Config) (seed : List ℕ) (a b : Gear) (keepers : List KeeperIs) (ran : Option Ran) (log : Option S) → b.rack ≡ a.rack → (IsSome ran → IsSome log) →
-    IfSome ran (λ r. IfSome log (λ l. RanOver wire server C seed a b keepers r None 0)) → IfSome ran (RanUnlogged wire server C seed a b keepers)
-ran_unlogged wire server C seed a b keepers None log kept both h = tt
-ran_unlogged wire server C seed a b keepers (Some r) None kept both h = absurd (false≢true (both refl))
-ran_unlogged wire server C seed a b keepers (Some r) (Some l) kept both h = record { over = h; rack = kept }
-
 -- no log was wanted
 pub at_none : {X : Type 0} (wire : X → ConnWire) (server : Serving) (C : Config) (seed : List ℕ) (a b : Gear) (keepers : List KeeperIs) (ran : Option Ran) → server.log ≡ None → IfSome ran (RanUnlogged wire server C seed a b keepers) →
     IfSome ran (λ r. RanAt wire server C seed a b keepers r false)

@@ -80,13 +80,6 @@ played_more C seed reads (read.Says line) printed text S now h fits step = recor
   plays = rw (reverse-append h.lines (line ∷ [])) (S, printed, text, h.plays, step, refl);
 }
 
--- a line that was read and says something is played as that line
-pub played_says : (run after : Run) (line : Line) (a b : Printer) (r : Result (Option ScriptRule) AllocError) →
-    PlayedLine run line a b r after → PlayedRead run (read.Says line) a b r after
-played_says run after line a b (Ok None) h = h
-played_says run after line a b (Ok (Some rule)) h = h
-played_says run after line a b (Err e) h = (line, h.0, h.1, refl, h.2, h.3)
-
 -- where no rule is broken
 pub read_on : (run after : Run) (one : LineRead) (a b : Printer) (found : Option ScriptRule) → found ≡ None → PlayedRead run one a b (Ok found) after →
     PlayedRead run one a b (Ok None) after
@@ -138,13 +131,6 @@ due_of C seed text printed front rest S parts h = record {
   next = inl refl;
   due_is = sym (append-nil printed);
 }
-
--- memory was refused before the next line was read
-pub breaks_between : (C : Config) (first run : Run) (text : List ℕ) (rest : List LineRead) (n : ℕ) (a b : Printer) → first.config ≡ C →
-    ComesTo C first run (script_reads C text) rest n a b → (due : List ℕ) × IsDue first.config first.seed text due × PrintsFront a b due
-breaks_between C first run text rest n a b config_is i =
-    let due : IsDue C first.seed text i.printed = due_of C first.seed text i.printed i.reads rest run.stage i.parts i.played in
-    (i.printed, subst (λ (D : Config). IsDue D first.seed text i.printed) (sym config_is) due, rw (append-nil i.printed) at (whole_front a b i.printed [] i.on))
 
 -- memory was refused in the next line
 pub breaks_within : (C : Config) (first run after : Run) (text : List ℕ) (more : List LineRead) (one : LineRead) (n : ℕ) (a b c : Printer) (e : AllocError) → first.config ≡ C →

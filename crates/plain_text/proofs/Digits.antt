@@ -47,11 +47,6 @@ value_below word h =
     let power : 10 ^ length word ≤ 10 ^ 9 = pow-le-pow_right (lit< tt) most in
     omega (arith, value, power)
 
-pub number_digits : (word : List ℕ) → is_number word ≡ true → list_all is_ascii_digit word ≡ true
-number_digits word h =
-    let some = and_parts (nat_le 1 (length word)) (nat_le (length word) 9 && list_all is_ascii_digit word) h in
-    (and_parts (nat_le (length word) 9) (list_all is_ascii_digit word) some.1).1
-
 -- a number that was capped far above is the word's
 pub number_is : (word : List ℕ) (n : ℕ) → is_number word ≡ true → n ≡ min (decimal_value word) (2 ^ 64 - 1) → n ≡ decimal_value word
 number_is word n h is = let small = value_below word h in omega (arith, small, is)

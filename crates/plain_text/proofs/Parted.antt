@@ -67,6 +67,3 @@ alone text some = ap (λ t. cond t [] (text ∷ [])) (ne_eqb (length text) 0 (λ
 pub ended_line : (text front line rest : List ℕ) → slice_split (is_byte 10) text ≡ front ∷ slice_split (is_byte 10) rest → line ≡ strip_carriage_return front → lines text ≡ line ∷ lines rest
 ended_line text front line rest split is =
     ap (λ parts. lines_of_parts parts) split ∙ before_others front (slice_split (is_byte 10) rest) (has_part rest) ∙ ap (λ (first : List ℕ). first ∷ lines rest) (sym is)
-
-pub last_line : (text : List ℕ) → 0 < length text → slice_split (is_byte 10) text ≡ text ∷ [] → lines text ≡ text ∷ []
-last_line text some split = ap (λ parts. lines_of_parts parts) split ∙ alone text some

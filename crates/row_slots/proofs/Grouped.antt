@@ -214,10 +214,6 @@ pub on_err : {X E P Q : Type 0} (r : Result X E) → (P → Q) → OnErr r P →
 on_err (Ok x) f h = tt
 on_err (Err e) f h = f h
 
-pub if_ok : {X E : Type 0} {P Q : X → Type 0} (r : Result X E) → ((x : X) → P x → Q x) → IfOk r P → IfOk r Q
-if_ok (Ok x) f h = f x h
-if_ok (Err e) f h = tt
-
 no_places : (places : List ℕ) → true ≡ (length places == 0) → places ≡ []
 no_places [] h = refl
 no_places (p ∷ places) h = absurd (more (length places) h)

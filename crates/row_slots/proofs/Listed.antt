@@ -33,10 +33,6 @@ both_there a b p keys first now none one two =
     put_there b p (is_among p now) (is_among p first) two
     ∙ ap (λ (t : Bool). (b == p) || t) (sole_of (is_among p first) (a == p) (put_there a p (is_among p first) (is_among p keys) one ∙ ap (λ (ks : List ℕ). (a == p) || is_among p ks) none))
 
--- Another place beside a sole one.
-pub beside_sole : (sole place p : ℕ) (both : Bool) → both ≡ ((place == p) || (sole == p)) → both ≡ ((place == p) || is_among p (sole ∷ []))
-beside_sole sole place p both is = is ∙ ap (λ (b : Bool). (place == p) || b) (sym (alone sole p))
-
 -- A sole place stays where another one is taken out.
 pub sole_stays : (sole place p : ℕ) → (sole == place) ≡ false → is_among p (sole ∷ []) ≡ (not (place == p) && is_among p (sole ∷ []))
 sole_stays sole place p apart = alone sole p ∙ by (place == p) refl ∙ ap (λ (b : Bool). not (place == p) && b) (sym (alone sole p))
@@ -54,11 +50,3 @@ pub sole_goes : (sole place p : ℕ) → (sole == place) ≡ true → (not (plac
 sole_goes sole place p same =
     ap (λ (b : Bool). not (place == p) && b) (alone sole p ∙ ap (λ (n : ℕ). n == p) (nat_same sole place same))
     ∙ left_out (place == p)
-
--- No place is among none.
-pub none_among : (p : ℕ) (keys : List ℕ) → (length keys == 0) ≡ true → is_among p keys ≡ false
-none_among p [] h = refl
-none_among p (k ∷ keys) h = absurd (more (length keys) h)
-  where
-    more : (n : ℕ) → (suc n == 0) ≡ true → ⊥
-    more n e = let other : (suc n == 0) ≡ false = grind arith in cc

@@ -193,17 +193,6 @@ exchange_heard heard k C w old new sent items items' J now (exchanged.Crashed ca
 exchange_heard heard k C w old new sent items items' J now (exchanged.Crashed cause.Starved) whole (inr e) g =
     same_heard heard (exchanged.Crashed cause.Starved) (all_sent k (Some new) sent) _ items' e.5 (silent_heard heard k (heard_text items) e.1 old new sent whole e.3 g)
 
--- a Boot on a fresh link
-boot_given : (old new : Option (List ℕ)) (text : List ℕ) → Appends old new text → (old ≡ None → new ≡ None) → IfSome old (λ (given : List ℕ). given ≡ []) → IsGiven text None new
-boot_given None None text a untold fresh = tt
-boot_given None (Some y) text a untold fresh = let none : Some y ≡ None = untold refl in cc
-boot_given (Some x) None text a untold fresh = absurd a
-boot_given (Some x) (Some y) text a untold fresh = ([], a ∙ ap (λ (t : List ℕ). t ++ text) fresh ∙ sym (append-nil text), refl)
-
-pub boot_heard : (heard : List Hearing) (k n : ℕ) (frame : ServerFrame) (old new : Wire) (sent : List Sent) → n < k → IsFresh old → Moves old new [] (server_spelling frame) → AreGiven heard sent
-    → AreGiven (record { incarnation = k; text = server_spelling frame; broken = None } ∷ heard) (all_sent (max k n) (Some new) sent)
-boot_heard heard k n frame old new sent above fresh m g = (omega arith, boot_given old.given new.given (server_spelling frame) m.puts m.untold fresh, g)
-
 -- ---- what a cell's calls leave
 
 -- after an exchange of the open dialog

@@ -200,8 +200,5 @@ owns_next all more left s before owns is put h =
     ap (λ o. o ++ reverse (map (λ (x : Sat). x.own) left)) put
     ∙ (append_assoc before (s.own ∷ []) (reverse (map (λ (x : Sat). x.own) left)) ∙ (ap (λ r. before ++ r) (sym (turned_push (λ (x : Sat). x.own) more left s is)) ∙ h))
 
-pub owns_all : (all left : List Sat) (owns : List (List Own)) → left ≡ [] → owns ++ reverse (map (λ (x : Sat). x.own) left) ≡ reverse (map (λ (x : Sat). x.own) all) → owns ≡ reverse (map (λ (x : Sat). x.own) all)
-owns_all all left owns none h = sym (append-nil owns) ∙ (ap (λ l. owns ++ reverse (map (λ (x : Sat). x.own) l)) (sym none) ∙ h)
-
 pub as_many : {A B D : Type 0} (f : A → D) (g : B → D) (as' : List A) (bs : List B) → reverse (map f as') ≡ map g bs → length as' ≡ length bs
 as_many f g as' bs e = sym (length-map as' f) ∙ (sym (length-reverse (map f as')) ∙ (ap length e ∙ length-map bs g))

@@ -20,10 +20,6 @@ sees_on J M K now a b = record {
   pubd = λ past h. b.pubd past (a.pubd past h);
 }
 
--- nothing, and then a note
-pub starves_on : (J M K : Life) → Sees J.seen J M → Starves M K → Starves J K
-starves_on J M K a b = sees_on J M K (noted J.seen own.NoMemory) a (subst (λ (x : Seen). Sees (noted x own.NoMemory) M K) a.seen_is b)
-
 -- a note in a spare place, by what the number has seen at the columns and at the cells
 pub noted_starves : (s now : Sat) (cells : CellsSeen) (launcher : SeatIs Deed) → NotesSpare own.NoMemory s now
     → Starves (life_of s cells launcher) (life_of now cells launcher)

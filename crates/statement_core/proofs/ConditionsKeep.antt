@@ -52,10 +52,6 @@ test_kept columns j t size h =
     let kept = pair_kept columns j j (test_judged columns j t) t.column t.value word.0 size same h in
     record { met = kept.met; taken = kept.taken; is = kept.is; size = kept.size; grows = kept.grows; from = kept.from; fit = kept.fit }
 
--- the fault of a judgement that is kept
-kept_fault : (j result : Judged) (S : ℕ → Bool) (Fits : List Kind → Type 0) (k : Kept j result S Fits) → result.fault ≡ j.fault
-kept_fault j result S Fits k = ap (λ (x : Judged). x.fault) k.is
-
 -- one judgement after another
 pub kept_two : (j middle result : Judged) (S T : ℕ → Bool) (F G : List Kind → Type 0) → Kept j middle S F → Kept middle result T G → Kept j result (λ (n : ℕ). S n || T n) (λ (ks : List Kind). F ks × G ks)
 kept_two j middle result S T F G one more =

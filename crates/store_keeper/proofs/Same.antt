@@ -109,7 +109,3 @@ has_read ts read (Some T) new are alike sound = λ U e.
     ap Some (same_from ts T 0 ts read (λ i. ap (λ (m : ℕ). slice_index_or T m []) (start i) ∙ ap (λ (X : List (List (List Value))). slice_index_or X i []) new)
     (λ i. ap (λ (m : ℕ). first_in (slice_get ts m)) (start i) ∙ first_at ts i) are alike sound)
     ∙ ap Some (sym new) ∙ e
-
--- a store that tells nothing has any rows
-pub untold_has : (told rows : Option (List (List (List Value)))) → told ≡ None → HasRows told rows
-untold_has told rows e = λ U is. absurd (none-some U (sym e ∙ is))

@@ -65,11 +65,6 @@ pub record IsOpened {K : Type 0} (tables : K → List Table) (told : K → Optio
   pub same : tells → done ≡ take at old
   pub keepers : AreOf done (map tables ks) (map told ks)
 
-pub opened_none : {K : Type 0} (tables : K → List Table) (told : K → Option (List (List (List Value)))) (tells : Type 0) (old plans : List ProxyPlan) (ks : List K) → plans ≡ old → ks ≡ [] → IsOpened tables told tells old plans 0 ks
-opened_none tables told tells old plans ks same none =
-    subst (λ (xs : List _). IsOpened tables told tells old plans 0 xs) (sym none)
-    (record { done = []; parts = same; many = refl; alike = refl; same = λ t. refl; keepers = record { tables_are = refl; told_are = refl } })
-
 get_or_any : (xs : List ProxyPlan) (at : ℕ) (p q : ProxyPlan) → at < length xs → get_or xs at p ≡ get_or xs at q
 get_or_any [] at p q below = absurd (omega (arith, below))
 get_or_any (x ∷ xs) zero p q below = refl

@@ -198,20 +198,3 @@ unheard book now old new LinkFault hears unjudged = inl hears
 unheard book now old new NoMemory hears unjudged = inl hears
 unheard book now old new (Unlooked frame) hears unjudged = absurd unjudged
 unheard book now old new Unsayable hears unjudged = absurd hears.takes
-
-pub says_it : (book now : Guestbook) (old mid new : Wire) (frame : ServerFrame) (said : ServiceFrame) (result : Result (Unit {0}) Stop) → IsHeard old (Ok frame) mid
-    → IsHearing (Ok (Some said)) (turn book.awaits (book_of book) frame) frame now → ServiceHasSpelling said → Says mid said result new → Rounds book old result now new
-says_it book now old mid new frame said (Ok done) hears due spelled says = record { frame = frame; mid = mid; says = Some said; hears = hears; due = due; said = says }
-says_it book now old mid new frame said (Err LinkFault) hears due spelled says = inr (record { frame = frame; mid = mid; step = record { book = book_of now; awaits = now.awaits; says = Some said }; says = said; hears = hears; due = due; is = refl; said = says })
-says_it book now old mid new frame said (Err Unsayable) hears due spelled says = absurd (says.puts.0 spelled)
-says_it book now old mid new frame said (Err Ended) hears due spelled says = absurd says.puts
-says_it book now old mid new frame said (Err BadFrame) hears due spelled says = absurd says.puts
-says_it book now old mid new frame said (Err (Unlooked other)) hears due spelled says = absurd says.puts
-says_it book now old mid new frame said (Err NoMemory) hears due spelled says = absurd says.puts
-
-pub says_nothing : (book now : Guestbook) (old new : Wire) (frame : ServerFrame) → IsHeard old (Ok frame) new → IsHearing (Ok None) (turn book.awaits (book_of book) frame) frame now → Rounds book old (Ok tt) now new
-says_nothing book now old new frame hears due = record { frame = frame; mid = new; says = None; hears = hears; due = due; said = refl }
-
-pub unlooked : (book now : Guestbook) (old new : Wire) (frame other : ServerFrame) → IsHeard old (Ok frame) new → other ≡ frame → turn book.awaits (book_of book) frame ≡ None → Rounds book old (Err (Unlooked other)) now new
-unlooked book now old new frame other hears is due =
-    (subst (λ (f : ServerFrame). IsHeard old (Ok f) new) (sym is) hears, ap (λ (f : ServerFrame). turn book.awaits (book_of book) f) is ∙ due)

@@ -103,13 +103,6 @@ reached_next pairs template kept later before rest piece at next more reached sp
   whole = reached.whole ∙ ap (λ (t : List (List ℕ)). reached.done ++ all_begun at t) split ∙ ap (λ (n : ℕ). reached.done ++ (begun at piece ++ all_begun n (cut more))) (sym is) ∙ sym (append_assoc reached.done (begun at piece) (all_begun next (cut more)));
 }
 
--- the last part was put
-pub reached_end : (pairs : List (List ℕ × List ℕ)) (template : List ℕ) (kept : Bounded) (before : List ℕ) (at : ℕ) (behind : Option (List ℕ)) → behind ≡ None → Reached pairs template kept before at behind
-    → (first_refusal pairs (parts template) ≡ None) × Holds kept (before ++ meanings pairs (parts template))
-reached_end pairs template kept before at behind none reached =
-    let all : parts template ≡ reached.done = reached.whole ∙ ap (λ (b : Option (List ℕ)). reached.done ++ all_begun at (cut b)) none ∙ append-nil reached.done in
-    (ap (λ (p : List Part). first_refusal pairs p) all ∙ reached.fine, subst (λ (p : List Part). Holds kept (before ++ meanings pairs p)) (sym all) reached.put)
-
 -- a part is refused
 pub reached_exit : (pairs : List (List ℕ × List ℕ)) (template : List ℕ) (kept : Bounded) (before rest piece : List ℕ) (at : ℕ) (more : Option (List ℕ)) (result : Result (Unit {0}) FillError) (e : FillError) (one other : Type 0)
     → Reached pairs template kept before at (Some rest) → slice_split (is_byte 64) rest ≡ piece ∷ cut more → IsErrAnd result (λ y. y ≡ e) → IsPut (Err e) (first_refusal pairs (begun at piece)) one

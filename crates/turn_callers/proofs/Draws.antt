@@ -26,7 +26,3 @@ drew_after z [] [] e f = tt
 drew_after z [] (v ∷ new) e f = absurd (omega arith)
 drew_after z (w ∷ old) [] e f = absurd (omega arith)
 drew_after z (w ∷ old) (v ∷ new) e f = (f 0 v (omega arith), drew_after z old new (omega arith) (λ i d l. f (suc i) d (omega arith)))
-
--- one more number
-pub drew_more : (r : ℕ) (drawn numbers now : List ℕ) → drawn ≡ reverse numbers → now ≡ numbers ++ r ∷ [] → r ∷ drawn ≡ reverse now
-drew_more r drawn numbers now e n = ap (λ l. r ∷ l) e ∙ sym (ap reverse n ∙ reverse-append numbers (r ∷ []))

@@ -35,9 +35,6 @@ use Rattle.monitor_model.specs.Answered.{StandsIn, AnswersIn, AreAnsweredIn, IsF
 abbrev pub Extends : {E : Type 0} → List (Entry E) → List (Entry E) → Type 0
 Extends {E} J now = (since : List (Entry E)) × (now ≡ since ++ J)
 
-extends_same : {E : Type 0} (J : List (Entry E)) → Extends J J
-extends_same J = ([], refl)
-
 extends_then : {E : Type 0} (J mid now : List (Entry E)) → Extends J mid → Extends mid now → Extends J now
 extends_then J mid now a b = (b.0 ++ a.0, rw (b.1, a.1, append_assoc b.0 a.0 J) refl)
 

@@ -8,5 +8,6 @@ pub mod items;
 pub mod journal;
 pub mod limit;
 pub mod name;
+pub mod pairing;
 pub mod told;
 pub mod value;

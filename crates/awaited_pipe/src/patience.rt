@@ -1,6 +1,6 @@
 //! How long a thread looks for what it awaits before it sleeps.
 
-ghost use Rattle.std.specs.Prelude.{◌≡◌, ◌+◌, true};
+ghost use Rattle.std.specs.Prelude.{◌≡◌, ◌≤◌, ◌+◌, true, false};
 
 use libc::types::timespec;
 use libc::{CLOCK_MONOTONIC, clock_gettime};
@@ -108,6 +108,7 @@ impl<'a> Looks<'a> {
     /// Behind a look that found nothing: whether to look again, before which others were let run, or to sleep.
     pub fn again(&mut self) -> bool
         ensures fewer { result ≡ true → self.new.left + 1 ≡ self.old.left }
+        ensures no_more { result ≡ false → self.new.left ≤ self.old.left }
     {
         if self.ended {
             return false;

@@ -5,6 +5,10 @@
 #[cfg(test)]
 mod dispatch;
 #[cfg(test)]
+mod grants;
+#[cfg(test)]
+mod holding;
+#[cfg(test)]
 mod log;
 #[cfg(test)]
 mod proxy;
@@ -14,3 +18,5 @@ mod reads;
 mod site;
 #[cfg(test)]
 mod templates;
+#[cfg(test)]
+mod tokens;

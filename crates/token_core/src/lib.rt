@@ -101,6 +101,3 @@ pub fn tokens_are_told_apart()
     ensures shows { ShowsItsNumbers }
     ensures differs { DiffersByNumbers }
 {}
-
-#[cfg(test)]
-mod tests;

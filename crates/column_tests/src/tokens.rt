@@ -1,8 +1,8 @@
 //! Words of ChaCha20 against RFC 8439, and worked tokens. Not tested here: seeds but zero and those of
 //! the RFC.
 
-use crate::{Claims, shown, token, word};
-use std::process::Abort;
+use crate::holding::holds;
+use token_core::{Claims, shown, token, word};
 
 const ZERO: [u8; 32] = [0; 32];
 
@@ -22,7 +22,7 @@ const ASCENDING: [u8; 32] = [
 fn first_words_of_the_zero_seed(rt: HostRuntime) {
     let words = [0xade0b876, 0x903df1a0, 0xe56a5d40, 0x28bd8653, 0xb819d2bd];
     for (place, expected) in words.iter().enumerate() {
-        assert_eq!(rt; word(&ZERO, 0, place as u128), *expected, "at {place}");
+        holds(&rt, word(&ZERO, 0, place as u128) == *expected, "a word");
     }
 }
 
@@ -40,11 +40,8 @@ fn key_streams_of_the_rfc(rt: HostRuntime) {
         (ZERO, 2 << 56, 1, [0x8c, 0xd5, 0x36, 0x37]),
     ];
     for (seed, stream, place, expected) in rows {
-        assert_eq!(rt;
-            word(&seed, stream, place).to_le_bytes(),
-            expected,
-            "at {place}"
-        );
+        let bytes = word(&seed, stream, place).to_le_bytes();
+        holds(&rt, bytes == expected, "bytes of a word");
     }
 }
 
@@ -55,11 +52,8 @@ fn block_of_the_rfc(rt: HostRuntime) {
     let words = [0xe4e7f110, 0x15593bd1, 0x1fdd0f50, 0xc47120a3];
     for (place, expected) in words.iter().enumerate() {
         let place = 0x0900_0000_0000_0001_0 + place as u128;
-        assert_eq!(rt;
-            word(&ASCENDING, 0x4a00_0000, place),
-            *expected,
-            "at {place}"
-        );
+        let found = word(&ASCENDING, 0x4a00_0000, place);
+        holds(&rt, found == *expected, "a word of the block");
     }
 }
 
@@ -73,8 +67,8 @@ fn worked_tokens(rt: HostRuntime) {
         0, 0, 0, 1, 0, 0, 0, 1, 0x28, 0xbd, 0x86, 0x53, 0xb8, 0x19, 0xd2, 0xbd, 0x1a, 0xed, 0x8d,
         0xa0,
     ];
-    assert_eq!(rt; token(&ZERO, 0, 1, 0).bytes, first);
-    assert_eq!(rt; token(&ZERO, 0, 1, 1).bytes, second);
+    holds(&rt, token(&ZERO, 0, 1, 0).bytes == first, "first");
+    holds(&rt, token(&ZERO, 0, 1, 1).bytes == second, "second");
 }
 
 // The words were made by OpenSSL 3.0's `enc -chacha20`: block 2,999,999, words 13 to 15.
@@ -84,7 +78,11 @@ fn last_token_of_a_service(rt: HostRuntime) {
         0, 0x3f, 0, 0x0f, 0, 0x0f, 0x42, 0x40, 0x60, 0xe8, 0xc2, 0x0d, 0xa2, 0x8f, 0x4a, 0x60,
         0x32, 0x3e, 0xef, 0x65,
     ];
-    assert_eq!(rt; token(&ASCENDING, 63, 1_000_000, 15).bytes, last);
+    holds(
+        &rt,
+        token(&ASCENDING, 63, 1_000_000, 15).bytes == last,
+        "last",
+    );
 }
 
 #[test]
@@ -97,7 +95,7 @@ fn shown_by_twenty_bytes_alone(rt: HostRuntime) {
         proxy: 0x0304,
         incarnation: 0x0506_0708,
     };
-    assert!(rt; shown(&bytes[..19]) == None);
-    assert!(rt; shown(&bytes[..20]) == Some(claims));
-    assert!(rt; shown(&bytes) == None);
+    holds(&rt, shown(&bytes[..19]) == None, "shown");
+    holds(&rt, shown(&bytes[..20]) == Some(claims), "shown");
+    holds(&rt, shown(&bytes) == None, "shown");
 }

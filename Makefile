@@ -25,6 +25,6 @@ play: bin
 try:
 	@echo "-- nothing of this is proved: make run proves it"
 	cd crates/okws_program && rt try -- play data/site.okws data/one_dialog.script
-man: docs/okws.1 docs/okws-config.5
+man: docs/okws.1 docs/okws-config.5 docs/okws-frames.7
 docs/%: docs/%.md
-	pandoc --standalone --to man --output $@ $<
+	pandoc --standalone --from markdown-smart --columns 66 --to man --output $@ $<

@@ -3,8 +3,9 @@
 contract of `okws` reaches and the others.
 
     docs/definitions.py            writes the file
-    docs/definitions.py --check    says whether the file is what would be written, whether a sentence is missing, and whether docs/MODEL.md,
-                                   docs/SCRIPT.md or docs/SERVER.md quotes a definition that doesn't stand so in specs/
+    docs/definitions.py --fill     writes the sentences into the tables of docs/MODEL.md, docs/SCRIPT.md and docs/SERVER.md
+    docs/definitions.py --check    says whether the file is what would be written, whether a sentence is missing, and whether one of these pages quotes
+                                   a definition, or tells a sentence in a table, that doesn't stand so in specs/
 """
 import re
 import sys
@@ -16,6 +17,9 @@ OUT = ROOT / "docs" / "DEFINITIONS.md"
 ROOTS = ["okws_server/src/top.rt", "okws_outer/src/world.rt", "okws_outer/src/files.rt", "okws_outer/src/stream.rt"]
 BEGINS = re.compile(r"(?:abbrev|unfoldable) (?:pub )?(?P<a>[^\s:(){},]+)|pub (?:record|data) (?P<b>[^\s:(){},]+)|pub (?P<c>[^\s:(){},]+) :")
 USE = re.compile(r"(?:ghost )?use Rattle\.(\w+)\.specs\.([\w.]+)\.\{([^}]*)\}")
+PAGES = ("MODEL.md", "SCRIPT.md", "SERVER.md")
+# A row of a page's table: a definition, where it stands, and its sentence.
+ROW = re.compile(r"^\| `([^`]+)` \| `(\w+)/(\w+)` \| (.*) \|$", re.M)
 WORD = re.compile(r"[^\s(){}\[\],;.:λ→×⊎≡≢≤<+∷'`]+")
 
 
@@ -110,15 +114,42 @@ def table(modules, chosen):
         rows = [(name, says) for name, says, _ in found if chosen((crate, module, name))]
         if rows:
             out.append(f"### `crates/{crate}/specs/{module}.antt`\n\n{head}\n\n| definition | says |\n|---|---|")
-            out += [f"| `{name}` | {says.replace('|', chr(92) + '|')} |" for name, says in rows]
+            out += [f"| `{name}` | {cell(says)} |" for name, says in rows]
             out.append("")
     return out
 
 
+def cell(sentence):
+    return sentence.replace("|", chr(92) + "|")
+
+
+def sentences(modules):
+    return {(crate, module, name): cell(says) for (crate, module), (_, found) in modules.items() for name, says, _ in found}
+
+
+def fill(modules):
+    """Writes into each page's tables the sentences that stand above the definitions."""
+    says = sentences(modules)
+    for page in PAGES:
+        path = ROOT / "docs" / page
+        path.write_text(ROW.sub(lambda it: f"| `{it[1]}` | `{it[2]}/{it[3]}` | {says.get((it[2], it[3], it[1]), it[4])} |", path.read_text()))
+
+
+def mistold(modules):
+    """Returns the rows of the pages' tables whose definition doesn't stand where they say, or has another sentence."""
+    says = sentences(modules)
+    return [
+        f"docs/{page} tells another sentence of {name} than crates/{crate}/specs/{module}.antt"
+        for page in PAGES
+        for name, crate, module, told in ROW.findall((ROOT / "docs" / page).read_text())
+        if says.get((crate, module, name)) != told
+    ]
+
+
 def misquoted():
-    """Returns the quotations of docs/MODEL.md, docs/SCRIPT.md and docs/SERVER.md, each a block `antt CRATE/FILE`, that don't stand so in specs/."""
+    """Returns the quotations of the pages, each a block `antt CRATE/FILE`, that don't stand so in specs/."""
     found = []
-    for page in ("MODEL.md", "SCRIPT.md", "SERVER.md"):
+    for page in PAGES:
         text = (ROOT / "docs" / page).read_text()
         found += [(page, *it) for it in re.findall(r"^```antt (\w+)/(\w+)\n(.*?)^```$", text, re.M | re.S)]
     return [
@@ -130,6 +161,9 @@ def misquoted():
 
 def main():
     modules, cites = read_all()
+    if sys.argv[1:] == ["--fill"]:
+        fill(modules)
+        return
     seen = reached(cites)
     missing = [f"{c}/specs/{m}.antt: {n}" for (c, m), (_, found) in modules.items() for n, says, _ in found if not says]
     unsaid = [n for (c, m), (_, found) in modules.items() for n, says, _ in found if not says and (c, m, n) in seen]
@@ -156,7 +190,7 @@ def main():
         same = OUT.exists() and OUT.read_text() == text
         if not same:
             print("docs/DEFINITIONS.md is not what docs/definitions.py writes")
-        wrong = misquoted()
+        wrong = misquoted() + mistold(modules)
         for it in wrong:
             print(it)
         sys.exit(0 if same and not unsaid and not wrong else 1)

@@ -1,6 +1,6 @@
 # The gate; the proofs alone; the program; the programs that are services; a server to look at, and one of three requests; the example of a script, proved and
-# unproved; and the manual pages.
-.PHONY: test check bin services run demo play try man
+# unproved; the manual pages; and the index of the definitions and the table of the crates.
+.PHONY: test check bin services run demo play try man docs
 PORT ?= 8080
 test:
 	rt ci
@@ -28,3 +28,6 @@ try:
 man: docs/okws.1 docs/okws-config.5 docs/okws-frames.7
 docs/%: docs/%.md
 	pandoc --standalone --from markdown-smart --columns 66 --to man --output $@ $<
+docs:
+	docs/definitions.py
+	docs/crates.py

@@ -5,18 +5,10 @@ what it is.
 import re
 from pathlib import Path
 
+from functions import all_below, listed
+
 ROOT = Path(__file__).resolve().parent.parent
 OUT = ROOT / "docs" / "CRATES.md"
-
-
-def listed():
-    """Returns the crates of crates.txt in order, each with those of the repository that its line names."""
-    found = {}
-    for line in (ROOT / "crates.txt").read_text().split("\n"):
-        name, colon, below = line.partition("#")[0].partition(":")
-        if colon:
-            found[name.strip()] = [it for it in below.split() if it in found]
-    return found
 
 
 def head_of(crate):
@@ -32,9 +24,9 @@ def head_of(crate):
 
 def main():
     crates = listed()
-    levels = {}
-    for name, below in crates.items():
-        levels[name] = 1 + max((levels[it] for it in below), default=0)
+    below_each, levels = all_below(crates), {}
+    for name in sorted(crates, key=lambda it: len(below_each[it])):
+        levels[name] = 1 + max((levels[it] for it in crates[name]), default=0)
     rows = [
         f"| `{name}` | {levels[name]} | {', '.join(f'`{it}`' for it in below)} | {head_of(name).replace('|', chr(92) + '|')} |"
         for name, below in crates.items()

@@ -5,11 +5,14 @@ those that the contract of `okws` reaches and the others.
     docs/definitions.py            writes the file, which isn't kept
     docs/definitions.py --fill     writes the sentences into the tables of docs/MODEL.md, docs/SCRIPT.md and docs/SERVER.md
     docs/definitions.py --check    says which definition that the contract reaches has no sentence, and where one of these pages quotes a definition,
-                                   or tells a sentence in a table, that doesn't stand so in specs/
+                                   or tells a sentence in a table, that doesn't stand so in specs/; and which function that a page names doesn't exist,
+                                   or is called by nothing that runs (docs/functions.py says how that is found), and which wrong body isn't there
 """
 import re
 import sys
 from pathlib import Path
+
+from functions import misnamed, unplanted
 
 ROOT = Path(__file__).resolve().parent.parent
 OUT = ROOT / "docs" / "DEFINITIONS.md"
@@ -187,7 +190,7 @@ def main():
     if sys.argv[1:] == ["--check"]:
         for it in missing:
             print(f"no sentence above {it}")
-        wrong = misquoted() + mistold(modules)
+        wrong = misquoted() + mistold(modules) + misnamed() + unplanted()
         for it in wrong:
             print(it)
         sys.exit(1 if unsaid or wrong else 0)

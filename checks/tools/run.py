@@ -1,0 +1,46 @@
+"""Runs the checks of the tools: run.py PROGRAM [CHECK]. The last line is 'N passed, N failed, N skipped'."""
+import os, shutil, subprocess, sys, tempfile, time
+import common
+import up
+
+MODULES = [up]
+
+
+def checks():
+    """The public functions of the modules of checks, in their order."""
+    for module in MODULES:
+        for name, found in vars(module).items():
+            if callable(found) and getattr(found, '__module__', '') == module.__name__ and found.__code__.co_argcount == 0:
+                yield name, found
+
+
+def main():
+    os.environ['OKWS'] = os.path.realpath(sys.argv[1])
+    only, counts = sys.argv[2:], {'passed': 0, 'failed': 0, 'skipped': 0}
+    folder = tempfile.mkdtemp()
+    os.chdir(folder)
+    try:
+        for name, check in checks():
+            if only and name not in only:
+                continue
+            begun = time.monotonic()
+            try:
+                check()
+                became = 'passed'
+            except common.Skipped as why:
+                became = 'skipped'
+                print(f'{name}: skipped: {why}', flush=True)
+            except (AssertionError, OSError, subprocess.TimeoutExpired, ValueError, KeyError, IndexError) as why:
+                became = 'failed'
+                print(f'{name}: {type(why).__name__} {why}', flush=True)
+            counts[became] += 1
+            if only:
+                print(f'{name}: {became} in {time.monotonic() - begun:.1f} s')
+    finally:
+        os.chdir('/')
+        shutil.rmtree(folder, ignore_errors=True)
+    print(', '.join(f'{number} {word}' for word, number in counts.items()))
+    return counts['failed'] != 0
+
+
+sys.exit(main())

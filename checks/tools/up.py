@@ -1,0 +1,224 @@
+"""Checks of okws-up and okws-ctl."""
+import json, os, signal, socket, subprocess, threading
+from common import SITE, TOOLS, Up, a_port, ask, has, read, run, same, wait_until, write
+
+ANN = (200, '1 ann\n')
+
+
+def status_of(up):
+    return json.loads(run('okws-ctl', 'status', '--json', cwd=up.folder))
+
+
+def gone(pid):
+    """Whether a process has ended, waited for or not."""
+    try:
+        return read(f'/proc/{pid}/stat').rsplit(')', 1)[1].split()[0] == 'Z'
+    except OSError:
+        return True
+
+
+def a_site_is_kept_and_steered():
+    write('kept/templates/page.txt', 'before\n@{rows}')
+    with Up('kept', '--templates', 'templates') as up:
+        same(ask(up.port), (200, 'before\n1 ann\n'))
+        has(up.ctl('status'), 'ready', '1 children of 1 services run', 'page: edition 1')
+        write('kept/other', '@{rows}behind\n')
+        same(up.ctl('publish', 'page', 'other'), 'published 2\n')
+        same(ask(up.port), (200, '1 ann\nbehind\n'))
+        same(up.ctl('relaunch', 'notes'), 'relaunched 2\n')
+        same(ask(up.port), (200, '1 ann\nbehind\n'))
+        children = [child['process'] for child in status_of(up)['children']]
+        same(up.ctl('stop'), 'stopping\n')
+        same(up.ends(), 0)
+        assert all(map(gone, children)), children
+        same(os.listdir('kept/run'), ['console.lock'])
+        run('okws-ctl', 'status', status=3, cwd='kept')
+
+
+def paths_may_have_spaces():
+    write('a site/the pages/page.txt', '@{rows}')
+    with Up('a site', '--templates', 'the pages', '--store', 'the rows', '--log', 'the log', '--run', 'a run') as up:
+        same(ask(up.port, content='2 bob'), (303, ''))
+        same(ask(up.port), (200, '1 ann\n2 bob\n'))
+        same(run('okws-ctl', '--run', 'a run', 'publish', cwd='a site'), '0 published, 0 not\n')
+    same(read('a site/the log').split(' ', 1)[1], '1 notes 1 entered 2\n')
+
+
+def a_folder_is_one_boxs():
+    with Up('one') as up:
+        has(run('okws-up', 'site.okws', '--port', str(a_port()), status=1, cwd='one'), 'another okws-up has')
+        same(ask(up.port), ANN)
+        up.ctl('status')
+
+
+def what_a_killed_box_leaves_is_taken_over():
+    with Up('killed', '--store', 'rows', '--log', 'log') as up:
+        server = status_of(up)['server']['process']
+        up.process.kill()
+        wait_until(lambda: gone(server))
+        assert os.path.exists('killed/run/console')
+    with Up('killed', '--store', 'rows', '--log', 'log', port=up.port) as up:
+        same(ask(up.port), ANN)
+        up.ctl('status')
+
+
+def what_is_no_socket_is_left_alone():
+    write('plain/run/console', 'mine')
+    with Up('plain') as up:
+        same(up.ends(), 1)
+        has(up.events(), 'is none of okws-up')
+    same(read('plain/run/console'), 'mine')
+
+
+def template_files_that_fit_nothing_are_told():
+    for name in ('page.txt', 'page.html', 'pgae.txt', '.page.swp', 'page.txt~'):
+        write(f'odd/templates/{name}', '@{rows}')
+    write('odd/templates/big.txt', 'x' * 262145)
+    with Up('odd', '--templates', 'templates', site=SITE + 'template big\ntemplate none\n') as up:
+        has(up.events(), 'pgae.txt: no template pgae', 'page.txt: page.html is the file', 'big.txt: more than 262144', 'template none: no file')
+        assert 'swp' not in up.events() and 'txt~' not in up.events(), up.events()
+        same(ask(up.port), ANN)
+    with Up('odd', '--templates', 'nowhere') as up:
+        has(up.events(), 'nowhere: No such file')
+        same(ask(up.port), ANN)
+
+
+def a_hangup_publishes_what_changed_and_opens_the_log_anew():
+    write('hup/templates/page.txt', 'a')
+    with Up('hup', '--templates', 'templates', '--log', 'log') as up:
+        ask(up.port, content='2 bob')
+        wait_until(lambda: 'entered 2' in read('hup/log'))
+        os.rename('hup/log', 'hup/log.1')
+        write('hup/templates/page.txt', 'b')
+        up.process.send_signal(signal.SIGHUP)
+        wait_until(lambda: 'published 2' in up.events() and os.path.exists('hup/log'))
+        same(ask(up.port), (200, 'b'))
+        ask(up.port, content='3 cy')
+        wait_until(lambda: 'entered 3' in read('hup/log'))
+    assert 'entered 3' not in read('hup/log.1')
+
+
+def the_next_run_has_the_same_site():
+    write('again/templates/page.txt', 'a')
+    with Up('again', '--templates', 'templates', '--store', 'rows', '--count', '3') as up:
+        up.ctl('publish', 'page', 'site.okws')
+        write('again/page', 'c @{rows}')
+        up.ctl('publish', 'page', 'page')
+        write('again/site.okws', 'no configuration')
+        same([ask(up.port, content=f'{n} bob')[0] for n in (2, 3, 4)], [303] * 3)
+        wait_until(lambda: 'run 2 serves' in up.events())
+        same(ask(up.port), (200, 'c 1 ann\n2 bob\n3 bob\n4 bob\n'))
+        told = status_of(up)
+        same((told['run'], told['earlier']), (2, {'connections': 3, 'accepts': 3, 'launches': 1, 'publications': 3, 'logged': 3}))
+
+
+def a_request_is_answered_before_the_end():
+    with Up('grace') as up:
+        told = []
+        client = threading.Thread(target=lambda: told.append(ask(up.port, '/notes/slow/1')))
+        client.start()
+        wait_until(lambda: connected(up.port))
+        up.process.terminate()
+        client.join(30)
+        same((told, up.ends()), ([ANN], 0))
+
+
+def connected(port):
+    with open('/proc/net/tcp') as f:
+        return any(words[1] == f'0100007F:{port:04X}' and words[3] == '01' for words in map(str.split, f))
+
+
+def a_second_signal_waits_for_nobody():
+    with Up('hurry', '--grace', '60') as up, socket.create_connection(('127.0.0.1', up.port)):
+        wait_until(lambda: connected(up.port))
+        up.process.terminate()
+        wait_until(lambda: 'being stopped' in up.events())
+        up.process.terminate()
+        same(up.process.wait(10), 0)
+
+
+def a_box_can_be_ended_at_any_moment_of_its_start():
+    for milliseconds in (0, 60, 120, 180, 240, 300, 400, 500):
+        with Up('early', '--store', 'rows', '--log', 'log', wait=False) as up:
+            wait_until(lambda: os.path.exists('early/run/console.lock'))
+            threading.Event().wait(milliseconds / 1000)
+            up.process.terminate()
+            assert up.ends() in (0, -signal.SIGTERM), up.events()
+            assert not connected(up.port)
+    with Up('early', '--store', 'rows') as up:
+        same(ask(up.port), ANN)
+
+
+def a_refused_configuration_is_told_in_words():
+    with Up('refused', site=SITE + 'grant note main 1\n') as up:
+        same(up.ends(), 4)
+        has(up.events(), 'refused: config line 13 rule 11', 'the configuration is refused', 'did you mean notes, not note?')
+    same(os.listdir('refused/run'), ['console.lock'])
+
+
+def what_another_holds_ends_the_box_with_its_status():
+    with Up('held', '--store', 'rows') as up:
+        with Up('held', '--store', 'rows', '--run', 'second') as second:
+            same(second.ends(), 6)
+            has(second.events(), 'store fault', 'another server has it')
+        with Up('held', '--run', 'second', port=up.port) as second:
+            same(second.ends(), 5)
+            has(second.events(), 'net fault', 'another program listens there')
+        same(ask(up.port), ANN)
+
+
+def a_killed_server_ends_the_box_and_a_killed_child_is_told():
+    with Up('dead') as up:
+        told = status_of(up)
+        child = told['children'][0]['process']
+        os.kill(child, signal.SIGKILL)
+        wait_until(lambda: f'child {child} has ended' in up.events())
+        ask(up.port)
+        same(ask(up.port), ANN)
+        os.kill(told['server']['process'], signal.SIGKILL)
+        same(up.ends(), 1)
+        has(up.events(), 'killed by signal 9')
+
+
+def orders_that_name_nothing_do_not_come_to_the_server():
+    site = SITE + 'service none ./nothing\nuri /none none\n'
+    with Up('orders', site=site) as up:
+        has(up.ctl('relaunch', 'none', status=1), 'dead 3')
+        has(up.ctl('relaunch', 'noone', status=1), 'no such template or service')
+        has(up.ctl('publish', 'pag', 'site.okws', status=1), 'no such template or service')
+        write('orders/big', 'x' * 300000)
+        has(up.ctl('publish', 'page', 'big', status=1), 'more than 262144 bytes')
+        has(up.ctl('publish', 'page', 'nowhere', status=1), 'No such file')
+        has(up.ctl('status', status=1), '1 children of 2 services run')
+        for words in (['relaunch'], ['reboot', 'notes'], ['publish', 'page'], ['--nothing', 'status']):
+            up.ctl(*words, status=2)
+        for sent in (b'publish page 9\nend\n', b'nonsense\n', b'\xff\xfe\n', b'relaunch ' + b'x' * 5000 + b'\n'):
+            with socket.socket(socket.AF_UNIX) as s:
+                s.connect('orders/run/console')
+                s.sendall(sent)
+        same(ask(up.port), ANN)
+        same(up.ctl('relaunch', 'notes'), 'relaunched 2\n')
+
+
+def a_file_that_takes_no_log_is_told_at_once():
+    with Up('nolog', '--log', 'nowhere/log') as up:
+        same(up.ends(), 7)
+        has(up.events(), 'nowhere/log: No such file')
+
+
+def systemd_is_told():
+    with socket.socket(socket.AF_UNIX, socket.SOCK_DGRAM) as s:
+        s.bind('notices')
+        s.settimeout(30)
+        with Up('told', environment={'NOTIFY_SOCKET': os.path.abspath('notices')}) as up:
+            has(s.recv(4096).decode(), 'READY=1', f'run 1 serves 127.0.0.1:{up.port}')
+            up.process.terminate()
+            same(s.recv(4096).decode(), 'STOPPING=1')
+
+
+def words_that_are_none_are_refused():
+    write('words/site.okws', SITE)
+    for words in ([], ['site.okws'], ['site.okws', '--port', 'x'], ['site.okws', '--port', '1', '--nothing']):
+        run('okws-up', *words, status=2, cwd='words')
+    run('okws-up', 'nowhere', '--port', '1', status=3, cwd='words')
+    run('okws-ctl', 'status', status=3, cwd='words')

@@ -1,0 +1,143 @@
+"""A running `okws serve`: its console over two pipes, its children, and its end."""
+import dataclasses, os, re, shutil, signal, subprocess, threading, time
+
+PATIENCE = 2.0      # seconds for a child to end by itself, and again once it was told to
+ANSWERS = re.compile(r'published \d+|relaunched \d+|dead \d+|refused \d+ \d+|no memory')
+LISTENS, IS_CONNECTED = '0A', '01'
+
+
+@dataclasses.dataclass(frozen=True)
+class Process:
+    """A process by its number and the time of its start, which no later process has both of."""
+    pid: int
+    start: str
+    words: tuple
+
+    def is_there(self):
+        return start_of(self.pid) == self.start
+
+    def tell(self, number):
+        try:
+            os.kill(self.pid, number)
+        except ProcessLookupError:
+            pass
+
+
+def start_of(pid):
+    """The time of a process's start, or None where there is none that runs."""
+    try:
+        with open(f'/proc/{pid}/stat') as f:
+            fields = f.read().rsplit(')', 1)[1].split()
+    except OSError:
+        return None
+    return None if fields[0] in 'ZX' else fields[19]
+
+
+def kilobytes(pid):
+    """How much memory a process has in use."""
+    try:
+        with open(f'/proc/{pid}/statm') as f:
+            return int(f.read().split()[1]) * os.sysconf('SC_PAGE_SIZE') // 1024
+    except OSError:
+        return 0
+
+
+def children_of(pid):
+    """The children of a process that run, by their numbers."""
+    found = {}
+    try:
+        for task in os.listdir(f'/proc/{pid}/task'):
+            with open(f'/proc/{pid}/task/{task}/children') as f:
+                for child in map(int, f.read().split()):
+                    with open(f'/proc/{child}/cmdline', 'rb') as words:
+                        told = words.read().decode(errors='replace').split('\0')[:-1]
+                    if start := start_of(child):
+                        found[child] = Process(child, start, tuple(told))
+    except OSError:
+        pass
+    return found
+
+
+def sockets_at(port, state):
+    """How many sockets of 127.0.0.1:PORT are in a state of TCP."""
+    with open('/proc/net/tcp') as f:
+        return sum(words[1] == f'0100007F:{port:04X}' and words[3] == state for words in map(str.split, f))
+
+
+def wait_for(processes, seconds):
+    """Those of these processes that are there after so many seconds."""
+    until = time.monotonic() + seconds
+    while any(one.is_there() for one in processes) and time.monotonic() < until:
+        time.sleep(0.02)
+    return [one for one in processes if one.is_there()]
+
+
+def end_processes(processes):
+    """Waits for these to end by themselves, then tells them to, then ends them."""
+    for number in (signal.SIGTERM, signal.SIGKILL):
+        processes = wait_for(processes, PATIENCE)
+        for one in processes:
+            one.tell(number)
+
+
+class Server:
+    """A run of a server, with the words behind `okws`. It ends with this process, however that ends, where the system has setpriv."""
+    def __init__(self, okws, words, environment):
+        outlived_by_none = ['setpriv', '--pdeathsig', 'KILL', '--'] if shutil.which('setpriv') else []
+        self.process = subprocess.Popen([*outlived_by_none, okws, *words], stdin=subprocess.PIPE, stdout=subprocess.PIPE, env=environment, process_group=0)
+        self.turn = threading.Lock()
+        self.last = []
+
+    def ask(self, line, content=b''):
+        """The answer to a line of the console and the bytes behind it, or None where the server has ended."""
+        with self.turn:
+            try:
+                self.process.stdin.write(line.encode() + b'\n' + content)
+                self.process.stdin.flush()
+            except (OSError, ValueError):
+                return None
+            answer = self.process.stdout.readline().decode(errors='replace').rstrip('\n')
+            if ANSWERS.fullmatch(answer):
+                return answer
+            self.last.append(answer)
+            return None
+
+    def begins(self):
+        """Whether the run began: its console answers once its doors are open and its services launched."""
+        return self.ask('ready?') is not None
+
+    def is_there(self):
+        return self.process.poll() is None
+
+    def has_doors(self):
+        """Whether a door serves yet: each has a thread beside the console's."""
+        try:
+            return len(os.listdir(f'/proc/{self.process.pid}/task')) > 1
+        except OSError:
+            return False
+
+    def children(self):
+        return children_of(self.process.pid) if self.is_there() else {}
+
+    def close_console(self):
+        with self.turn:
+            try:
+                self.process.stdin.close()
+            except OSError:
+                pass
+
+    def ends(self):
+        """Waits for the run's end: the status, and the lines that it printed last."""
+        with self.turn:
+            self.last += self.process.stdout.read().decode(errors='replace').splitlines()
+        return self.process.wait(), [line for line in self.last if line]
+
+    def end(self, port, grace, hurry):
+        """Ends the server once no client is connected, after so many seconds at most or in a hurry, and then its children."""
+        until = time.monotonic() + grace
+        while self.is_there() and sockets_at(port, IS_CONNECTED) and time.monotonic() < until and not hurry.is_set():
+            hurry.wait(0.05)
+        children = list(self.children().values())
+        self.process.terminate()
+        self.process.wait()
+        end_processes(children)

@@ -1,9 +1,9 @@
 """Runs the checks of the tools: run.py PROGRAM [CHECK]. The last line is 'N passed, N failed, N skipped'."""
 import os, shutil, subprocess, sys, tempfile, time
 import common
-import up
+import seeing, up
 
-MODULES = [up]
+MODULES = [up, seeing]
 
 
 def checks():

@@ -1,8 +1,8 @@
 //! The seats of one number at a site's cells.
 
-ghost use Rattle.std.specs.Prelude.{◌≡◌, ◌≤◌, ◌<◌, ℕ, ◌+◌, false, length, is_some, option_map, IfOk, IfSome};
+ghost use Rattle.std.specs.Prelude.{◌≡◌, ◌≤◌, ◌<◌, ℕ, ◌+◌, false, length, is_some, option_map, IfSome};
 ghost use Rattle.okws_base.specs.Turns.{GrowsBy, Behind};
-ghost use Rattle.okws_base.specs.declared.limit.TheConstants.{LONGEST_FRAME, MOST_INCARNATIONS, MOST_PROXIES};
+ghost use Rattle.okws_base.specs.declared.limit.TheConstants.{LONGEST_FRAME};
 ghost use Rattle.monitor_model.specs.Cell.{CellLaw, incarnation, last_booted, boot_frame};
 ghost use Rattle.service_cell.specs.Asking.{KeepsBoard};
 ghost use Rattle.okws_outer.specs.Families.{IsNewLink};
@@ -23,7 +23,6 @@ use service_cell::answer::Spoken;
 use service_cell::columns::Columns;
 use site_cell::cell::SiteCell;
 use site_cell::named::Numbered;
-use std::alloc::AllocError;
 use std::marker::{Model, PhantomData};
 use std::sync::Wait;
 use turn_lock::Seat;
@@ -100,44 +99,6 @@ impl<N: Numbered, C: CellNames, L: Link> CellSeats<N, C, L> {
         let lock = &locks.turns[i];
         let gate = &locks.gates[i];
         turns::talk(rt, gate, lock, seat, head, content, wanted, columns, reply)
-    }
-
-    /// The incarnation that is there in a turn, 0 for none.
-    pub fn incarnation<R: Wait>(&mut self, rt: &R, locks: &CellLocks<N, C, L>, service: u16) -> u32
-        requires { service < length self.old.cells }
-        ensures incarnation { result ≡ incarnation (seen_at self.new service) }
-        ensures grows { GrowsBy (by_event N.launcher) self.old.number (seen_at self.old service) (seen_at self.new service) }
-        ensures link { self.old.number ≡ N.launcher → link_at self.new service ≡ link_at self.old service }
-        ensures only { OnlyAt service self.old self.new }
-    {
-        let i = service as usize;
-        let seat = &mut self.seats[i];
-        let lock = &locks.turns[i];
-        turns::look(rt, lock, seat)
-    }
-
-    /// The tokens of an incarnation of a service, as `boot` wants them.
-    pub fn tokens<R: Wait>(
-        &mut self,
-        rt: &R,
-        locks: &CellLocks<N, C, L>,
-        service: u16,
-        number: u32,
-    ) -> Result<Vec<Issued>, AllocError>
-        requires service { service < length self.old.cells }
-        requires first { 0 < number }
-        requires most { number ≤ MOST_INCARNATIONS }
-        requires proxies { length N.site.proxies ≤ MOST_PROXIES }
-        ensures tokens { IfOk result (λ v. ServerFrame.Boot service number v.items ≡ boot_frame N.site N.run_seed service number) }
-        ensures few { IfOk result (λ v. length v.items ≤ MOST_PROXIES) }
-        ensures grows { GrowsBy (by_event N.launcher) self.old.number (seen_at self.old service) (seen_at self.new service) }
-        ensures link { self.old.number ≡ N.launcher → link_at self.new service ≡ link_at self.old service }
-        ensures only { OnlyAt service self.old self.new }
-    {
-        let i = service as usize;
-        let seat = &mut self.seats[i];
-        let lock = &locks.turns[i];
-        turns::tokens(rt, lock, seat, number)
     }
 
     /// Boots an incarnation at the cell of a service, in one turn, where the launcher had left it without

@@ -1,13 +1,12 @@
 //! One turn at one cell.
 
-ghost use Rattle.std.specs.Prelude.{◌≡◌, ◌≤◌, ◌<◌, ◌+◌, false, length, is_some, option_map, IfOk, IfSome};
-ghost use Rattle.okws_base.specs.Turns.{GrowsBy};
-ghost use Rattle.okws_base.specs.declared.limit.TheConstants.{LONGEST_FRAME, MOST_INCARNATIONS, MOST_PROXIES};
+ghost use Rattle.std.specs.Prelude.{◌≡◌, ◌≤◌, ◌<◌, ◌+◌, false, length, is_some, option_map, IfSome};
+ghost use Rattle.okws_base.specs.declared.limit.TheConstants.{LONGEST_FRAME};
 ghost use Rattle.monitor_model.specs.Cell.{CellLaw, incarnation, last_booted, boot_frame};
 ghost use Rattle.service_cell.specs.Asking.{KeepsBoard};
 ghost use Rattle.service_cell.specs.Ending.{IsSpelledReply};
 ghost use Rattle.okws_outer.specs.Families.{IsNewLink};
-ghost use Rattle.site_cell.specs.Held.{by_event, events_in, has_booted, is_booted, IsLinkOf};
+ghost use Rattle.site_cell.specs.Held.{events_in, has_booted, is_booted, IsLinkOf};
 ghost use Rattle.cell_locks.specs.Turns.{reply_frame, HasReplied, RepliedIf, EndsInReply, GivesLast, HasTalked, HasLaunched, HasRetired};
 
 use crate::answer::Launched;
@@ -20,7 +19,6 @@ use service_cell::answer::Spoken;
 use service_cell::columns::Columns;
 use site_cell::cell::SiteCell;
 use site_cell::named::Numbered;
-use std::alloc::AllocError;
 use std::sync::Wait;
 use turn_lock::{Seat, Turn};
 
@@ -104,50 +102,6 @@ pub(crate) fn talk<R: Wait, N: Numbered, L: Link, C: Columns>(
     lock.give(seat, cell);
     drop(gate);
     spoken
-}
-
-/// The incarnation that is there in a turn, 0 for none.
-pub(crate) fn look<R: Wait, N: Numbered, L: Link>(
-    rt: &R,
-    lock: &Turn<SiteCell<N, L>>,
-    seat: &mut Seat<SiteCell<N, L>>,
-) -> u32
-    requires lock { seat.old.lock ≡ lock.now.id }
-    requires free { seat.old.held ≡ false }
-    ensures incarnation { result ≡ incarnation (events_in seat.new.seen) }
-    ensures grows { GrowsBy (by_event N.launcher) seat.old.number (events_in seat.old.seen) (events_in seat.new.seen) }
-    ensures link { seat.old.number ≡ N.launcher → is_booted seat.new.seen ≡ is_booted seat.old.seen }
-    ensures seat { seat.new ≡ record seat.old { seen = seat.new.seen } }
-{
-    let cell = lock.take(rt, seat);
-    cell.keeps();
-    let incarnation = cell.incarnation();
-    lock.give(seat, cell);
-    incarnation
-}
-
-/// The tokens of an incarnation, which are asked for in a turn.
-pub(crate) fn tokens<R: Wait, N: Numbered, L: Link>(
-    rt: &R,
-    lock: &Turn<SiteCell<N, L>>,
-    seat: &mut Seat<SiteCell<N, L>>,
-    number: u32,
-) -> Result<Vec<Issued>, AllocError>
-    requires lock { seat.old.lock ≡ lock.now.id }
-    requires free { seat.old.held ≡ false }
-    requires first { 0 < number }
-    requires most { number ≤ MOST_INCARNATIONS }
-    requires proxies { length N.site.proxies ≤ MOST_PROXIES }
-    ensures tokens { IfOk result (λ v. ServerFrame.Boot seat.old.label number v.items ≡ boot_frame N.site N.run_seed seat.old.label number) }
-    ensures few { IfOk result (λ v. length v.items ≤ MOST_PROXIES) }
-    ensures grows { GrowsBy (by_event N.launcher) seat.old.number (events_in seat.old.seen) (events_in seat.new.seen) }
-    ensures link { seat.old.number ≡ N.launcher → is_booted seat.new.seen ≡ is_booted seat.old.seen }
-    ensures seat { seat.new ≡ record seat.old { seen = seat.new.seen } }
-{
-    let cell = lock.take(rt, seat);
-    let tokens = cell.tokens(number);
-    lock.give(seat, cell);
-    tokens
 }
 
 /// Boots an incarnation in one turn, where the launcher had left the cell without one.

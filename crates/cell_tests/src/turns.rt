@@ -39,11 +39,11 @@ fn take_turns<R: Abort, N: Numbered, L: Link + Drop>(
     requires new { (cell.past ≡ []) × (cell.open_dialog ≡ None) × (cell.link ≡ None) }
     requires link { IsNewLink 0 1 (L.wire link) }
 {
-    let mut held = SiteCell::<N, L>::new(cell);
-    held.hold(LAUNCHER);
-    let Ok(tokens) = held.tokens(1) else {
+    let Ok(tokens) = cell.tokens(1) else {
         panic!(rt; "memory was refused");
     };
+    let mut held = SiteCell::<N, L>::new(cell);
+    held.hold(LAUNCHER);
     match held.boot(link, 1, Items::of(tokens)) {
         Booting::Booted => {}
         Booting::LinkFault(_) | Booting::NoMemory(_) => return None,

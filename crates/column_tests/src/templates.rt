@@ -1,7 +1,7 @@
 //! The template column. Not tested here: the greatest sizes and counts of editions.
 
 use crate::site::{bytes, config, shared};
-use monitor_model::verdict::{Got, Published, Push};
+use monitor_model::verdict::{Got, Push};
 use okws_base::denial::Rule;
 use okws_base::limit::{LONGEST_TEMPLATE, MOST_EDITIONS};
 use pubd_core::Pubd;
@@ -59,19 +59,6 @@ impl Column {
         let content = bytes(rt, alloc, content);
         match self.pubd.publish_at(template, content) {
             Ok(()) => {}
-            Err(_) => panic!(rt; "memory was refused"),
-        }
-    }
-
-    fn publish(
-        &mut self,
-        rt: &impl Abort,
-        alloc: Global,
-        name: &[u8],
-        content: &[u8],
-    ) -> Published {
-        match self.pubd.publish(name, bytes(rt, alloc, content)) {
-            Ok(published) => published,
             Err(_) => panic!(rt; "memory was refused"),
         }
     }
@@ -151,20 +138,10 @@ fn editions_reach_running_incarnations(rt: HostRuntime) {
     let mut column = Column::new(&rt, alloc, false);
     column.install(&rt, 1);
     assert!(rt; column.hears(&rt, alloc, 1, &[]));
-    assert!(rt; column.publish(&rt, alloc, b"page", b"a") == Published::Edition(1));
-    assert!(rt; column.publish(&rt, alloc, b"page", b"bb") == Published::Edition(2));
+    column.publish_at(&rt, alloc, PAGE, b"a");
+    column.publish_at(&rt, alloc, PAGE, b"bb");
     assert!(rt; column.hears(&rt, alloc, 1, &[(1, b"a"), (2, b"bb")]));
     assert!(rt; column.hears(&rt, alloc, 1, &[]));
-}
-
-#[test]
-fn publications_are_answered(rt: HostRuntime) {
-    let alloc = rt.alloc();
-    let mut column = Column::new(&rt, alloc, true);
-    let long = vec![in alloc; b'z'; LONGEST_TEMPLATE + 1].expect(&rt, "memory was refused");
-    assert!(rt; column.publish(&rt, alloc, b"page", &long) == Published::TooLong);
-    assert!(rt; column.publish(&rt, alloc, b"nowhere", b"a") == Published::NoSuchTemplate);
-    assert!(rt; column.publish(&rt, alloc, b"secret", b"a") == Published::Edition(1));
 }
 
 // A second incarnation of the guest stands in the place of the first, which is then revoked.

@@ -10,8 +10,6 @@ use Rattle.okws_plan.specs.declared.event.LogEvent.{LogEvent}
 use Rattle.okws_plan.specs.declared.event.LogEvent.TheVariants as oklogd
 use Rattle.monitor_model.specs.declared.verdict.Noted.{Noted}
 use Rattle.monitor_model.specs.declared.verdict.Noted.TheVariants.{Logged, Denied}
-use Rattle.monitor_model.specs.declared.verdict.Published.{Published}
-use Rattle.monitor_model.specs.declared.verdict.Published.TheVariants.{Edition, NoSuchTemplate, TooLong, EditionsSpent}
 use Rattle.monitor_model.specs.Logd.{log_verdict}
 
 -- A count as 64 bits have it: the number itself, or the last value where it is above that.
@@ -52,13 +50,6 @@ publications_of (pubd.Get s k name) = 0
 abbrev pub publications : List (Entry PubdEvent) → ℕ
 publications [] = 0
 publications (e ∷ J) = publications J + publications_of e.event
-
--- A publication that got an edition is one.
-abbrev pub editions_of : Published → ℕ
-editions_of (Edition n) = 1
-editions_of NoSuchTemplate = 0
-editions_of TooLong = 0
-editions_of EditionsSpent = 0
 
 -- A text that was logged is one.
 abbrev pub logged_as : Noted → ℕ

@@ -1,15 +1,9 @@
 -- The columns of a run as contracts see them behind their locks. The site and the seed are the run's, so they are not told again.
-use Rattle.std.specs.Prelude.{ℕ, Bool, List, ◌∷◌, Option, Some, None}
+use Rattle.std.specs.Prelude.{ℕ, Bool, List, ◌∷◌, Option}
 use Rattle.okws_base.specs.declared.journal.Entry.{Entry}
 use Rattle.okws_base.specs.declared.value.Value.{Value}
-use Rattle.okws_plan.specs.Configuration.{template_named, in_force}
-use Rattle.okws_plan.specs.declared.configuration.Config.{Config}
 use Rattle.okws_plan.specs.declared.event.ProxyEvent.{ProxyEvent}
-use Rattle.okws_plan.specs.declared.event.PubdEvent.{PubdEvent}
-use Rattle.okws_plan.specs.declared.event.PubdEvent.TheVariants.{Publish}
 use Rattle.okws_plan.specs.declared.event.LogEvent.{LogEvent}
-use Rattle.monitor_model.specs.declared.verdict.Published.{Published}
-use Rattle.monitor_model.specs.declared.verdict.Published.TheVariants.{Edition, NoSuchTemplate, TooLong, EditionsSpent}
 
 -- A column that keeps nothing else: its entries, the newest first, whether they are kept in memory, and the number that new entries name.
 pub record Held (E : Type 0) : Type 0 where
@@ -47,15 +41,3 @@ pub record HeldLog : Type 0 where
 -- The same with one entry more.
 abbrev pub log_entered : HeldLog → LogEvent → HeldLog
 log_entered p event = record p { past = record { worker = p.holder; event = event } ∷ p.past }
-
--- pubd with a publication entered of the template that was named, if there is one.
-abbrev pub published_at : Held PubdEvent → Option ℕ → List ℕ → Held PubdEvent
-published_at p None content = p
-published_at p (Some t) content = entered p (Publish t content)
-
--- A publication that gets an edition makes an entry, and no other does.
-abbrev pub after_publication : Config → Held PubdEvent → List ℕ → List ℕ → Published → Held PubdEvent
-after_publication C p name content (Edition n) = published_at p (template_named (in_force C p.past) name) content
-after_publication C p name content NoSuchTemplate = p
-after_publication C p name content TooLong = p
-after_publication C p name content EditionsSpent = p

@@ -1,25 +1,15 @@
 //! Counts that stay at their last value.
 
 ghost use Rattle.std.specs.Prelude.{◌≡◌, ◌+◌, ◌-◌, ◌^◌, min};
-ghost use Rattle.named_columns.specs.Counts.{editions_of, logged_as};
+ghost use Rattle.named_columns.specs.Counts.{logged_as};
 
-use monitor_model::verdict::{Noted, Published};
+use monitor_model::verdict::Noted;
 
 /// One more, or the last value.
 pub fn one_more(count: u64) -> u64
     ensures { result ≡ min (count + 1) (2 ^ 64 - 1) }
 {
     count.saturating_add(1)
-}
-
-/// One more where a publication got an edition.
-pub fn with_edition(count: u64, answer: &Published) -> u64
-    ensures { result ≡ min (count + editions_of answer.now) (2 ^ 64 - 1) }
-{
-    match answer {
-        Published::Edition(_) => one_more(count),
-        Published::NoSuchTemplate | Published::TooLong | Published::EditionsSpent => count,
-    }
 }
 
 /// One more where a text was logged.

@@ -6,17 +6,17 @@ ghost use Rattle.okws_base.specs.Turns.{AddsBy};
 ghost use Rattle.okws_base.specs.declared.limit.TheConstants.{MOST_EDITIONS, LONGEST_TEMPLATE};
 ghost use Rattle.okws_plan.specs.declared.event.PubdEvent.TheVariants as event;
 ghost use Rattle.monitor_model.specs.Standing.{pubd_grant, live_at_pubd};
-ghost use Rattle.monitor_model.specs.Pubd.{edition, drain_verdict, get_verdict, publish_verdict};
+ghost use Rattle.monitor_model.specs.Pubd.{edition, drain_verdict, get_verdict};
 ghost use Rattle.monitor_model.specs.Columns.{PubdLaw};
 ghost use Rattle.okws_base.specs.Runs.{Each};
 ghost use Rattle.service_cell.specs.Asking.{IsShortPush, IsShortGot};
 ghost use Rattle.site_columns.specs.Site.{KeepsRules};
 ghost use Rattle.named_columns.specs.Launched.{by_entry, LaunchedBy};
 ghost use Rattle.named_columns.specs.Counts.{capped, publications};
-ghost use Rattle.named_columns.specs.Held.{entered, after_publication};
+ghost use Rattle.named_columns.specs.Held.{entered};
 
-use crate::counts::{one_more, with_edition};
-use monitor_model::verdict::{Got, Published, Push};
+use crate::counts::one_more;
+use monitor_model::verdict::{Got, Push};
 use okws_base::items::Items;
 use okws_base::journal::{Entry, Past};
 use okws_plan::event::PubdEvent;
@@ -114,19 +114,6 @@ impl<N: Numbered> SitePubd<N> {
         ensures adds { AddsBy by_entry self.old.holder self.old.past self.new.past }
     {
         self.pubd.revoke(service, incarnation);
-    }
-
-    /// Publishes an edition of the template with this name, of which the running incarnations that may
-    /// read it hear at their next Drain. Where memory is refused, all is as before.
-    pub fn publish(&mut self, name: &[u8], content: Items<u8>) -> Result<Published, AllocError>
-        ensures verdict { IfOk result (λ v. v ≡ publish_verdict N.site self.old.past name.now content) }
-        ensures ok { IfOk result (λ v. self.new ≡ after_publication N.site self.old name.now content v) }
-        ensures err { OnErr result (self.new ≡ self.old) }
-        ensures adds { AddsBy by_entry self.old.holder self.old.past self.new.past }
-    {
-        let answer = self.pubd.publish(name, content)?;
-        self.published = with_edition(self.published, &answer);
-        Ok(answer)
     }
 
     /// Publishes an edition of the template of this number. Where memory is refused, all is as before.

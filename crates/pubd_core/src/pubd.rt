@@ -7,9 +7,9 @@ ghost use Rattle.okws_base.specs.declared.limit.TheConstants.{MOST_SERVICES, MOS
 ghost use Rattle.okws_plan.specs.Configuration.{reads};
 ghost use Rattle.okws_plan.specs.declared.event.PubdEvent.TheVariants as event;
 ghost use Rattle.monitor_model.specs.Standing.{pubd_grant, live_at_pubd};
-ghost use Rattle.monitor_model.specs.Pubd.{edition, current, current_from, drain_verdict, get_verdict, get_of, publish_verdict};
+ghost use Rattle.monitor_model.specs.Pubd.{edition, current, current_from, drain_verdict, get_verdict, get_of};
 ghost use Rattle.monitor_model.specs.Columns.{PubdLaw};
-ghost use Rattle.pubd_core.specs.Seen.{entered, after_publication};
+ghost use Rattle.pubd_core.specs.Seen.{entered};
 ghost use Rattle.pubd_core.specs.Readers.{may_stand};
 
 use crate::kept::{
@@ -18,11 +18,10 @@ use crate::kept::{
 };
 use crate::readers::{Reader, heard_of, keep_heard, keep_readers, keep_wanted};
 use grant_column::{Granting, Head};
-use monitor_model::verdict::{Got, Published, Push};
+use monitor_model::verdict::{Got, Push};
 use okws_base::denial::Rule;
 use okws_base::items::{Exact, Items};
 use okws_base::journal::{Entry, Past};
-use okws_base::limit::{LONGEST_TEMPLATE, MOST_EDITIONS};
 use okws_plan::configuration::Config;
 use okws_plan::event::PubdEvent;
 use okws_plan::naming::place_among;
@@ -182,27 +181,6 @@ impl Pubd {
         let standing = self.head.standing(service);
         keep_readers(&mut self.readers, service, last, standing);
         keep_wanted(&self.config, &self.readers, &mut self.publications);
-    }
-
-    /// Publishes an edition of the template with this name, of which the running incarnations that may
-    /// read it hear at their next Drain. Where memory is refused, all is as before.
-    pub fn publish(&mut self, name: &[u8], content: Items<u8>) -> Result<Published, AllocError>
-        ensures verdict { IfOk result (λ v. v ≡ publish_verdict self.old.config self.old.past name.now content) }
-        ensures ok { IfOk result (λ v. self.new ≡ after_publication self.old name.now content v) }
-        ensures err { OnErr result (self.new ≡ self.old) }
-    {
-        let Some(template) = place_among(self.config.templates.as_slice(), name) else {
-            return Ok(Published::NoSuchTemplate);
-        };
-        if content.as_slice().len() > LONGEST_TEMPLATE {
-            return Ok(Published::TooLong);
-        }
-        let before = number_of(&self.currents[template]);
-        if before >= MOST_EDITIONS {
-            return Ok(Published::EditionsSpent);
-        }
-        self.enter_edition(template as u16, before + 1, content)?;
-        Ok(Published::Edition(before + 1))
     }
 
     /// Publishes an edition of the template of this number. Where memory is refused, all is as before.

@@ -1,8 +1,8 @@
 //! A cell behind a lock that is taken in turns. No dialog is open when it is given back.
 
-ghost use Rattle.std.specs.Prelude.{◌≡◌, ◌≤◌, ◌<◌, ◌+◌, [], ◌∷◌, length, option_map, is_some, IfOk, IfSome, MatchOption, Some};
+ghost use Rattle.std.specs.Prelude.{◌≡◌, ◌≤◌, ◌<◌, ◌+◌, [], ◌∷◌, length, option_map, is_some, IfSome, MatchOption, Some};
 ghost use Rattle.okws_base.specs.Turns.{AddsBy};
-ghost use Rattle.okws_base.specs.declared.limit.TheConstants.{LONGEST_FRAME, MOST_INCARNATIONS, MOST_PROXIES};
+ghost use Rattle.okws_base.specs.declared.limit.TheConstants.{LONGEST_FRAME};
 ghost use Rattle.monitor_model.specs.declared.record.CellEvent.TheVariants as event;
 ghost use Rattle.monitor_model.specs.Cell.{CellLaw, incarnation, last_booted, boot_frame};
 ghost use Rattle.monitor_model.specs.Sent.{AreSent};
@@ -26,7 +26,6 @@ use service_cell::answer::{Booting, Spoken};
 use service_cell::cell::Cell;
 use service_cell::columns::Columns;
 use service_cell::ending::Finished;
-use std::alloc::AllocError;
 use std::marker::{Model, PhantomData};
 use turn_lock::Journaled;
 
@@ -92,17 +91,6 @@ impl<N: Numbered, L: Link> SiteCell<N, L> {
         ensures { result ≡ incarnation self.now.standing.past }
     {
         self.cell.incarnation()
-    }
-
-    /// The tokens of an incarnation, as `boot` wants them.
-    pub fn tokens(&self, number: u32) -> Result<Vec<Issued>, AllocError>
-        requires first { 0 < number }
-        requires most { number ≤ MOST_INCARNATIONS }
-        requires few { length N.site.proxies ≤ MOST_PROXIES }
-        ensures tokens { IfOk result (λ v. ServerFrame.Boot self.now.standing.service number v.items ≡ boot_frame N.site N.run_seed self.now.standing.service number) }
-        ensures few { IfOk result (λ v. length v.items ≤ MOST_PROXIES) }
-    {
-        self.cell.tokens(number)
     }
 
     /// The dialog that ended last, where nothing happened since.

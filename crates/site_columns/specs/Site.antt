@@ -20,7 +20,6 @@ use Rattle.okws_plan.specs.declared.event.LogEvent.TheVariants as oklogd
 use Rattle.okws_plan.specs.declared.script.Place.{Place}
 use Rattle.okws_plan.specs.declared.script.Place.TheVariants.{Proxy, Pubd, Oklogd}
 use Rattle.token_core.specs.Token.{token_of}
-use Rattle.monitor_model.specs.declared.record.Own.{Own}
 use Rattle.monitor_model.specs.declared.record.Own.TheVariants as own
 use Rattle.monitor_model.specs.Launcher.{begun}
 use Rattle.monitor_model.specs.Seen.{Seen, proxy_past}
@@ -46,10 +45,6 @@ unmade C seed = record {
   worker = 0;
   seen = record { okd = []; proxies = replicate (length C.proxies) []; pubd = []; oklogd = []; launcher = []; own = [] };
 }
-
--- The same site, where worker w has the columns, whose own list is this.
-abbrev pub handed : Site → ℕ → List Own → Site
-handed site w mine = record site { worker = w; seen = record site.seen { own = mine } }
 
 -- The worker entered an event at okd.
 abbrev pub made_okd : Site → OkdEvent → Site

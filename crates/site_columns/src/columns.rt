@@ -15,7 +15,7 @@ ghost use Rattle.monitor_model.specs.Pubd.{edition};
 ghost use Rattle.monitor_model.specs.Script.{goes_of};
 ghost use Rattle.monitor_model.specs.Seen.{proxy_past};
 ghost use Rattle.monitor_model.specs.Standing.{up_at_okd};
-ghost use Rattle.site_columns.specs.Site.{unmade, handed, made_okd, made_pubd, made_launcher, downed_at, AreBegun, SameLasts};
+ghost use Rattle.site_columns.specs.Site.{unmade, made_okd, made_pubd, made_launcher, downed_at, AreBegun, SameLasts};
 
 use crate::discard::Discard;
 use crate::launches::Launches;
@@ -27,12 +27,12 @@ use monitor_model::verdict::Way;
 use okd_dispatch::Okd;
 use okws_base::items::{Exact, Items};
 use okws_base::journal::{Journal, Past};
+use okws_base::pairing::both;
 use okws_plan::configuration::Config;
 use okws_plan::event::{LauncherEvent, OkdEvent, PubdEvent};
 use pubd_core::Pubd;
 use std::alloc::{AllocError, Global};
 use std::marker::Model;
-use std::mem;
 use std::sync::Arc;
 use token_core::Seed;
 use turn_lock::Journaled;
@@ -64,6 +64,15 @@ impl Model for SiteColumns {
     ghost invariant = { λ a. IsSite (arc_value a.config) a.seed a.okd a.proxies a.pubd a.oklogd a.launches };
 }
 
+// A row of one.
+fn alone<T: Drop>(alloc: Global, item: T) -> Result<Vec<T>, AllocError>
+    ensures { IfOk result (λ v. v.items ≡ item ∷ []) }
+{
+    let mut row = Vec::new(alloc);
+    row.push(item)?;
+    Ok(row)
+}
+
 impl SiteColumns {
     /// The columns of a site, at which nothing happened, as number 0 has them; what happens stays in
     /// memory only where `keeps` says so. The tokens that are issued are those of the seed.
@@ -78,12 +87,13 @@ impl SiteColumns {
         ensures { IfOk result (λ c. c ≡ unmade (arc_value config.now) seed) }
     {
         read_names(config);
-        let okd = okd_column(alloc, config, keeps)?;
-        let proxies = Proxies::new(alloc, config, seed, keeps)?;
-        let pubd = pubd_column(alloc, config, keeps)?;
-        let oklogd = log_column(alloc, config, keeps)?;
-        let launches = launcher(alloc, config, keeps)?;
         let kept = shared(config)?;
+        let made = both(kept, okd_column(alloc, config, keeps))?;
+        let made = both(made, Proxies::new(alloc, config, seed, keeps))?;
+        let made = both(made, pubd_column(alloc, config, keeps))?;
+        let made = both(made, log_column(alloc, config, keeps))?;
+        let made = both(made, launcher(alloc, config, keeps))?;
+        let (((((kept, okd), proxies), pubd), oklogd), launches) = made;
         Ok(SiteColumns {
             alloc,
             config: kept,
@@ -98,36 +108,33 @@ impl SiteColumns {
         })
     }
 
-    /// Hands the columns to another worker, whose own list this is; gives the own list of the worker
-    /// that had them.
-    pub fn hand(&mut self, worker: u16, own: Journal<Own>) -> Journal<Own>
-        ensures site { self.new ≡ handed self.old worker own.past }
-        ensures own { result.past ≡ self.old.seen.own }
-    {
-        self.worker = worker;
-        mem::replace(&mut self.own, own)
-    }
-
     /// The record of what was made, with one own list and with no cells.
     pub fn into_record(self) -> Result<Record, AllocError>
         ensures record { IfOk result (λ r. r ≡ record { okd = self.seen.okd; proxies = self.seen.proxies; pubd = self.seen.pubd; oklogd = self.seen.oklogd; launcher = self.seen.launcher; cells = []; sents = []; doors = []; workers = self.seen.own ∷ []; launches = [] }) }
         ensures faultless { (p : ℕ) → faults (proxy_past self.seen.proxies p) ≡ 0 }
     {
-        let proxies = self.proxies.close(self.alloc)?;
-        let mut workers = Vec::new(self.alloc);
-        workers.push(self.own.into_past())?;
+        let alloc = self.alloc;
         let (oklogd, _sink) = self.oklogd.close();
-        Ok(Record {
-            okd: self.okd.close(),
-            proxies: Items::of(proxies),
-            pubd: self.pubd.close(),
+        let pasts = (
+            self.okd.close(),
+            self.pubd.close(),
             oklogd,
-            launcher: self.launches.into_past(),
-            cells: Items::of(Vec::new(self.alloc)),
-            sents: Items::of(Vec::new(self.alloc)),
-            doors: Items::of(Vec::new(self.alloc)),
+            self.launches.into_past(),
+        );
+        let pasts = both(pasts, self.proxies.close(alloc))?;
+        let pasts = both(pasts, alone(alloc, self.own.into_past()))?;
+        let (((okd, pubd, oklogd, launcher), proxies), workers) = pasts;
+        Ok(Record {
+            okd,
+            proxies: Items::of(proxies),
+            pubd,
+            oklogd,
+            launcher,
+            cells: Items::of(Vec::new(alloc)),
+            sents: Items::of(Vec::new(alloc)),
+            doors: Items::of(Vec::new(alloc)),
             workers: Items::of(workers),
-            launches: Past::of(Vec::new(self.alloc)),
+            launches: Past::of(Vec::new(alloc)),
         })
     }
 

@@ -42,31 +42,40 @@ fn check<'a>(alloc: Global) -> Result<Command<'a>, AllocError> {
         .arg(config(alloc))
 }
 
-fn play<'a>(alloc: Global) -> Result<Command<'a>, AllocError> {
-    let script = path(
+fn script<'a>(alloc: Global) -> Arg<'a> {
+    path(
         alloc,
         "SCRIPT",
         "The script, which says what the services send",
-    );
+    )
+}
+
+fn play<'a>(alloc: Global) -> Result<Command<'a>, AllocError> {
     Command::new(alloc, "play")
         .about("Plays a script of a site, without sockets or programs")
         .arg(config(alloc))?
-        .arg(script)
+        .arg(script(alloc))
+}
+
+fn seed<'a>(alloc: Global) -> Arg<'a> {
+    Arg::new(alloc, "SEED")
+        .required(true)
+        .value_parser(value_parser!(u64))
+        .help("The number that gives the script, 0 to 18446744073709551615")
+}
+
+fn events<'a>(alloc: Global) -> Arg<'a> {
+    Arg::new(alloc, "EVENTS")
+        .required(true)
+        .value_parser(value_parser!(u32).range(0..=i64::from(MOST_EVENTS)))
+        .help("How many events it has, 0 to 100000")
 }
 
 fn drill<'a>(alloc: Global) -> Result<Command<'a>, AllocError> {
-    let seed = Arg::new(alloc, "SEED")
-        .required(true)
-        .value_parser(value_parser!(u64))
-        .help("The number that gives the script, 0 to 18446744073709551615");
-    let events = Arg::new(alloc, "EVENTS")
-        .required(true)
-        .value_parser(value_parser!(u32).range(0..=i64::from(MOST_EVENTS)))
-        .help("How many events it has, 0 to 100000");
     Command::new(alloc, "drill")
         .about("Plays a script that a number gives, and counts what was heard")
-        .arg(seed)?
-        .arg(events)
+        .arg(seed(alloc))?
+        .arg(events(alloc))
 }
 
 fn port<'a>(alloc: Global) -> Arg<'a> {
@@ -95,13 +104,9 @@ fn connections<'a>(alloc: Global) -> Arg<'a> {
         .help("How many connections are served in all, 0 to 1000000")
 }
 
-fn serve<'a>(alloc: Global) -> Result<Command<'a>, AllocError> {
-    Command::new(alloc, "serve")
-        .about("Serves a site, whose services are programs")
-        .arg(config(alloc))?
-        .arg(port(alloc))?
-        .arg(doors(alloc))?
-        .arg(connections(alloc))?
+/// The files that a server may be given.
+fn with_files<'a>(alloc: Global, serve: Command<'a>) -> Result<Command<'a>, AllocError> {
+    serve
         .arg(file(
             alloc,
             "store",
@@ -119,17 +124,38 @@ fn serve<'a>(alloc: Global) -> Result<Command<'a>, AllocError> {
         ))
 }
 
+fn serve<'a>(alloc: Global) -> Result<Command<'a>, AllocError> {
+    let serve = Command::new(alloc, "serve")
+        .about("Serves a site, whose services are programs")
+        .arg(config(alloc))?
+        .arg(port(alloc))?
+        .arg(doors(alloc))?
+        .arg(connections(alloc))?;
+    with_files(alloc, serve)
+}
+
+/// The program with one more command, where that was made.
+fn with_command<'a>(
+    program: Command<'a>,
+    command: Result<Command<'a>, AllocError>,
+) -> Result<Command<'a>, AllocError> {
+    match command {
+        Ok(command) => program.subcommand(command),
+        Err(error) => Err(error),
+    }
+}
+
 /// The program, as its help and its refusals are made.
 fn program<'a>(alloc: Global) -> Result<Command<'a>, AllocError> {
-    Command::new(alloc, "okws")
+    let program = Command::new(alloc, "okws")
         .about("Web services in least-privilege compartments")
         .no_binary_name(true)
         .subcommand_required(true)
-        .arg_required_else_help(true)
-        .subcommand(check(alloc)?)?
-        .subcommand(play(alloc)?)?
-        .subcommand(drill(alloc)?)?
-        .subcommand(serve(alloc)?)
+        .arg_required_else_help(true);
+    let program = with_command(program, check(alloc))?;
+    let program = with_command(program, play(alloc))?;
+    let program = with_command(program, drill(alloc))?;
+    with_command(program, serve(alloc))
 }
 
 /// The text of a refusal.
@@ -140,13 +166,18 @@ fn text_of(alloc: Global, error: &Error) -> Result<String, AllocError> {
     error.to_string(alloc)
 }
 
+/// Why `clap` refuses words; where it takes them, that a number is spelled otherwise.
+fn refusal<'a>(mut program: Command<'a>, words: &'a [String]) -> Result<Error, AllocError> {
+    match program.try_get_matches_from_mut(words) {
+        Err(error) => Ok(error),
+        Ok(_) => program.error(ErrorKind::ValueValidation, SPELLING),
+    }
+}
+
 /// What `clap` tells of words that are no command: the help that they ask for, or why they are none.
 fn told(alloc: Global, words: &[String]) -> Result<String, AllocError> {
-    let mut program = program(alloc)?;
-    match program.try_get_matches_from_mut(words) {
-        Err(error) => text_of(alloc, &error),
-        Ok(_) => text_of(alloc, &program.error(ErrorKind::ValueValidation, SPELLING)?),
-    }
+    let refusal = refusal(program(alloc)?, words)?;
+    text_of(alloc, &refusal)
 }
 
 /// The same text with how the program is called behind it.

@@ -39,7 +39,6 @@ use turn_lock::Journaled;
 
 /// The columns of a site and the launcher's journal, with the number and the own list of the worker
 /// that has them. Each call of a column is made under that number.
-#[derive(Drop)]
 pub struct SiteColumns {
     pub(crate) alloc: Global,
     pub(crate) config: Arc<Config, Global>,
@@ -51,6 +50,30 @@ pub struct SiteColumns {
     pub(crate) oklogd: LogDaemon<Discard>,
     launches: Launches,
     pub(crate) own: Journal<Own>,
+}
+
+impl Drop for SiteColumns {
+    fn drop(self) {
+        let SiteColumns {
+            alloc: _,
+            config,
+            seed: _,
+            worker: _,
+            okd,
+            proxies,
+            pubd,
+            oklogd,
+            launches,
+            own,
+        } = self;
+        drop(config);
+        drop(okd);
+        drop(proxies);
+        drop(pubd);
+        drop(oklogd);
+        drop(launches);
+        drop(own);
+    }
 }
 
 impl Model for SiteColumns {
@@ -113,16 +136,22 @@ impl SiteColumns {
         ensures record { IfOk result (λ r. r ≡ record { okd = self.seen.okd; proxies = self.seen.proxies; pubd = self.seen.pubd; oklogd = self.seen.oklogd; launcher = self.seen.launcher; cells = []; sents = []; doors = []; workers = self.seen.own ∷ []; launches = [] }) }
         ensures faultless { (p : ℕ) → faults (proxy_past self.seen.proxies p) ≡ 0 }
     {
-        let alloc = self.alloc;
-        let (oklogd, _sink) = self.oklogd.close();
-        let pasts = (
-            self.okd.close(),
-            self.pubd.close(),
+        let SiteColumns {
+            alloc,
+            config: _,
+            seed: _,
+            worker: _,
+            okd,
+            proxies,
+            pubd,
             oklogd,
-            self.launches.into_past(),
-        );
-        let pasts = both(pasts, self.proxies.close(alloc))?;
-        let pasts = both(pasts, alone(alloc, self.own.into_past()))?;
+            launches,
+            own,
+        } = self;
+        let (oklogd, _sink) = oklogd.close();
+        let pasts = (okd.close(), pubd.close(), oklogd, launches.into_past());
+        let pasts = both(pasts, proxies.close(alloc))?;
+        let pasts = both(pasts, alone(alloc, own.into_past()))?;
         let (((okd, pubd, oklogd, launcher), proxies), workers) = pasts;
         Ok(Record {
             okd,

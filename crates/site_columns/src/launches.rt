@@ -12,11 +12,22 @@ use std::alloc::{AllocError, Global};
 use std::marker::Model;
 
 /// The launcher's journal, with the greatest incarnation of each service that was begun.
-#[derive(Drop)]
 pub struct Launches {
     journal: Journal<Entry<LauncherEvent>>,
     greatest: Vec<u32>,
     holder: u16,
+}
+
+impl Drop for Launches {
+    fn drop(self) {
+        let Launches {
+            journal,
+            greatest,
+            holder: _,
+        } = self;
+        drop(journal);
+        drop(greatest);
+    }
 }
 
 impl Model for Launches {
@@ -82,6 +93,11 @@ impl Launches {
     pub fn into_past(self) -> Past<Entry<LauncherEvent>>
         ensures { result ≡ self.past }
     {
-        self.journal.into_past()
+        let Launches {
+            journal,
+            greatest: _,
+            holder: _,
+        } = self;
+        journal.into_past()
     }
 }

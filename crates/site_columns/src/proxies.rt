@@ -33,13 +33,25 @@ use token_core::Seed;
 use turn_lock::Journaled;
 
 /// The columns of all proxies of a site, by number. A column is called under the holder's number.
-#[derive(Drop)]
 pub struct Proxies {
     config: Arc<Config, Global>,
     // The seed of the tokens that are issued.
     seed: Seed,
     holder: u16,
     columns: Vec<Proxy<IndexKeeper>>,
+}
+
+impl Drop for Proxies {
+    fn drop(self) {
+        let Proxies {
+            config,
+            seed: _,
+            holder: _,
+            columns,
+        } = self;
+        drop(config);
+        drop(columns);
+    }
 }
 
 impl Model for Proxies {
@@ -91,8 +103,14 @@ impl Proxies {
         ensures pasts { IfOk result (λ v. v.items ≡ self.pasts) }
         ensures faultless { (p : ℕ) → faults (proxy_past self.pasts p) ≡ 0 }
     {
+        let Proxies {
+            config: _,
+            seed: _,
+            holder: _,
+            columns,
+        } = self;
         let mut pasts = Vec::new(alloc);
-        for column in self.columns {
+        for column in columns {
             let (past, _keeper) = column.close();
             pasts.push(past)?;
         }

@@ -1,6 +1,7 @@
 //! Dialogs and turns that stand open at once.
 
 use crate::gate::{Coming, Held, Hold};
+use crate::holding::{holds, same};
 use crate::outside::{Ended, Plan, REPLIED, bytes, child, client, get, own, plain, serve};
 use okws_outer::gate::Point;
 use std::alloc::Global;
@@ -151,9 +152,9 @@ const RELAUNCHED: [Hold; 3] = [
 fn a_dialog_of_a_relaunched_service_is_superseded(rt: HostRuntime) {
     let two = both(&rt, &RELAUNCHED, b"relaunch third\nrelaunch guest\n");
     let want = own(&rt, rt.alloc(), "503 Service Unavailable");
-    assert!(rt; two.guest.as_slice() == want.as_bytes());
-    assert!(rt; two.other.as_slice() == REPLIED.as_bytes());
-    assert!(rt; two.ended.console.as_slice() == b"relaunched 2\nrelaunched 2\n".as_slice());
+    same(&rt, &two.guest, want.as_bytes());
+    same(&rt, &two.other, REPLIED.as_bytes());
+    same(&rt, &two.ended.console, b"relaunched 2\nrelaunched 2\n");
 }
 
 /// Both clients are told what their services reply.
@@ -164,16 +165,16 @@ fn are_replied<R: Abort + AllocGlobal + Wait + Threads + Sync>(rt: &R, holds: &[
 
 #[test]
 fn a_held_turn_at_a_proxy_holds_nobody_at_another(rt: HostRuntime) {
-    let holds = [Hold {
+    let held = [Hold {
         at: MAIN_CALLED,
         until: ANSWERED,
     }];
-    assert!(rt; are_replied(&rt, &holds));
+    holds(&rt, are_replied(&rt, &held), "replied");
 }
 
 #[test]
 fn two_dialogs_stand_open_at_once(rt: HostRuntime) {
-    let holds = [
+    let held = [
         Hold {
             at: GUEST_REQUESTED,
             until: OTHER_REQUESTED,
@@ -183,12 +184,12 @@ fn two_dialogs_stand_open_at_once(rt: HostRuntime) {
             until: GUEST_REQUESTED,
         },
     ];
-    assert!(rt; are_replied(&rt, &holds));
+    holds(&rt, are_replied(&rt, &held), "replied");
 }
 
 #[test]
 fn two_turns_at_proxies_stand_open_at_once(rt: HostRuntime) {
-    let holds = [
+    let held = [
         Hold {
             at: MAIN_CALLED,
             until: SIDE_CALLED,
@@ -198,5 +199,5 @@ fn two_turns_at_proxies_stand_open_at_once(rt: HostRuntime) {
             until: MAIN_CALLED,
         },
     ];
-    assert!(rt; are_replied(&rt, &holds));
+    holds(&rt, are_replied(&rt, &held), "replied");
 }

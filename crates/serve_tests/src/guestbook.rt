@@ -1,5 +1,6 @@
 //! The guestbook's requests, frame by frame.
 
+use crate::holding::{holds, same};
 use crate::outside::{Ended, Plan, bytes, child, client, plain, serve};
 use okws_outer::gate::NoGate;
 use std::alloc::Global;
@@ -69,11 +70,11 @@ fn a_guestbook_is_shown_and_signed(rt: HostRuntime) {
     let [shown, signed, taken] = ended.answers.as_slice() else {
         panic!(rt; "not three answers");
     };
-    assert!(rt; shown.as_slice() == SHOWN);
-    assert!(rt; signed.as_slice() == SEE_OTHER);
-    assert!(rt; taken.as_slice() == CONFLICT);
+    same(&rt, shown, SHOWN);
+    same(&rt, signed, SEE_OTHER);
+    same(&rt, taken, CONFLICT);
     let log = ended.log.as_ref().map(|log| log.as_slice());
-    assert!(rt; log == Some(b"guest 1 post 3\n".as_slice()));
+    holds(&rt, log == Some(b"guest 1 post 3\n".as_slice()), "log");
 }
 
 /// The Request frame of a POST of 61 bytes of head and 18 of content, behind these bytes.
@@ -106,5 +107,5 @@ fn wanted(rt: &impl Abort, alloc: Global) -> Vec<u8> {
 fn a_guestbook_hears_its_frames(rt: HostRuntime) {
     let ended = visits(&rt);
     let heard = ended.heard.first().expect(&rt, "no child");
-    assert!(rt; heard.as_slice() == wanted(&rt, rt.alloc()).as_slice());
+    same(&rt, heard, &wanted(&rt, rt.alloc()));
 }

@@ -9,6 +9,8 @@ mod gated;
 #[cfg(test)]
 mod guestbook;
 #[cfg(test)]
+mod holding;
+#[cfg(test)]
 mod outside;
 #[cfg(test)]
 mod requests;

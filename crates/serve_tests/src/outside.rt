@@ -139,7 +139,6 @@ pub fn plain() -> Plan<'static> {
 }
 
 /// How a run ended, and what was given to its outside.
-#[derive(Drop)]
 pub struct Ended {
     pub status: Status,
     pub printed: Vec<u8>,
@@ -155,6 +154,27 @@ pub struct Ended {
     pub started: usize,
     /// What each finished child was given, in the order in which they were finished.
     pub heard: Vec<Vec<u8>>,
+}
+
+impl Drop for Ended {
+    fn drop(self) {
+        let Ended {
+            status: _,
+            printed,
+            asked,
+            answers,
+            console,
+            log,
+            started: _,
+            heard,
+        } = self;
+        drop(printed);
+        drop(asked);
+        drop(answers);
+        drop(console);
+        drop(log);
+        drop(heard);
+    }
 }
 
 fn objects<'a, R: Abort, G: Drop>(

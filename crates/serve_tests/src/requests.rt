@@ -1,5 +1,6 @@
 //! What clients are answered.
 
+use crate::holding::{holds, same};
 use crate::outside::{Plan, REPLIED, REPLY, child, client, get, own, plain, serve};
 use okws_outer::gate::NoGate;
 use okws_server::status::Status;
@@ -25,9 +26,10 @@ fn answer<R: Abort + AllocGlobal + Wait + Threads + Sync>(rt: &R, bytes: &[u8]) 
 #[test]
 fn a_head_has_no_content(rt: HostRuntime) {
     let got = answer(&rt, b"HEAD /guest HTTP/1.0\r\n\r\n");
-    assert!(rt;
-        got.as_slice()
-            == b"HTTP/1.1 200 OK\r\nContent-Type: text/plain\r\nContent-Length: 2\r\nConnection: close\r\n\r\n".as_slice()
+    same(
+        &rt,
+        &got,
+        b"HTTP/1.1 200 OK\r\nContent-Type: text/plain\r\nContent-Length: 2\r\nConnection: close\r\n\r\n",
     );
 }
 
@@ -58,7 +60,7 @@ fn requests_are_refused_by_their_status(rt: HostRuntime) {
     for (bytes, status) in REFUSED {
         let got = answer(&rt, bytes);
         let want = own(&rt, rt.alloc(), status);
-        assert!(rt; got.as_slice() == want.as_bytes(), "{status}");
+        same(&rt, &got, want.as_bytes());
     }
 }
 
@@ -68,7 +70,7 @@ fn paths_are_owned_by_whole_segments(rt: HostRuntime) {
         let request = get(&rt, rt.alloc(), path);
         let got = answer(&rt, request.as_bytes());
         let is_replied = got.as_slice() == REPLIED.as_bytes();
-        assert!(rt; is_replied == owned, "{path}");
+        holds(&rt, is_replied == owned, path);
     }
 }
 
@@ -84,13 +86,13 @@ fn a_site_of_no_service_is_served(rt: HostRuntime) {
         ..plain()
     };
     let ended = serve(&rt, alloc, &plan, NoGate);
-    assert!(rt; ended.status == Status::Ok);
+    holds(&rt, ended.status == Status::Ok, "status");
     let [answer] = ended.answers.as_slice() else {
         panic!(rt; "not one answer");
     };
-    assert!(rt; answer.as_slice() == own(&rt, alloc, "404 Not Found").as_bytes());
+    same(&rt, answer, own(&rt, alloc, "404 Not Found").as_bytes());
     let want = b"connections 1\naccepts 1\nlaunches 0\npublications 0\nlogged 0\n";
-    assert!(rt; ended.printed.as_slice() == want.as_slice());
+    same(&rt, &ended.printed, want);
 }
 
 #[test]
@@ -107,8 +109,8 @@ fn words_and_files_are_judged_first(rt: HostRuntime) {
         ),
     ] {
         let ended = serve(&rt, rt.alloc(), &Plan { words, ..plain() }, NoGate);
-        assert!(rt; ended.status == status);
-        assert!(rt; ended.started == 0);
+        holds(&rt, ended.status == status, "status");
+        holds(&rt, ended.started == 0, "started");
     }
 }
 
@@ -119,9 +121,9 @@ fn a_port_that_is_taken_starts_no_child(rt: HostRuntime) {
         ..plain()
     };
     let ended = serve(&rt, rt.alloc(), &plan, NoGate);
-    assert!(rt; ended.status == Status::NetFault);
-    assert!(rt; ended.printed.as_slice() == b"net fault\n".as_slice());
-    assert!(rt; ended.started == 0);
+    holds(&rt, ended.status == Status::NetFault, "status");
+    same(&rt, &ended.printed, b"net fault\n");
+    holds(&rt, ended.started == 0, "started");
 }
 
 #[test]
@@ -131,8 +133,8 @@ fn a_site_that_cannot_be_pulled_is_a_read_fault(rt: HostRuntime) {
         ..plain()
     };
     let ended = serve(&rt, rt.alloc(), &plan, NoGate);
-    assert!(rt; ended.status == Status::ReadFault);
-    assert!(rt; ended.printed.as_slice() == b"read fault\n".as_slice());
+    holds(&rt, ended.status == Status::ReadFault, "status");
+    same(&rt, &ended.printed, b"read fault\n");
 }
 
 #[test]
@@ -143,6 +145,6 @@ fn a_listing_past_the_room_is_an_out_fault(rt: HostRuntime) {
         ..plain()
     };
     let ended = serve(&rt, rt.alloc(), &plan, NoGate);
-    assert!(rt; ended.status == Status::OutFault);
-    assert!(rt; ended.printed.as_slice() == b"main 1 SEL".as_slice());
+    holds(&rt, ended.status == Status::OutFault, "status");
+    same(&rt, &ended.printed, b"main 1 SEL");
 }

@@ -1,5 +1,6 @@
 //! What becomes of services and of the operator's commands.
 
+use crate::holding::{holds, same};
 use crate::outside::{Ended as Run, Plan, REPLIED, REPLY, child, client, get, own, plain, serve};
 use okws_outer::child::Ended;
 use okws_outer::gate::NoGate;
@@ -35,12 +36,12 @@ fn a_bad_frame_ends_its_incarnation(rt: HostRuntime) {
         panic!(rt; "not three answers");
     };
     let bad = own(&rt, rt.alloc(), "502 Bad Gateway");
-    assert!(rt; first.as_slice() == bad.as_bytes());
-    assert!(rt; second.as_slice() == REPLIED.as_bytes());
-    assert!(rt; third.as_slice() == bad.as_bytes());
-    assert!(rt; ended.status == Status::Ok);
-    assert!(rt; ended.started == 4);
-    assert!(rt; ended.heard.len() == 4);
+    same(&rt, first, bad.as_bytes());
+    same(&rt, second, REPLIED.as_bytes());
+    same(&rt, third, bad.as_bytes());
+    holds(&rt, ended.status == Status::Ok, "status");
+    holds(&rt, ended.started == 4, "started");
+    holds(&rt, ended.heard.len() == 4, "heard");
 }
 
 #[test]
@@ -52,7 +53,7 @@ fn a_service_that_ends_at_once_is_a_bad_gateway(rt: HostRuntime) {
     let ended = thrice(&rt, "/guest", plan);
     let answer = ended.answers.first().expect(&rt, "no answer");
     let bad = own(&rt, rt.alloc(), "502 Bad Gateway");
-    assert!(rt; answer.as_slice() == bad.as_bytes());
+    same(&rt, answer, bad.as_bytes());
 }
 
 #[test]
@@ -71,8 +72,8 @@ fn an_idle_child_that_ended_is_launched_again(rt: HostRuntime) {
     };
     let run = serve(&rt, rt.alloc(), &plan, NoGate);
     let want = b"connections 1\naccepts 1\nlaunches 3\npublications 0\nlogged 0\n";
-    assert!(rt; run.printed.as_slice() == want.as_slice());
-    assert!(rt; run.started == 3);
+    same(&rt, &run.printed, want);
+    holds(&rt, run.started == 3, "started");
 }
 
 #[test]
@@ -85,10 +86,10 @@ fn a_service_that_never_starts_is_given_up(rt: HostRuntime) {
     let ended = thrice(&rt, "/guest", plan);
     let down = own(&rt, rt.alloc(), "503 Service Unavailable");
     for answer in &ended.answers {
-        assert!(rt; answer.as_slice() == down.as_bytes());
+        same(&rt, answer, down.as_bytes());
     }
-    assert!(rt; ended.answers.len() == 3);
-    assert!(rt; ended.started == 1);
+    holds(&rt, ended.answers.len() == 3, "answers");
+    holds(&rt, ended.started == 1, "started");
 }
 
 #[test]
@@ -100,11 +101,11 @@ fn the_operator_is_answered(rt: HostRuntime) {
         ..plain()
     };
     let ended = serve(&rt, rt.alloc(), &plan, NoGate);
-    assert!(rt; ended.status == Status::Ok);
+    holds(&rt, ended.status == Status::Ok, "status");
     let answers = b"published 1\nrefused 3 2\nrelaunched 2\n";
-    assert!(rt; ended.console.as_slice() == answers.as_slice());
+    same(&rt, &ended.console, answers);
     let want = b"connections 0\naccepts 0\nlaunches 3\npublications 1\nlogged 0\n";
-    assert!(rt; ended.printed.as_slice() == want.as_slice());
+    same(&rt, &ended.printed, want);
 }
 
 /// Log of `hi`, and a Reply of 200 with `ok` as plain text.
@@ -130,17 +131,17 @@ fn logged<R: Abort + AllocGlobal + Wait + Threads + Sync>(rt: &R, openings: &[u6
 #[test]
 fn texts_are_logged(rt: HostRuntime) {
     let ended = logged(&rt, &[]);
-    assert!(rt; ended.status == Status::Ok);
+    holds(&rt, ended.status == Status::Ok, "status");
     let log = ended.log.as_ref().map(|log| log.as_slice());
-    assert!(rt; log == Some(b"guest 1 hi\n".as_slice()));
+    holds(&rt, log == Some(b"guest 1 hi\n".as_slice()), "log");
 }
 
 #[test]
 fn a_log_that_cannot_be_opened_is_a_log_fault(rt: HostRuntime) {
     let ended = logged(&rt, &[0]);
-    assert!(rt; ended.status == Status::LogFault);
+    holds(&rt, ended.status == Status::LogFault, "status");
     let want = b"connections 1\naccepts 1\nlaunches 2\npublications 0\nlogged 1\nlog fault\n";
-    assert!(rt; ended.printed.as_slice() == want.as_slice());
+    same(&rt, &ended.printed, want);
 }
 
 #[test]
@@ -151,7 +152,7 @@ fn a_console_that_fails_is_told_at_the_end(rt: HostRuntime) {
         ..plain()
     };
     let ended = serve(&rt, rt.alloc(), &plan, NoGate);
-    assert!(rt; ended.status == Status::ConsoleFault);
+    holds(&rt, ended.status == Status::ConsoleFault, "status");
     let want = b"connections 0\naccepts 0\nlaunches 2\npublications 0\nlogged 0\nconsole fault\n";
-    assert!(rt; ended.printed.as_slice() == want.as_slice());
+    same(&rt, &ended.printed, want);
 }

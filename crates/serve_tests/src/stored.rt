@@ -1,5 +1,6 @@
 //! Servers whose rows stand in stores.
 
+use crate::holding::{holds, same};
 use crate::outside::{Ended, Plan, bytes, child, client, get, plain, serve};
 use okws_outer::gate::NoGate;
 use okws_server::status::Status;
@@ -52,32 +53,37 @@ fn failed_and_changed(given: &[u8]) -> bool {
         && given.windows(13).any(|part| part == b"\0\0\0\x09\x06\0\0\0\0\0\0\0\x01".as_slice())
 }
 
+/// Whether a client is shown three lines.
+fn has_three_lines(answer: &[u8]) -> bool {
+    answer.ends_with(b"Content-Length: 17\r\nConnection: close\r\n\r\n1 ann\n2 bob\n3 cy\n")
+}
+
 #[test]
 fn a_write_that_failed_at_its_store_goes_through_when_asked_again(rt: HostRuntime) {
     let ended = visits(&rt, &[], &[1]);
-    assert!(rt; ended.status == Status::Ok);
+    holds(&rt, ended.status == Status::Ok, "status");
     let given = ended.heard.first().expect(&rt, "no child");
-    assert!(rt; failed_and_changed(given.as_slice()));
-    let last = ended.answers.last().expect(&rt, "no answer");
-    assert!(rt;
-        last.as_slice().ends_with(
-            b"Content-Length: 17\r\nConnection: close\r\n\r\n1 ann\n2 bob\n3 cy\n"
-        )
+    holds(
+        &rt,
+        failed_and_changed(given.as_slice()),
+        "a call that failed, and a change",
     );
+    let last = ended.answers.last().expect(&rt, "no answer");
+    holds(&rt, has_three_lines(last), "the last answer");
 }
 
 #[test]
 fn a_store_that_cannot_be_made_is_a_fault(rt: HostRuntime) {
     let ended = visits(&rt, &[0], &[]);
-    assert!(rt; ended.status == Status::StoreFault);
-    assert!(rt; ended.printed.as_slice() == b"store fault\n".as_slice());
-    assert!(rt; ended.started == 0);
+    holds(&rt, ended.status == Status::StoreFault, "status");
+    same(&rt, &ended.printed, b"store fault\n");
+    holds(&rt, ended.started == 0, "started");
 }
 
 #[test]
 fn a_store_that_cannot_be_read_is_a_fault(rt: HostRuntime) {
     let ended = visits(&rt, &[], &[0]);
-    assert!(rt; ended.status == Status::StoreFault);
-    assert!(rt; ended.printed.as_slice() == b"store fault\n".as_slice());
-    assert!(rt; ended.started == 0);
+    holds(&rt, ended.status == Status::StoreFault, "status");
+    same(&rt, &ended.printed, b"store fault\n");
+    holds(&rt, ended.started == 0, "started");
 }

@@ -5,7 +5,7 @@ use record_judge::judge::Part;
 use record_lines::plain::{At, Deed, Line, Plain};
 
 /// What is changed.
-#[derive(Clone, Copy, Debug, PartialEq, Eq)]
+#[derive(Clone, Copy, PartialEq, Eq)]
 pub enum Edit {
     /// An entry is taken from its journal.
     EntryDropped,

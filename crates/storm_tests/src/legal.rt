@@ -1,6 +1,7 @@
 //! Records of storms, which are legal, and records in which one thing was changed, which are not.
 
 use crate::edits::{EDITS, Edit, change};
+use crate::holding::{MEMORY, holds};
 use crate::site::SEED;
 use crate::storm::{Storm, rage};
 use crate::weather::{Weather, orders};
@@ -71,43 +72,60 @@ fn judged<'a>(
         faults: &[],
         plain,
     });
-    parts.expect(rt, "memory was refused")
+    parts.expect(rt, MEMORY)
 }
 
 /// Whether a storm, which ends well, has a legal record.
 fn is_legal<R: Abort + Wait + Threads + Sync>(rt: &R, alloc: Global, weather: &Weather) -> bool {
     let storm = rage(rt, alloc, weather);
     let ran = &storm.ran;
-    assert!(rt; !ran.starved && !ran.console_failed && !ran.log_failed);
-    assert!(rt; ran.counts.connections == u64::from(weather.requests));
+    holds(rt, !ran.starved, "starved");
+    holds(rt, !ran.console_failed, "the console");
+    holds(rt, !ran.log_failed, "the log");
+    let served = ran.counts.connections;
+    holds(rt, served == u64::from(weather.requests), "connections");
     let plain = storm.plain(rt, alloc);
-    let orders = orders(alloc, weather).expect(rt, "memory was refused");
+    let orders = orders(rt, alloc, weather);
     judged(rt, alloc, &storm, &orders, &plain).is_empty()
 }
 
 #[test]
 fn a_storm_leaves_a_legal_record(rt: HostRuntime) {
-    assert!(rt; is_legal(&rt, rt.alloc(), &CALM));
+    holds(&rt, is_legal(&rt, rt.alloc(), &CALM), "legal");
 }
 
 #[test]
 fn a_storm_of_crashes_leaves_a_legal_record(rt: HostRuntime) {
-    assert!(rt; is_legal(&rt, rt.alloc(), &SHORT));
+    holds(&rt, is_legal(&rt, rt.alloc(), &SHORT), "legal");
 }
 
 #[test]
 fn a_storm_of_failing_starts_and_links_leaves_a_legal_record(rt: HostRuntime) {
-    assert!(rt; is_legal(&rt, rt.alloc(), &FAILING));
+    holds(&rt, is_legal(&rt, rt.alloc(), &FAILING), "legal");
 }
 
 /// The first part that an edit of a storm's record breaks.
 fn broken_by(rt: &impl Abort, alloc: Global, storm: &Storm, edit: Edit) -> Option<Part> {
     let mut plain = storm.plain(rt, alloc);
     change(&mut plain, edit).expect(rt, "nothing to change");
-    let all = orders(alloc, &SMALL).expect(rt, "memory was refused");
+    let all = orders(rt, alloc, &SMALL);
     let skipped = usize::from(edit == Edit::OrderMissing);
     let orders = all.get(skipped..).expect(rt, "no order");
     judged(rt, alloc, storm, orders, &plain).first().copied()
+}
+
+/// What an edit is called where it breaks another part.
+fn name_of(edit: Edit) -> &'static str {
+    match edit {
+        Edit::EntryDropped => "an entry dropped",
+        Edit::OrderDropped => "an order dropped",
+        Edit::ShownChanged => "another incarnation shown",
+        Edit::CallDropped => "a call dropped",
+        Edit::AnswerLost => "an answer lost",
+        Edit::RevokeSkipped => "a revoke skipped",
+        Edit::OrderMissing => "an order missing",
+        Edit::AcceptFirst => "an accept first",
+    }
 }
 
 #[test]
@@ -115,6 +133,6 @@ fn each_change_of_a_record_breaks_a_part(rt: HostRuntime) {
     let storm = rage(&rt, rt.alloc(), &SMALL);
     for (edit, part) in EDITS {
         let broken = broken_by(&rt, rt.alloc(), &storm, edit);
-        assert!(rt; broken == Some(part), "{edit:?}: {broken:?}");
+        holds(&rt, broken == Some(part), name_of(edit));
     }
 }

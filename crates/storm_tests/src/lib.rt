@@ -5,6 +5,8 @@
 #[cfg(test)]
 mod edits;
 #[cfg(test)]
+mod holding;
+#[cfg(test)]
 mod legal;
 #[cfg(test)]
 mod says;

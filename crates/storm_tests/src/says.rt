@@ -1,9 +1,11 @@
 //! What the children of storms say.
 
+use crate::holding::MEMORY;
 use crate::site::SEED;
 use crate::weather::Weather;
 use okws_base::value::Token;
-use std::alloc::{AllocError, Global};
+use std::alloc::Global;
+use std::process::Abort;
 use token_core::token;
 
 /// Log of `hi`, and a Reply of 200 with `ok` as plain text.
@@ -16,35 +18,39 @@ const ASKS: &[u8] = b"\0\0\0\x0a\x42\0\0\0\0\0\0\0\x02\0\
     \0\0\0\x06\x43\x04page\
     \0\0\0\x08\x43\x06secret";
 
+fn push(rt: &impl Abort, says: &mut Vec<u8>, bytes: &[u8]) {
+    says.extend_from_slice(bytes).expect(rt, MEMORY);
+}
+
 /// Call of a query in a session, up to the query's number.
-fn push_call(says: &mut Vec<u8>, length: u8, session: u32) -> Result<(), AllocError> {
-    says.extend_from_slice(&[0, 0, 0, length, 0x42, 0, 0])?;
-    says.extend_from_slice(&session.to_be_bytes())
+fn push_call(rt: &impl Abort, says: &mut Vec<u8>, length: u8, session: u32) {
+    push(rt, says, &[0, 0, 0, length, 0x42, 0, 0]);
+    push(rt, says, &session.to_be_bytes());
 }
 
 /// Calls that insert the row of a number, and take away that of the number before.
-fn push_writes(says: &mut Vec<u8>, session: u32, number: i64) -> Result<(), AllocError> {
-    push_call(says, 0x19, session)?;
-    says.extend_from_slice(b"\0\x03\x02\x01")?;
-    says.extend_from_slice(&number.to_be_bytes())?;
-    says.extend_from_slice(b"\x02\0\0\0\x01x")?;
-    push_call(says, 0x13, session)?;
-    says.extend_from_slice(b"\0\x04\x01\x01")?;
-    says.extend_from_slice(&number.saturating_sub(1).to_be_bytes())
+fn push_writes(rt: &impl Abort, says: &mut Vec<u8>, session: u32, number: i64) {
+    push_call(rt, says, 0x19, session);
+    push(rt, says, b"\0\x03\x02\x01");
+    push(rt, says, &number.to_be_bytes());
+    push(rt, says, b"\x02\0\0\0\x01x");
+    push_call(rt, says, 0x13, session);
+    push(rt, says, b"\0\x04\x01\x01");
+    push(rt, says, &number.saturating_sub(1).to_be_bytes());
 }
 
 /// What a service says in one dialog: Open with a token, Call of the first query in a session, and further calls.
-fn push_dialog(says: &mut Vec<u8>, shown: &Token, session: u32) -> Result<(), AllocError> {
-    says.extend_from_slice(b"\0\0\0\x17\x41\0\0")?;
-    says.extend_from_slice(&shown.bytes)?;
-    push_call(says, 0x0a, session)?;
-    says.extend_from_slice(b"\0\x01\0")?;
-    says.extend_from_slice(ASKS)
+fn push_dialog(rt: &impl Abort, says: &mut Vec<u8>, shown: &Token, session: u32) {
+    push(rt, says, b"\0\0\0\x17\x41\0\0");
+    push(rt, says, &shown.bytes);
+    push_call(rt, says, 0x0a, session);
+    push(rt, says, b"\0\x01\0");
+    push(rt, says, ASKS);
 }
 
 /// What an incarnation of guest says, in so many dialogs; each seventh one shows the token of the one before, and
 /// each fifth one writes in its first dialog.
-fn says(alloc: Global, incarnation: u32, dialogs: u32) -> Result<Vec<u8>, AllocError> {
+fn says(rt: &impl Abort, alloc: Global, incarnation: u32, dialogs: u32) -> Vec<u8> {
     let own = incarnation.clamp(1, 1_000);
     let shown = if own > 1 && own % 7 == 0 {
         own - 1
@@ -54,17 +60,17 @@ fn says(alloc: Global, incarnation: u32, dialogs: u32) -> Result<Vec<u8>, AllocE
     let token = token(&SEED, 0, shown, 0);
     let mut says = Vec::new(alloc);
     for session in 0..dialogs {
-        push_dialog(&mut says, &token, session)?;
+        push_dialog(rt, &mut says, &token, session);
         if session == 0 && own % 5 == 1 {
-            push_writes(&mut says, session, i64::from(own % 4))?;
+            push_writes(rt, &mut says, session, i64::from(own % 4));
         }
-        says.extend_from_slice(LOGS)?;
+        push(rt, &mut says, LOGS);
     }
-    Ok(says)
+    says
 }
 
 /// What each incarnation of guest says.
-pub fn all_says(alloc: Global, weather: &Weather) -> Result<Vec<Vec<u8>>, AllocError> {
+pub fn all_says(rt: &impl Abort, alloc: Global, weather: &Weather) -> Vec<Vec<u8>> {
     let mut all = Vec::new(alloc);
     for incarnation in 1..=weather.relaunches.saturating_mul(2) {
         let is_short = incarnation.checked_rem(weather.short) == Some(0);
@@ -74,16 +80,17 @@ pub fn all_says(alloc: Global, weather: &Weather) -> Result<Vec<Vec<u8>>, AllocE
             (false, true) => weather.requests,
             (false, false) => 20,
         };
-        all.push(says(alloc, incarnation, dialogs)?)?;
+        all.push(says(rt, alloc, incarnation, dialogs))
+            .expect(rt, MEMORY);
     }
-    Ok(all)
+    all
 }
 
 /// What each incarnation of the other service says.
-pub fn other_says(alloc: Global, weather: &Weather) -> Result<Vec<u8>, AllocError> {
+pub fn other_says(rt: &impl Abort, alloc: Global, weather: &Weather) -> Vec<u8> {
     let mut says = Vec::new(alloc);
     for _ in 0..weather.requests {
-        says.extend_from_slice(LOGS)?;
+        push(rt, &mut says, LOGS);
     }
-    Ok(says)
+    says
 }

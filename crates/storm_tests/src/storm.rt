@@ -6,6 +6,7 @@ ghost use Rattle.okws_outer.specs.Doors.{new_entrance};
 ghost use Rattle.site_making.specs.Keepers.{AreKeepers, keeper_of};
 ghost use Rattle.site_making.specs.Making.{IsServable};
 
+use crate::holding::MEMORY;
 use crate::says::{all_says, other_says};
 use crate::site::{Ground, SEED, read_ground};
 use crate::weather::{Weather, clients, console, plans};
@@ -29,15 +30,21 @@ use std::sync::{Arc, Wait};
 use std::thread::Threads;
 
 /// What was read from a connection, and what was written on it.
-#[derive(Drop)]
 pub struct Exchanged {
     read: Vec<u8>,
     written: Vec<u8>,
 }
 
+impl Drop for Exchanged {
+    fn drop(self) {
+        let Exchanged { read, written } = self;
+        drop(read);
+        drop(written);
+    }
+}
+
 /// What a storm leaves: the site, what the run did, what went over each door, which children have ended, and how many
 /// starts and links failed.
-#[derive(Drop)]
 pub struct Storm {
     pub site: Arc<Config, Global>,
     pub ran: Ran,
@@ -51,10 +58,25 @@ fn exchanges<'a>(rt: &impl Abort, alloc: Global, door: &'a [Exchanged]) -> Vec<E
     let mut all = Vec::new(alloc);
     for told in door {
         let (read, written) = (told.read.as_slice(), told.written.as_slice());
-        all.push(Exchange { read, written })
-            .expect(rt, "memory was refused");
+        all.push(Exchange { read, written }).expect(rt, MEMORY);
     }
     all
+}
+
+impl Drop for Storm {
+    fn drop(self) {
+        let Storm {
+            site,
+            ran,
+            doors,
+            ended,
+            failures: _,
+        } = self;
+        drop(site);
+        drop(ran);
+        drop(doors);
+        drop(ended);
+    }
 }
 
 impl Storm {
@@ -62,9 +84,7 @@ impl Storm {
     pub fn plain(&self, rt: &impl Abort, alloc: Global) -> Plain<'_> {
         let mut doors = Vec::new(alloc);
         for door in &self.doors {
-            doors
-                .push(exchanges(rt, alloc, door))
-                .expect(rt, "memory was refused");
+            doors.push(exchanges(rt, alloc, door)).expect(rt, MEMORY);
         }
         plain_of(alloc, &self.ran.record, doors).expect(rt, "no record")
     }
@@ -73,13 +93,13 @@ impl Storm {
 /// Which children have ended.
 fn ended(rt: &impl Abort, alloc: Global, children: &MemoryChildren<'_>) -> Vec<Incarnation> {
     let mut all = Vec::new(alloc);
-    for end in children.finished().expect(rt, "memory was refused") {
+    for end in children.finished().expect(rt, MEMORY) {
         if end.ended {
             all.push(Incarnation {
                 service: end.service,
                 number: end.incarnation,
             })
-            .expect(rt, "memory was refused");
+            .expect(rt, MEMORY);
         }
     }
     all
@@ -88,7 +108,7 @@ fn ended(rt: &impl Abort, alloc: Global, children: &MemoryChildren<'_>) -> Vec<I
 /// How many starts and links have failed.
 fn failures(rt: &impl Abort, children: &MemoryChildren<'_>) -> u64 {
     let mut count = children.faults();
-    for end in children.finished().expect(rt, "memory was refused") {
+    for end in children.finished().expect(rt, MEMORY) {
         count = count.saturating_add(end.faults);
     }
     count
@@ -102,17 +122,16 @@ fn exchange_of(rt: &impl Abort, alloc: Global, served: &Served) -> Exchanged {
     let read = came.as_slice().strip_suffix(left.as_slice());
     let read = read.expect(rt, "other bytes are left");
     Exchanged {
-        read: Vec::from_slice(alloc, read).expect(rt, "memory was refused"),
-        written: Vec::from_slice(alloc, given.as_slice()).expect(rt, "memory was refused"),
+        read: Vec::from_slice(alloc, read).expect(rt, MEMORY),
+        written: Vec::from_slice(alloc, given.as_slice()).expect(rt, MEMORY),
     }
 }
 
 /// What went over a door.
 fn told_at(rt: &impl Abort, alloc: Global, door: &MemoryDoor<'_>) -> Vec<Exchanged> {
     let mut all = Vec::new(alloc);
-    for served in door.finished().expect(rt, "memory was refused") {
-        all.push(exchange_of(rt, alloc, served))
-            .expect(rt, "memory was refused");
+    for served in door.finished().expect(rt, MEMORY) {
+        all.push(exchange_of(rt, alloc, served)).expect(rt, MEMORY);
     }
     all
 }
@@ -121,8 +140,7 @@ fn told_at(rt: &impl Abort, alloc: Global, door: &MemoryDoor<'_>) -> Vec<Exchang
 fn told(rt: &impl Abort, alloc: Global, doors: &[MemoryDoor<'_>]) -> Vec<Vec<Exchanged>> {
     let mut all = Vec::new(alloc);
     for door in doors {
-        all.push(told_at(rt, alloc, door))
-            .expect(rt, "memory was refused");
+        all.push(told_at(rt, alloc, door)).expect(rt, MEMORY);
     }
     all
 }
@@ -149,7 +167,7 @@ fn serve<'a, R: Abort + Wait + Threads + Sync>(
         console,
         children,
         keepers,
-        log: MemorySink::new(alloc, 65_536, &[]).expect(rt, "memory was refused"),
+        log: MemorySink::new(alloc, 65_536, &[]).expect(rt, MEMORY),
         gate: NoGate,
     };
     let limits = Limits {
@@ -162,7 +180,7 @@ fn serve<'a, R: Abort + Wait + Threads + Sync>(
         doors: told(rt, alloc, &left.doors),
         ended: ended(rt, alloc, &left.children),
         failures: failures(rt, &left.children),
-        ran: left.ran.expect(rt, "memory was refused"),
+        ran: left.ran.expect(rt, MEMORY),
     }
 }
 
@@ -176,10 +194,7 @@ fn serve_clients<'a, R: Abort + Wait + Threads + Sync>(
     requests: u32,
 ) -> Storm {
     let ground = read_ground(rt, alloc);
-    let console = MemoryConn::new(alloc, console, &[], 65_536, &[]).expect(
-        rt,
-        "memory was refused",
-    );
+    let console = MemoryConn::new(alloc, console, &[], 65_536, &[]).expect(rt, MEMORY);
     let mut network = MemoryNetwork::new(alloc, clients, &[], &[]);
     match network.listen(alloc, 8_080, 2) {
         Ok(doors) => serve(rt, alloc, ground, doors, children, console, requests),
@@ -189,11 +204,11 @@ fn serve_clients<'a, R: Abort + Wait + Threads + Sync>(
 
 /// A storm.
 pub fn rage<R: Abort + Wait + Threads + Sync>(rt: &R, alloc: Global, weather: &Weather) -> Storm {
-    let says = all_says(alloc, weather).expect(rt, "memory was refused");
-    let other = other_says(alloc, weather).expect(rt, "memory was refused");
-    let plans = plans(alloc, &says, &other, weather).expect(rt, "memory was refused");
+    let says = all_says(rt, alloc, weather);
+    let other = other_says(rt, alloc, weather);
+    let plans = plans(rt, alloc, &says, &other, weather);
     let children = MemoryChildren::new(alloc, &plans, weather.starts);
-    let clients = clients(alloc, weather).expect(rt, "memory was refused");
-    let console = console(alloc, weather).expect(rt, "memory was refused");
+    let clients = clients(rt, alloc, weather);
+    let console = console(rt, alloc, weather);
     serve_clients(rt, alloc, &clients, children, &console, weather.requests)
 }

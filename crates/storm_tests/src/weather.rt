@@ -1,10 +1,12 @@
 //! How storms differ, and what is planned of their outside: children, clients and the operator.
 
+use crate::holding::MEMORY;
 use okws_outer::child::Ended;
 use outer_memory::children::ChildPlan;
 use outer_memory::door::Client;
 use record_lines::plain::{At, Deed, Line};
-use std::alloc::{AllocError, Global};
+use std::alloc::Global;
+use std::process::Abort;
 
 /// What a storm has.
 #[derive(Clone, Copy)]
@@ -53,21 +55,26 @@ fn child<'a>(service: u16, incarnation: u32, says: &'a [u8], weather: &Weather) 
 
 /// The children of guest's incarnations, and the first ones of the other service, which all say the same.
 pub fn plans<'a>(
+    rt: &impl Abort,
     alloc: Global,
     says: &'a [Vec<u8>],
     other: &'a [u8],
     weather: &Weather,
-) -> Result<Vec<ChildPlan<'a>>, AllocError> {
+) -> Vec<ChildPlan<'a>> {
     let mut plans = Vec::new(alloc);
     let mut incarnation = 0u32;
     for says in says {
         incarnation = incarnation.saturating_add(1);
-        plans.push(child(0, incarnation, says, weather))?;
+        plans
+            .push(child(0, incarnation, says, weather))
+            .expect(rt, MEMORY);
     }
     for incarnation in 1..=40 {
-        plans.push(child(1, incarnation, other, weather))?;
+        plans
+            .push(child(1, incarnation, other, weather))
+            .expect(rt, MEMORY);
     }
-    Ok(plans)
+    plans
 }
 
 /// What the client of this number sends.
@@ -81,17 +88,19 @@ fn request(number: u32) -> &'static [u8] {
 }
 
 /// The clients, in one line.
-pub fn clients<'a>(alloc: Global, weather: &Weather) -> Result<Vec<Client<'a>>, AllocError> {
+pub fn clients<'a>(rt: &impl Abort, alloc: Global, weather: &Weather) -> Vec<Client<'a>> {
     let mut clients = Vec::new(alloc);
     for number in 0..weather.requests {
-        clients.push(Client {
-            bytes: request(number),
-            sizes: &[],
-            room: 4_096,
-            failing: &[],
-        })?;
+        clients
+            .push(Client {
+                bytes: request(number),
+                sizes: &[],
+                room: 4_096,
+                failing: &[],
+            })
+            .expect(rt, MEMORY);
     }
-    Ok(clients)
+    clients
 }
 
 /// Whether the order of this number comes behind a publication.
@@ -100,29 +109,31 @@ fn publishes(number: u32) -> bool {
 }
 
 /// What the operator says.
-pub fn console(alloc: Global, weather: &Weather) -> Result<Vec<u8>, AllocError> {
+pub fn console(rt: &impl Abort, alloc: Global, weather: &Weather) -> Vec<u8> {
     let mut console = Vec::new(alloc);
     for number in 0..weather.relaunches {
         if publishes(number) {
-            console.extend_from_slice(b"publish page 3\nabc")?;
+            console
+                .extend_from_slice(b"publish page 3\nabc")
+                .expect(rt, MEMORY);
         }
-        console.extend_from_slice(weather.order)?;
+        console.extend_from_slice(weather.order).expect(rt, MEMORY);
     }
-    console.extend_from_slice(b"end\n")?;
-    Ok(console)
+    console.extend_from_slice(b"end\n").expect(rt, MEMORY);
+    console
 }
 
 /// What the operator orders, as the console's worker is to carry it out.
-pub fn orders<'a>(alloc: Global, weather: &Weather) -> Result<Vec<Line<'a>>, AllocError> {
+pub fn orders<'a>(rt: &impl Abort, alloc: Global, weather: &Weather) -> Vec<Line<'a>> {
     let mut orders = Vec::new(alloc);
     let worker = CONSOLE_WORKER;
     for number in 0..weather.relaunches {
         if publishes(number) {
             let line = Line::new(At::Pubd, Deed::Publish, 0, 0).with(b"abc");
-            orders.push(Line { worker, ..line })?;
+            orders.push(Line { worker, ..line }).expect(rt, MEMORY);
         }
         let line = Line::new(At::Launcher, Deed::Asked, weather.relaunched, 0);
-        orders.push(Line { worker, ..line })?;
+        orders.push(Line { worker, ..line }).expect(rt, MEMORY);
     }
-    Ok(orders)
+    orders
 }

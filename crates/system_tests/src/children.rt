@@ -2,10 +2,10 @@
 
 ghost use Rattle.std.specs.Prelude.{◌≡◌};
 
+use crate::holding::{MEMORY, has_failed, holds};
 use okws_base::items::Items;
 use okws_outer::child::{Child, Ended};
 use okws_outer::children::{Children, Started};
-use okws_outer::error::MakeError;
 use okws_outer::stream::{Link, Pull, Put};
 use okws_system::children::RealChildren;
 use std::alloc::Global;
@@ -18,8 +18,8 @@ use std::time::Duration;
 fn words(rt: &impl Abort, alloc: Global, texts: &[&str]) -> Vec<Items<u8>> {
     let mut words = Vec::new(alloc);
     for text in texts {
-        let word = Vec::from_slice(alloc, text.as_bytes()).expect(rt, "memory was refused");
-        words.push(Items::of(word)).expect(rt, "memory was refused");
+        let word = Vec::from_slice(alloc, text.as_bytes()).expect(rt, MEMORY);
+        words.push(Items::of(word)).expect(rt, MEMORY);
     }
     words
 }
@@ -66,11 +66,11 @@ fn child_says_what_it_heard(rt: HostRuntime) {
     else {
         panic!(rt; "not as planned");
     };
-    assert!(rt; is_heard(&mut link));
+    holds(&rt, is_heard(&mut link), "heard");
     child.stop();
-    assert!(rt; has_ended(&rt, &mut child));
-    assert!(rt; is_cut(&mut link));
-    assert!(rt; link.faults() == 1);
+    holds(&rt, has_ended(&rt, &mut child), "ended");
+    holds(&rt, is_cut(&mut link), "cut");
+    holds(&rt, link.faults() == 1, "faults");
     children.finish(0, 1, child, link);
 }
 
@@ -98,8 +98,8 @@ fn child_that_ends_is_seen(rt: HostRuntime) {
     else {
         panic!(rt; "not as planned");
     };
-    assert!(rt; link.pull(&mut [0u8; 4]) == Pull::End);
-    assert!(rt; has_ended(&rt, &mut child));
+    holds(&rt, link.pull(&mut [0u8; 4]) == Pull::End, "the end");
+    holds(&rt, has_ended(&rt, &mut child), "ended");
     child.stop();
     children.finish(0, 1, child, link);
 }
@@ -112,15 +112,26 @@ fn is_refused<R: Abort, C: Children>(
     texts: &[&str],
 ) -> bool {
     let program = words(rt, alloc, texts);
-    let refused = children.start(alloc, 0, 1, &program);
-    matches!(refused, Err(MakeError::Failed))
+    has_failed(children.start(alloc, 0, 1, &program))
 }
 
 #[test]
 fn what_is_no_program_fails(rt: HostRuntime) {
     let mut children = RealChildren::new(&rt);
-    assert!(rt; is_refused(&rt, &mut children, rt.alloc(), &["/nowhere/program"]));
-    assert!(rt; is_refused(&rt, &mut children, rt.alloc(), &["/tmp"]));
-    assert!(rt; is_refused(&rt, &mut children, rt.alloc(), &[]));
-    assert!(rt; children.faults() == 3);
+    holds(
+        &rt,
+        is_refused(&rt, &mut children, rt.alloc(), &["/nowhere/program"]),
+        "nowhere",
+    );
+    holds(
+        &rt,
+        is_refused(&rt, &mut children, rt.alloc(), &["/tmp"]),
+        "a folder",
+    );
+    holds(
+        &rt,
+        is_refused(&rt, &mut children, rt.alloc(), &[]),
+        "no words",
+    );
+    holds(&rt, children.faults() == 3, "faults");
 }

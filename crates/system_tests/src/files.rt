@@ -1,5 +1,6 @@
 //! Real files and sinks.
 
+use crate::holding::{MEMORY, holds};
 use okws_outer::reading::{ReadError, read_file};
 use okws_outer::sinks::Sinks;
 use okws_outer::stream::{Put, Sink};
@@ -11,24 +12,24 @@ use std::{fs, process};
 fn sink_goes_on_behind_what_stands_there(rt: HostRuntime) {
     let number = process::id(rt.process());
     let path = format!(in rt.alloc(); "/tmp/okws-sink-{number}");
-    let path = path.expect(&rt, "memory was refused");
+    let path = path.expect(&rt, MEMORY);
     let mut sinks = RealSinks::new(&rt);
     for bytes in [b"one\n".as_slice(), b"two\n"] {
         let Ok(mut sink) = sinks.open(path.as_str()) else {
             panic!(rt; "not as planned");
         };
-        assert!(rt; sink.put(bytes) == Put::Done);
+        holds(&rt, sink.put(bytes) == Put::Done, "put");
         sinks.close(path.as_str(), sink);
     }
-    assert!(rt; sinks.open("/nowhere/log").is_err());
-    assert!(rt; sinks.faults() == 1);
+    holds(&rt, sinks.open("/nowhere/log").is_err(), "nowhere");
+    holds(&rt, sinks.faults() == 1, "faults");
     let mut files = RealFiles::new(&rt);
     let read = read_file(rt.alloc(), &mut files, path.as_str(), 99);
     fs::remove_file(&rt, path.as_str()).expect(&rt, "no file");
     let Ok(bytes) = read else {
         panic!(rt; "not as planned");
     };
-    assert!(rt; bytes.as_slice() == b"one\ntwo\n".as_slice());
+    holds(&rt, bytes.as_slice() == b"one\ntwo\n".as_slice(), "read");
 }
 
 #[test]
@@ -36,6 +37,6 @@ fn what_is_no_file_is_a_fault(rt: HostRuntime) {
     let mut files = RealFiles::new(&rt);
     for path in ["/nowhere", "/tmp"] {
         let read = read_file(rt.alloc(), &mut files, path, 99);
-        assert!(rt; matches!(read, Err(ReadError::Failed)), "at {path}");
+        holds(&rt, matches!(read, Err(ReadError::Failed)), path);
     }
 }

@@ -7,6 +7,8 @@ mod children;
 #[cfg(test)]
 mod files;
 #[cfg(test)]
+mod holding;
+#[cfg(test)]
 mod network;
 #[cfg(test)]
 mod stores;

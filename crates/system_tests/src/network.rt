@@ -2,9 +2,9 @@
 
 ghost use Rattle.std.specs.Prelude.{IsNone};
 
+use crate::holding::{MEMORY, has_failed, holds};
 use okws_outer::conn::Conn;
 use okws_outer::door::Door;
-use okws_outer::error::MakeError;
 use okws_outer::network::Network;
 use okws_outer::stream::{Pull, Put};
 use okws_system::network::{RealDoor, RealNetwork};
@@ -46,23 +46,31 @@ fn doors_share_one_port(rt: HostRuntime) {
     let Some(port) = first.port() else {
         panic!(rt; "not as planned");
     };
-    assert!(rt; second.port() == Some(port));
+    holds(&rt, second.port() == Some(port), "one port");
     let taken = network.listen(rt.alloc(), port, 1);
-    assert!(rt; matches!(taken, Err(MakeError::Failed)));
+    holds(&rt, has_failed(taken), "taken");
     let mut one = client(&rt, port, b"one").expect(&rt, "no connection");
     let mut other = client(&rt, port, b"other").expect(&rt, "no connection");
-    assert!(rt; serve_one(&mut second, b"first") == Some((Pull::Took(3), Put::Done)));
-    assert!(rt; serve_one(&mut first, b"second") == Some((Pull::Took(5), Put::Done)));
+    holds(
+        &rt,
+        serve_one(&mut second, b"first") == Some((Pull::Took(3), Put::Done)),
+        "the second door",
+    );
+    holds(
+        &rt,
+        serve_one(&mut first, b"second") == Some((Pull::Took(5), Put::Done)),
+        "the first door",
+    );
     let mut heard = Vec::new(rt.alloc());
     one.read_to_end(&mut heard).expect(&rt, "no answer");
     other.read_to_end(&mut heard).expect(&rt, "no answer");
-    assert!(rt; heard.as_slice() == b"firstsecond".as_slice());
-    doors.push(first).expect(&rt, "memory was refused");
-    doors.push(second).expect(&rt, "memory was refused");
+    holds(&rt, heard.as_slice() == b"firstsecond".as_slice(), "heard");
+    doors.push(first).expect(&rt, MEMORY);
+    doors.push(second).expect(&rt, MEMORY);
     network.close(doors);
-    assert!(rt; network.faults() == 1);
+    holds(&rt, network.faults() == 1, "faults");
     let again = network.listen(rt.alloc(), port, 1);
-    assert!(rt; again.is_ok());
+    holds(&rt, again.is_ok(), "again");
 }
 
 #[test]
@@ -79,10 +87,14 @@ fn early_answer_is_seen(rt: HostRuntime) {
     };
     let mut one = client(&rt, port, &[b'a'; 40_000]).expect(&rt, "no connection");
     let answer = b"HTTP/1.1 413 Content Too Large\r\n";
-    assert!(rt; serve_one(&mut door, answer) == Some((Pull::Took(8), Put::Done)));
+    holds(
+        &rt,
+        serve_one(&mut door, answer) == Some((Pull::Took(8), Put::Done)),
+        "an early answer",
+    );
     let mut heard = Vec::new(rt.alloc());
     one.read_to_end(&mut heard).expect(&rt, "no answer");
-    assert!(rt; heard.as_slice() == answer.as_slice());
+    holds(&rt, heard.as_slice() == answer.as_slice(), "heard");
 }
 
 #[test]
@@ -101,5 +113,5 @@ fn client_that_says_nothing_has_ended(rt: HostRuntime) {
     let Some((pull, _)) = serve_one(&mut door, b"answer") else {
         panic!(rt; "not as planned");
     };
-    assert!(rt; pull == Pull::End);
+    holds(&rt, pull == Pull::End, "the end");
 }

@@ -1,28 +1,25 @@
 //! Stores in real files.
 
-ghost use Rattle.std.specs.Prelude.{◌≡◌, [], ◌∷◌, IfOk};
-ghost use Rattle.row_keeper.specs.Example.{tables, statement, IsExample};
+ghost use Rattle.std.specs.Prelude.{◌≡◌, [], ◌∷◌};
+ghost use Rattle.system_tests.specs.Example.{tables, IsInsertion};
 
+use crate::holding::{MEMORY, has_failed, holds};
 use okws_base::items::{Items, copies};
 use okws_base::name::Identifier;
 use okws_base::value::{Kind, Value};
-use okws_outer::error::MakeError;
-use okws_outer::keeper::{Keeper, RunError};
+use okws_outer::keeper::Keeper;
 use okws_outer::stores::Stores;
 use okws_plan::configuration::{Column, Table};
 use okws_plan::statement::{Action, Answer, Operand, Statement};
 use okws_system::stores::{FileKeeper, RealStores};
-use std::alloc::{AllocError, Global};
+use std::alloc::Global;
 use std::process::Abort;
 use std::{fs, process};
 
 fn identifier(rt: &impl Abort, alloc: Global, text: &[u8]) -> Identifier
     ensures { result ≡ text.now }
 {
-    let bytes = match copies(alloc, text) {
-        Ok(bytes) => bytes,
-        Err(_) => panic!(rt; "memory was refused"),
-    };
+    let bytes = copies(alloc, text).expect(rt, MEMORY);
     match Identifier::new(Items::of(bytes)) {
         Some(name) => name,
         None => panic!(rt; "not an identifier"),
@@ -39,13 +36,13 @@ fn column(rt: &impl Abort, alloc: Global, text: &[u8], key: bool) -> Column
     }
 }
 
-fn two<T: Drop>(alloc: Global, first: T, second: T) -> Result<Items<T>, AllocError>
-    ensures { IfOk result (λ v. v ≡ first ∷ second ∷ []) }
+fn two<T: Drop>(rt: &impl Abort, alloc: Global, first: T, second: T) -> Items<T>
+    ensures { result ≡ first ∷ second ∷ [] }
 {
     let mut items = Vec::new(alloc);
-    items.push(first)?;
-    items.push(second)?;
-    Ok(Items::of(items))
+    items.push(first).expect(rt, MEMORY);
+    items.push(second).expect(rt, MEMORY);
+    Items::of(items)
 }
 
 fn one_table(rt: &impl Abort, alloc: Global) -> Vec<Table>
@@ -53,40 +50,34 @@ fn one_table(rt: &impl Abort, alloc: Global) -> Vec<Table>
 {
     let id = column(rt, alloc, b"id", true);
     let n = column(rt, alloc, b"n", false);
-    let columns = match two(alloc, id, n) {
-        Ok(columns) => columns,
-        Err(_) => panic!(rt; "memory was refused"),
-    };
     let table = Table {
         name: identifier(rt, alloc, b"t"),
-        columns,
+        columns: two(rt, alloc, id, n),
         first: Items::of(Vec::new(alloc)),
     };
     let mut tables = Vec::new(alloc);
-    match tables.push(table) {
-        Ok(()) => tables,
-        Err(_) => panic!(rt; "memory was refused"),
+    tables.push(table).expect(rt, MEMORY);
+    tables
+}
+
+fn insertion(rt: &impl Abort, alloc: Global) -> Statement
+    ensures { IsInsertion result }
+{
+    let values = two(rt, alloc, Operand::Parameter(2), Operand::Parameter(1));
+    Statement {
+        table: 0,
+        parameters: two(rt, alloc, Kind::Int, Kind::Int),
+        action: Action::Insert { values },
     }
 }
 
-fn insertion(alloc: Global) -> Result<Statement, AllocError>
-    ensures { IfOk result (λ st. IsExample st) }
-{
-    let values = two(alloc, Operand::Parameter(2), Operand::Parameter(1))?;
-    Ok(Statement {
-        table: 0,
-        parameters: two(alloc, Kind::Int, Kind::Int)?,
-        action: Action::Insert { values },
-    })
-}
-
-#[tactic(auto, using(row_keeper::proofs::Lawful::lawful, row_keeper::proofs::Lawful::fitting))]
-fn insert(alloc: Global, keeper: &mut FileKeeper, id: i64) -> Result<Answer, RunError>
+#[tactic(auto, using(crate::proofs::Lawful::lawful, crate::proofs::Lawful::fitting))]
+fn insert(rt: &impl Abort, alloc: Global, keeper: &mut FileKeeper, id: i64) -> Option<Answer>
     requires { ⟦<FileKeeper as Keeper>⟧.tables keeper.old ≡ tables }
 {
-    let statement = insertion(alloc)?;
-    let args = two(alloc, Value::Int(5), Value::Int(id))?;
-    keeper.run(alloc, &statement, args.as_slice())
+    let statement = insertion(rt, alloc);
+    let args = two(rt, alloc, Value::Int(5), Value::Int(id));
+    keeper.run(alloc, &statement, args.as_slice()).ok()
 }
 
 /// Inserts a row into the rows of proxy 7, in a time of the store's own.
@@ -101,15 +92,11 @@ fn inserted(
     let Ok(mut keeper) = stores.make(alloc, path, 7, &tables) else {
         return None;
     };
-    let answer = insert(alloc, &mut keeper, id).ok();
+    let answer = insert(rt, alloc, &mut keeper, id);
     // While the keeper is out nobody else has the file.
-    let second = stores.make(alloc, path, 7, &tables);
+    let is_alone = has_failed(stores.make(alloc, path, 7, &tables));
     stores.finish(7, keeper);
-    if matches!(second, Err(MakeError::Failed)) {
-        answer
-    } else {
-        None
-    }
+    if is_alone { answer } else { None }
 }
 
 /// Removes the files of proxy 7, where they are.
@@ -125,7 +112,7 @@ fn clear(rt: &HostRuntime, path: &str) {
 fn rows_stay_in_their_file(rt: HostRuntime) {
     let number = process::id(rt.process());
     let path = format!(in rt.alloc(); "/tmp/okws-rows-{number}");
-    let path = path.expect(&rt, "memory was refused");
+    let path = path.expect(&rt, MEMORY);
     clear(&rt, &path);
     let mut stores = RealStores::new(&rt);
     let all = [
@@ -135,16 +122,16 @@ fn rows_stay_in_their_file(rt: HostRuntime) {
     ];
     for (id, answer) in all {
         let found = inserted(&rt, rt.alloc(), &mut stores, &path, id);
-        assert!(rt; found == Some(answer), "at {id}");
+        holds(&rt, found == Some(answer), "an answer");
     }
     clear(&rt, &path);
-    assert!(rt; stores.faults() == 3);
+    holds(&rt, stores.faults() == 3, "faults");
 }
 
 #[test]
 fn what_is_no_place_for_a_store_is_a_fault(rt: HostRuntime) {
     let mut stores = RealStores::new(&rt);
     let refused = stores.make(rt.alloc(), "/nowhere/rows", 0, &[]);
-    assert!(rt; matches!(refused, Err(MakeError::Failed)));
-    assert!(rt; stores.faults() == 1);
+    holds(&rt, has_failed(refused), "nowhere");
+    holds(&rt, stores.faults() == 1, "faults");
 }

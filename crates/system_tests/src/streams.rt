@@ -1,6 +1,7 @@
 //! A console and a link over streams that fail as a system does: signals interrupt their calls, they
 //! take and give little at a time, and they fail in mid-stream.
 
+use crate::holding::holds;
 use okws_outer::conn::Conn;
 use okws_outer::stream::{Link, Pull, Put, Sink};
 use okws_system::console::RealConsole;
@@ -99,13 +100,13 @@ fn console_goes_on_after_signals(rt: HostRuntime) {
         Pull::Took(1),
         Pull::End,
     ] {
-        assert!(rt; console.pull(&mut piece) == pull);
+        holds(&rt, console.pull(&mut piece) == pull, "pull");
     }
     for put in [Put::Done, Put::Stopped(2), Put::Stopped(0), Put::Stopped(0)] {
-        assert!(rt; console.put(b"abc") == put);
+        holds(&rt, console.put(b"abc") == put, "put");
     }
-    assert!(rt; console.put(b"") == Put::Done);
-    assert!(rt; console.faults() == 4);
+    holds(&rt, console.put(b"") == Put::Done, "nothing put");
+    holds(&rt, console.faults() == 4, "faults");
 }
 
 #[test]
@@ -123,19 +124,19 @@ fn link_goes_on_after_signals(rt: HostRuntime) {
         Pull::Took(1),
         Pull::End,
     ] {
-        assert!(rt; link.pull(&mut piece) == pull);
+        holds(&rt, link.pull(&mut piece) == pull, "pull");
     }
     for put in [Put::Done, Put::Stopped(2), Put::Stopped(0)] {
-        assert!(rt; link.put(b"abc") == put);
+        holds(&rt, link.put(b"abc") == put, "put");
     }
-    assert!(rt; link.faults() == 3);
+    holds(&rt, link.faults() == 3, "faults");
 }
 
 #[test]
 fn output_stops_where_nothing_is_taken(rt: HostRuntime) {
     let mut out = Writing::new(Dropping { steps: &WRITES });
     for put in [Put::Done, Put::Stopped(2), Put::Stopped(0)] {
-        assert!(rt; out.put(b"abc") == put);
+        holds(&rt, out.put(b"abc") == put, "put");
     }
-    assert!(rt; out.faults() == 2);
+    holds(&rt, out.faults() == 2, "faults");
 }

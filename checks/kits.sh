@@ -1,0 +1,22 @@
+#!/usr/bin/env bash
+# Runs the kits, the bridges and okws-run with the real program, over real sockets.
+#   checks/kits.sh OKWS [CHECK]
+# With CHECK that one alone. Needs cc and Debian's python3; what needs node, flask, haproxy or bubblewrap is skipped, and named, where that isn't there.
+# Loopback only, on ports that the system gives. Every process that is started is ended, by its id. The last line is 'N passed, N failed', and
+# behind it ', N skipped' where some were.
+set -uo pipefail
+program=$(realpath "$1")
+only=${2:-}
+top=$(realpath "$(dirname "$0")/..")
+folder=$(mktemp -d)
+trap 'rm -rf "$folder"' EXIT
+cd "$folder" || exit 1
+strict=(-std=c99 -O2 -Wall -Wextra -Werror -pedantic "-I$top/kits/c")
+cc "${strict[@]}" -o hello "$top/kits/c/hello.c" || exit 1
+cc "${strict[@]}" -o asked "$top/checks/kits/asked.c" || exit 1
+cc -O2 -Wall -Wextra -Werror -o okws-run "$top"/tools/okws-run/*.c || exit 1
+for version in 0 1 2 4; do # as a kernel without Landlock, or with an older one, has it
+    cc -O2 -DLANDLOCK_KNOWN=$version -o okws-run-$version "$top"/tools/okws-run/*.c || exit 1
+done
+export PYTHONDONTWRITEBYTECODE=1
+/usr/bin/python3 "$top/checks/kits/run.py" "$program" "$only"

@@ -1,0 +1,170 @@
+"""What a service reaches on the machine, plain and behind okws-run."""
+import os, re, subprocess, time
+from serving import OKWS, PYTHON, TOP, Server, Skipped, ask, children_of, needs, same, tree_of, wait_until, write
+from of_kits import guestbook
+
+SITE = """okws 1
+proxy main
+table main msgs id INT KEY who TEXT note TEXT
+row main msgs 1 'ann' 'hi'
+query main 1 SELECT id, who FROM msgs ORDER BY id
+query main 2 INSERT INTO msgs (id, who, note) VALUES (?1, ?2, ?3)
+service spy {words}
+service other /bin/sleep 600
+uri /spy spy
+uri /other other
+grant spy main 1
+"""
+SPY = f'{PYTHON} {TOP}/checks/kits/spy.py {TOP}/kits/python rows.0'
+READS = f'--read {TOP}/checks/kits/spy.py --read {TOP}/kits/python'
+
+# What no service of a site should be able to do to the machine, the server and its sisters; the last is the monitor's to refuse, and is refused plain too.
+TRIED = ['read the rows of every proxy', 'read the environment of the server', 'read the memory of the server', 'look at the pipes of another service',
+         'list the services of the server', 'read the accounts of the machine', 'write a file where the server runs', 'open a socket', 'start another process',
+         'signal the server', 'limit what the server may use', 'lower the priority of the server', 'change the mode of the rows', 'kill another service',
+         'call a query that is not granted']
+
+def spied(words):
+    """What came of each attempt of the spy that is started by these words."""
+    from urllib.parse import quote
+    with Server(SITE.format(words=words), '--store', 'rows') as server:
+        same(ask(server.port, '/spy').text.split('\n'), TRIED)
+        sleeper = next(pid for pid in children_of(server.process.pid) if b'sleep' in open(f'/proc/{pid}/cmdline', 'rb').read())
+        found = {attempt: ask(server.port, f'/spy?only={quote(attempt)}&sibling={sleeper}').text for attempt in TRIED}
+    for name in os.listdir('.'):
+        if name.startswith('rows.') or name == 'planted':
+            os.remove(name)
+    return found
+
+def refused(found):
+    return [attempt for attempt in TRIED if re.match(r'no: (PermissionError|Denied) ', found[attempt])]
+
+def a_plain_spy_reaches_all_but_what_the_monitor_refuses():
+    found = spied(SPY)
+    same([attempt for attempt in TRIED if found[attempt] == 'yes'], TRIED[:-1])
+    same(found[TRIED[-1]], 'no: Denied denied by rule 14, QueryNotGranted')
+
+def a_confined_spy_reaches_nothing():
+    found = spied(f'./okws-run {READS} {SPY}')
+    same((refused(found), found[TRIED[-1]]), (TRIED, 'no: Denied denied by rule 14, QueryNotGranted'))
+
+def a_spy_behind_a_relay_reaches_nothing():
+    same(refused(spied(f'./okws-run --seconds 20 {READS} {SPY}')), TRIED)
+
+def a_spy_reaches_nothing_where_the_kernel_is_older():
+    """The versions of Landlock of Linux 5.13, 6.1 and 6.7."""
+    for version in (1, 2, 4):
+        same((version, refused(spied(f'./okws-run-{version} {READS} {SPY}'))), (version, TRIED))
+
+def a_kernel_without_landlock_is_told():
+    run = subprocess.run(['./okws-run-0', '/bin/true'], capture_output=True, text=True)
+    same((run.returncode, run.stdout), (126, ''))
+    assert 'has no Landlock' in run.stderr, run.stderr
+
+def run_confined(options, program, **more):
+    return subprocess.run(['./okws-run', *options, *program], capture_output=True, text=True, timeout=60, **more)
+
+def python(text):
+    return [PYTHON, '-c', text]
+
+def what_is_named_is_given():
+    os.makedirs('given', exist_ok=True)
+    write('given/text', 'read me')
+    reads = python("print(open('given/text').read())")
+    writes = python("import os; open('given/text', 'w').write('x'); os.rename('given/text', 'given/moved'); os.remove('given/moved')")
+    runs = python("import subprocess; print(subprocess.run(['./told', 'b'], capture_output=True, text=True).stdout.strip())")
+    write('told', '#!/bin/sh\necho a $1; cat /etc/passwd; kill -0 $PPID && echo reached\n', 0o755)
+    assert 'PermissionError' in run_confined([], reads).stderr
+    same(run_confined(['--read', 'given'], reads).stdout, 'read me\n')
+    assert 'PermissionError' in run_confined(['--read', 'given'], writes).stderr
+    same(run_confined(['--write', 'given'], writes).stderr, '')
+    assert 'PermissionError' in run_confined(['--read', 'told'], runs).stderr
+    same(run_confined(['--run', './told', '--run', '/usr/bin/dash', '--run', '/bin/cat'], runs).stdout, 'a b\nreached\n')
+    same(run_confined(['--env', 'A=b=c'], python("import os; print(os.environ['A'], sorted(os.environ))")).stdout, "b=c ['A', 'LANG', 'PATH']\n")
+    same(run_confined([], ['env'], env={'SECRET': '1'}).stdout, 'PATH=/usr/local/bin:/usr/bin:/bin\nLANG=C.UTF-8\n')
+
+def a_socket_is_of_the_internets_kinds_and_only_with_network():
+    opens = python("import socket, sys; [socket.socket(kind).close() for kind in (socket.AF_INET, socket.AF_INET6)]; socket.socket(socket.AF_UNIX)")
+    assert "socket.AF_INET" in run_confined([], opens).stderr or 'PermissionError' in run_confined([], opens).stderr
+    only = run_confined(['--network'], opens)
+    assert 'PermissionError' in only.stderr and only.returncode == 1, only.stderr
+    same(run_confined(['--network'], python(opens[2].rpartition(';')[0])).stderr, '')
+
+def memory_is_limited():
+    fills = python("b = bytearray(300 << 20); print(len(b) >> 20)")
+    same(run_confined(['--memory', '500'], fills).stdout, '300\n')
+    assert 'MemoryError' in run_confined(['--memory', '100'], fills).stderr
+
+def descriptors_are_not_inherited():
+    with open('/etc/passwd') as held:
+        os.set_inheritable(held.fileno(), True)
+        run = run_confined([], python(f'import os; os.fstat({held.fileno()})'), close_fds=False)
+    assert 'Bad file descriptor' in run.stderr, run.stderr
+
+def words_that_ask_for_nothing_are_refused():
+    for words in ([], ['--read'], ['--read', 'nowhere', '/bin/true'], ['--memory', 'x', '/bin/true'], ['--seconds', '0', '/bin/true'], ['--all', 'x', '/bin/true'],
+                  ['--env', 'A', '/bin/true'], ['nowhere'], ['./nowhere']):
+        run = run_confined([], words)
+        same((words, run.returncode, run.stdout, run.stderr.startswith('okws-run: ')), (words, 126, '', True))
+
+def a_dialog_that_takes_too_long_is_ended():
+    words = f'./okws-run --seconds 1 --read {TOP}/checks/kits/slow.py --read {TOP}/kits/python {PYTHON} {TOP}/checks/kits/slow.py {TOP}/kits/python'
+    with Server(SITE.replace('grant spy main 1\n', '').format(words=words), doors=4) as server:
+        same(ask(server.port, '/spy?seconds=0').text, 'slept 0.0\n')
+        begun = time.time()
+        same(ask(server.port, '/spy?seconds=600').status, 502)
+        assert time.time() - begun < 30, time.time() - begun
+        assert 'a dialog took longer than 1 seconds' in server.says(), server.says()
+        time.sleep(1.5)
+        same(ask(server.port, '/spy?seconds=0').text, 'slept 0.0\n')
+        time.sleep(1.5)
+        same(ask(server.port, '/spy?seconds=0&size=1000000').content, b'a' * 1000000)
+
+def a_confined_service_ends_with_the_server():
+    for seconds in ('', '--seconds 20 '):
+        words = f'./okws-run {seconds}{READS} {SPY}'
+        with Server(SITE.format(words=words), '--store', 'rows') as server:
+            same(ask(server.port, '/spy').status, 200)
+            started = tree_of(server.process.pid)[1:]
+            server.process.kill()
+            wait_until(lambda: not any(is_alive(pid) for pid in started if 'spy' in words_of(pid)), 'the service ends')
+            for pid in started:
+                if is_alive(pid) and 'sleep' in words_of(pid):
+                    os.kill(pid, 9)
+
+def words_of(pid):
+    try:
+        with open(f'/proc/{pid}/cmdline') as f:
+            return f.read()
+    except OSError:
+        return ''
+
+def is_alive(pid):
+    try:
+        with open(f'/proc/{pid}/stat') as f:
+            return f.read().rsplit(')', 1)[1].split()[0] != 'Z'
+    except OSError:
+        return False
+
+def the_kits_examples_run_confined():
+    words = {'python': f'--read {TOP}/kits/python {TOP}/kits/python/hello.py', 'c': './hello', 'node': f'--read {TOP}/kits/node {TOP}/kits/node/hello.js'}
+    for kit, service in words.items():
+        if kit == 'node':
+            needs('node', '/usr/bin/node')
+        for options in ('', '--seconds 20 ', '--memory 2000 '):
+            with Server(SITE.format(words=f'./okws-run {options}{service}')) as server:
+                same((kit, options, ask(server.port, '/spy?name=a+b').text), (kit, options, 'hello a b\n1 ann\n'))
+
+def svc_guest():
+    for path in (f'{os.path.dirname(OKWS)}/svc_guest', f'{TOP}/bin/svc_guest', f'{TOP}/crates/svc_guest/out/svc_guest'):
+        if os.path.exists(path):
+            return path
+    raise Skipped('svc_guest is not there')
+
+CHECKS = [
+    a_plain_spy_reaches_all_but_what_the_monitor_refuses, a_confined_spy_reaches_nothing, a_spy_behind_a_relay_reaches_nothing,
+    a_spy_reaches_nothing_where_the_kernel_is_older, a_kernel_without_landlock_is_told, what_is_named_is_given,
+    a_socket_is_of_the_internets_kinds_and_only_with_network, memory_is_limited, descriptors_are_not_inherited, words_that_ask_for_nothing_are_refused,
+    a_dialog_that_takes_too_long_is_ended, a_confined_service_ends_with_the_server, the_kits_examples_run_confined,
+    guestbook('the_confined_svc_guest_passes_the_guestbooks_checks', lambda: f'{os.getcwd()}/okws-run {svc_guest()}'),
+]

@@ -1,6 +1,7 @@
 //! The dispatcher's column. Not tested here: many paths and many entries.
 
-use crate::site::{bytes, config, shared};
+use crate::holding::{MEMORY, holds};
+use crate::site::{bytes, config, entries, shared};
 use monitor_model::verdict::Way;
 use okd_dispatch::Okd;
 use std::alloc::Global;
@@ -56,18 +57,13 @@ impl Column {
     fn new(rt: &impl Abort, alloc: Global, keeps: bool) -> Self {
         let config = config(rt, alloc, SITE);
         assert!(rt; config.services.as_slice().len() == 2);
-        match Okd::new(alloc, shared(rt, alloc, config), keeps) {
-            Ok(okd) => Column { okd },
-            Err(_) => panic!(rt; "memory was refused"),
-        }
+        let okd = Okd::new(alloc, shared(rt, alloc, config), keeps).expect(rt, MEMORY);
+        Column { okd }
     }
 
     fn up(&mut self, rt: &impl Abort, service: u16, incarnation: u32) {
         assert!(rt; service <= OTHER && incarnation != 0);
-        match self.okd.up(service, incarnation) {
-            Ok(()) => {}
-            Err(_) => panic!(rt; "memory was refused"),
-        }
+        self.okd.up(service, incarnation).expect(rt, MEMORY);
     }
 
     fn down(&mut self, service: u16, incarnation: u32) {
@@ -76,11 +72,10 @@ impl Column {
         }
     }
 
-    fn accept(&mut self, rt: &impl Abort, alloc: Global, path: &[u8]) -> Way {
-        match self.okd.accept(bytes(rt, alloc, path)) {
-            Ok(way) => way,
-            Err(_) => panic!(rt; "memory was refused"),
-        }
+    // A request with this path goes this way.
+    fn goes(&mut self, rt: &impl Abort, alloc: Global, path: &[u8], want: Way) {
+        let way = self.okd.accept(bytes(rt, alloc, path)).expect(rt, MEMORY);
+        holds(rt, way == want, "another way");
     }
 
     fn hold(&mut self, number: u16) {
@@ -99,7 +94,7 @@ fn to(incarnation: u32) -> Way {
 fn the_longest_path_owns(rt: HostRuntime) {
     let column = Column::new(&rt, rt.alloc(), true);
     for (path, owner) in &OWNERS {
-        assert!(rt; column.okd.owner(path) == *owner);
+        holds(&rt, column.okd.owner(path) == *owner, "an owner");
     }
 }
 
@@ -107,15 +102,15 @@ fn the_longest_path_owns(rt: HostRuntime) {
 fn requests_go_where_the_owner_is_up(rt: HostRuntime) {
     let alloc = rt.alloc();
     let mut column = Column::new(&rt, alloc, false);
-    assert!(rt; column.accept(&rt, alloc, b"/guest") == Way::Down(GUEST));
+    column.goes(&rt, alloc, b"/guest", Way::Down(GUEST));
     column.up(&rt, GUEST, 1);
-    assert!(rt; column.accept(&rt, alloc, b"/guest/x") == to(1));
-    assert!(rt; column.accept(&rt, alloc, b"/guestx") == Way::NotOwned);
+    column.goes(&rt, alloc, b"/guest/x", to(1));
+    column.goes(&rt, alloc, b"/guestx", Way::NotOwned);
     column.up(&rt, GUEST, 2);
     column.down(GUEST, 1);
-    assert!(rt; column.accept(&rt, alloc, b"/guest") == to(2));
+    column.goes(&rt, alloc, b"/guest", to(2));
     column.down(GUEST, 2);
-    assert!(rt; column.accept(&rt, alloc, b"/guest") == Way::Down(GUEST));
+    column.goes(&rt, alloc, b"/guest", Way::Down(GUEST));
 }
 
 #[test]
@@ -123,10 +118,10 @@ fn entries_are_kept_in_order(rt: HostRuntime) {
     let mut column = Column::new(&rt, rt.alloc(), true);
     column.hold(7);
     column.up(&rt, OTHER, 3);
-    assert!(rt; column.okd.standing(OTHER) == Some(3));
+    holds(&rt, column.okd.standing(OTHER) == Some(3), "up");
     column.down(OTHER, 3);
-    assert!(rt; column.okd.standing(OTHER) == None);
-    assert!(rt; column.okd.holder() == 7);
+    holds(&rt, column.okd.standing(OTHER) == None, "down");
+    holds(&rt, column.okd.holder() == 7, "holder");
     let past = column.okd.close();
-    assert!(rt; past.as_slice().map(|entries| entries.len()) == Some(2));
+    holds(&rt, entries(&past) == Some(2), "entries");
 }

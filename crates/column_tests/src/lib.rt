@@ -15,6 +15,8 @@ mod proxy;
 #[cfg(test)]
 mod reads;
 #[cfg(test)]
+mod shaky;
+#[cfg(test)]
 mod site;
 #[cfg(test)]
 mod templates;

@@ -1,7 +1,8 @@
 //! What is logged, and what the sink is given. Not tested here: who is installed when, which the tests
 //! of runs have.
 
-use crate::site::{bytes, config, shared};
+use crate::holding::{MEMORY, holds};
+use crate::site::{bytes, config, entries, shared};
 use log_daemon::{LogDaemon, WriteOut};
 use monitor_model::verdict::Noted;
 use okws_base::denial::Rule;
@@ -44,10 +45,7 @@ impl<'a> Column<'a> {
         let config = config(rt, alloc, SITE);
         assert!(rt; config.services.as_slice().len() == 2);
         let config = shared(rt, alloc, config);
-        let sink = match MemorySink::new(alloc, 1024, failing) {
-            Ok(sink) => sink,
-            Err(_) => panic!(rt; "memory was refused"),
-        };
+        let sink = MemorySink::new(alloc, 1024, failing).expect(rt, MEMORY);
         match LogDaemon::new(alloc, config, sink, true) {
             Ok(daemon) => Column { daemon },
             Err(_) => panic!(rt; "memory was refused"),
@@ -56,36 +54,42 @@ impl<'a> Column<'a> {
 
     fn install(&mut self, rt: &impl Abort, service: u16, incarnation: u32) {
         assert!(rt; service <= OTHER && self.daemon.last(service) < incarnation);
-        match self.daemon.install(service, incarnation) {
-            Ok(()) => {}
-            Err(_) => panic!(rt; "memory was refused"),
-        }
+        self.daemon.install(service, incarnation).expect(rt, MEMORY);
     }
 
     // A text of guest.
     fn log(&mut self, rt: &impl Abort, alloc: Global, incarnation: u32, text: &[u8]) -> Noted {
-        match self.daemon.log(GUEST, incarnation, bytes(rt, alloc, text)) {
-            Ok(noted) => noted,
-            Err(_) => panic!(rt; "memory was refused"),
-        }
+        self.daemon
+            .log(GUEST, incarnation, bytes(rt, alloc, text))
+            .expect(rt, MEMORY)
     }
 
     // A text of other's first incarnation.
     fn log_other(&mut self, rt: &impl Abort, alloc: Global, text: &[u8]) -> Noted {
-        match self.daemon.log(OTHER, 1, bytes(rt, alloc, text)) {
-            Ok(noted) => noted,
-            Err(_) => panic!(rt; "memory was refused"),
-        }
+        self.daemon
+            .log(OTHER, 1, bytes(rt, alloc, text))
+            .expect(rt, MEMORY)
     }
 
-    fn write_out(&mut self) -> WriteOut {
-        self.daemon.write_out()
+    // What was logged is written out with this end.
+    fn writes(&mut self, rt: &impl Abort, want: WriteOut) {
+        holds(rt, self.daemon.write_out() == want, "another end");
     }
 
     // The first incarnation of guest.
     fn revoke(&mut self) {
         self.daemon.revoke(GUEST, 1);
     }
+}
+
+// It is this answer.
+fn noted(rt: &impl Abort, found: Noted, want: Noted) {
+    holds(rt, found == want, "another answer");
+}
+
+// It is a denial by this rule.
+fn denied(rt: &impl Abort, answer: Noted, rule: Rule) {
+    noted(rt, answer, Noted::Denied(rule));
 }
 
 // The column with an incarnation of each service.
@@ -100,21 +104,29 @@ fn installed<'a>(rt: &impl Abort, alloc: Global, failing: &'a [u64]) -> Column<'
 fn each_rule_denies(rt: HostRuntime) {
     let alloc = rt.alloc();
     let mut column = installed(&rt, alloc, &[]);
-    assert!(rt; column.log(&rt, alloc, 1, &[b'z'; 1024]) == Noted::Logged);
-    assert!(rt; column.log(&rt, alloc, 1, &[b'z'; 1025]) == Noted::Denied(Rule::LogTooLong));
-    assert!(rt; column.log(&rt, alloc, 2, b"hi") == Noted::Denied(Rule::StaleAtLog));
-    assert!(rt; column.log_other(&rt, alloc, b"hi") == Noted::Denied(Rule::LogNotGranted));
+    noted(&rt, column.log(&rt, alloc, 1, &[b'z'; 1024]), Noted::Logged);
+    denied(
+        &rt,
+        column.log(&rt, alloc, 1, &[b'z'; 1025]),
+        Rule::LogTooLong,
+    );
+    denied(&rt, column.log(&rt, alloc, 2, b"hi"), Rule::StaleAtLog);
+    denied(
+        &rt,
+        column.log_other(&rt, alloc, b"hi"),
+        Rule::LogNotGranted,
+    );
 }
 
 #[test]
 fn a_revoked_incarnation_is_stale(rt: HostRuntime) {
     let alloc = rt.alloc();
     let mut column = installed(&rt, alloc, &[]);
-    assert!(rt; column.daemon.last(GUEST) == 1);
-    assert!(rt; column.daemon.standing(GUEST) == Some(1));
+    holds(&rt, column.daemon.last(GUEST) == 1, "last");
+    holds(&rt, column.daemon.standing(GUEST) == Some(1), "stands");
     column.revoke();
-    assert!(rt; column.daemon.standing(GUEST) == None);
-    assert!(rt; column.log(&rt, alloc, 1, b"hi") == Noted::Denied(Rule::StaleAtLog));
+    holds(&rt, column.daemon.standing(GUEST) == None, "revoked");
+    denied(&rt, column.log(&rt, alloc, 1, b"hi"), Rule::StaleAtLog);
 }
 
 #[test]
@@ -122,14 +134,15 @@ fn lines_are_written_once(rt: HostRuntime) {
     let alloc = rt.alloc();
     let mut column = installed(&rt, alloc, &[]);
     column.log(&rt, alloc, 1, b"hi");
-    assert!(rt; column.write_out() == WriteOut::Written);
+    column.writes(&rt, WriteOut::Written);
     column.log_other(&rt, alloc, b"no");
     column.log(&rt, alloc, 1, b"a\n\\");
-    assert!(rt; column.write_out() == WriteOut::Written);
-    assert!(rt; column.write_out() == WriteOut::Written);
+    column.writes(&rt, WriteOut::Written);
+    column.writes(&rt, WriteOut::Written);
     let (past, sink) = column.daemon.close();
-    assert!(rt; past.as_slice().map(|entries| entries.len()) == Some(5));
-    assert!(rt; sink.given() == b"guest 1 hi\nguest 1 a\\x0a\\x5c\n".as_slice());
+    holds(&rt, entries(&past) == Some(5), "entries");
+    let want = b"guest 1 hi\nguest 1 a\\x0a\\x5c\n";
+    holds(&rt, sink.given() == want.as_slice(), "given");
 }
 
 #[test]
@@ -137,13 +150,14 @@ fn a_failed_write_stops_the_log(rt: HostRuntime) {
     let alloc = rt.alloc();
     let mut column = installed(&rt, alloc, &[1]);
     column.log(&rt, alloc, 1, b"hi");
-    assert!(rt; column.write_out() == WriteOut::Written);
+    column.writes(&rt, WriteOut::Written);
     column.log(&rt, alloc, 1, b"ho");
-    assert!(rt; column.write_out() == WriteOut::LogFault);
-    assert!(rt; column.write_out() == WriteOut::Stopped);
-    assert!(rt; column.log(&rt, alloc, 1, b"hey") == Noted::Logged);
-    assert!(rt; column.write_out() == WriteOut::Stopped);
+    column.writes(&rt, WriteOut::LogFault);
+    column.writes(&rt, WriteOut::Stopped);
+    noted(&rt, column.log(&rt, alloc, 1, b"hey"), Noted::Logged);
+    column.writes(&rt, WriteOut::Stopped);
     let (_, sink) = column.daemon.close();
-    assert!(rt; sink.given() == b"guest 1 hi\n".as_slice());
-    assert!(rt; sink.faults() == 1);
+    let want = b"guest 1 hi\n";
+    holds(&rt, sink.given() == want.as_slice(), "given");
+    holds(&rt, sink.faults() == 1, "faults");
 }

@@ -4,18 +4,20 @@
 ghost use Rattle.std.specs.Prelude.{◌≡◌, Some};
 ghost use Rattle.okws_plan.specs.Configuration.{tables, first_rows};
 
-use crate::site::{bytes, config, first_value, shared};
+use crate::holding::{MEMORY, holds};
+use crate::shaky::Shaky;
+use crate::site::{bytes, config, entries, first_value, shared};
 use db_proxy::Proxy;
+use index_keeper::IndexPin;
 use monitor_model::verdict::Verdict;
 use okws_base::denial::Rule;
 use okws_base::items::Items;
 use okws_base::limit::{MOST_INCARNATIONS, MOST_SESSIONS};
 use okws_base::value::{Token, Value};
 use okws_outer::keeper::Keeper;
-use okws_outer::pinned::Listed;
-use okws_plan::configuration::{Config, Table};
+use okws_plan::configuration::Config;
 use okws_plan::event::Call;
-use row_keeper::ListKeeper;
+use site_columns::opening::{queries_at, tables_at};
 use started_call::{Finished, Started, finish};
 use std::alloc::Global;
 use std::marker::Model;
@@ -45,13 +47,57 @@ const SEED: Seed = [7; 32];
 // A token that is issued to nobody.
 const UNKNOWN: Token = Token { bytes: [2; 20] };
 
-// The column of the first proxy of a site with two services.
-#[derive(Drop)]
-struct Column {
-    proxy: Proxy<ListKeeper>,
+// What the proxy answers, without its rows.
+#[derive(Clone, Copy, PartialEq, Eq)]
+enum Said {
+    Opened(u32),
+    Rows,
+    Changed(u64),
+    Duplicate,
+    Denied(Rule),
+    Failed,
 }
 
-impl Model for Column {
+// What is answered to an Open.
+fn said(verdict: &Verdict) -> Said {
+    match verdict {
+        Verdict::Opened(number) => Said::Opened(*number),
+        Verdict::Rows { .. } => Said::Rows,
+        Verdict::Changed(count) => Said::Changed(*count),
+        Verdict::Duplicate => Said::Duplicate,
+        Verdict::Denied(rule) => Said::Denied(*rule),
+        Verdict::Failed => Said::Failed,
+    }
+}
+
+// What is answered to a Call.
+fn said_of<P>(started: &Started<P>) -> Said {
+    match started {
+        Started::Ready(_) => Said::Rows,
+        Started::Changed(count) => Said::Changed(*count),
+        Started::Duplicate => Said::Duplicate,
+        Started::Denied(rule) => Said::Denied(*rule),
+        Started::Failed => Said::Failed,
+    }
+}
+
+// It is this answer.
+fn says(rt: &impl Abort, said: Said, want: Said) {
+    holds(rt, said == want, "another answer");
+}
+
+// It is a denial by this rule.
+fn denied(rt: &impl Abort, said: Said, rule: Rule) {
+    says(rt, said, Said::Denied(rule));
+}
+
+// The column of the first proxy of a site with two services.
+#[derive(Drop)]
+struct Column<'a> {
+    proxy: Proxy<Shaky<'a>>,
+}
+
+impl<'a> Model for Column<'a> {
     ghost use Rattle.column_tests.specs.declared.proxy.TheConstants.{SEED};
     ghost use Rattle.db_proxy.specs.Seen.{Seen};
     ghost use Rattle.std.specs.Prelude.{◌≡◌, length};
@@ -63,9 +109,9 @@ impl Model for Column {
     ghost invariant = { λ a. (length a.proxy.config.services ≡ 2) × ((a.proxy.seed ≡ SEED) × (a.proxy.number ≡ 0)) };
 }
 
-impl Column {
+impl<'a> Column<'a> {
     // Over a keeper whose calls of these numbers fail, without an incarnation.
-    fn new(rt: &impl Abort, alloc: Global, failing: &[u64]) -> Self {
+    fn new(rt: &impl Abort, alloc: Global, failing: &'a [u64]) -> Self {
         let config = config(rt, alloc, SITE);
         assert!(rt; config.services.as_slice().len() == 2);
         assert!(rt; config.proxies.as_slice().len() == 1);
@@ -80,26 +126,21 @@ impl Column {
         assert!(rt; service <= OTHER && incarnation <= MOST_INCARNATIONS);
         assert!(rt; self.proxy.last(service) < incarnation);
         let token = token(&SEED, service, incarnation, 0);
-        match self.proxy.install(service, incarnation, token) {
-            Ok(()) => {}
-            Err(_) => panic!(rt; "memory was refused"),
-        }
+        self.proxy
+            .install(service, incarnation, token)
+            .expect(rt, MEMORY);
     }
 
     // A session of guest.
-    fn open(&mut self, rt: &impl Abort, incarnation: u32, shown: Token) -> Verdict {
-        match self.proxy.open_session(GUEST, incarnation, shown) {
-            Ok(verdict) => verdict,
-            Err(_) => panic!(rt; "memory was refused"),
-        }
+    fn open(&mut self, rt: &impl Abort, incarnation: u32, shown: Token) -> Said {
+        let verdict = self.proxy.open_session(GUEST, incarnation, shown);
+        said(&verdict.expect(rt, MEMORY))
     }
 
     // A session of other's first incarnation.
     fn open_other(&mut self, rt: &impl Abort) {
-        match self.proxy.open_session(OTHER, 1, first(OTHER)) {
-            Ok(_) => {}
-            Err(_) => panic!(rt; "memory was refused"),
-        }
+        let verdict = self.proxy.open_session(OTHER, 1, first(OTHER));
+        said(&verdict.expect(rt, MEMORY));
     }
 
     // As many sessions of guest's first incarnation.
@@ -115,7 +156,7 @@ impl Column {
     }
 
     // A call of guest's first incarnation.
-    fn call(&mut self, rt: &impl Abort, session: u32, query: u16, args: Items<Value>) -> Verdict {
+    fn call(&mut self, rt: &impl Abort, session: u32, query: u16, args: Items<Value>) -> Said {
         let call = Call {
             service: GUEST,
             incarnation: 1,
@@ -123,28 +164,25 @@ impl Column {
             query,
             args,
         };
-        match self.proxy.call(call) {
-            Ok(verdict) => verdict,
-            Err(_) => panic!(rt; "memory was refused"),
-        }
+        let started = self.proxy.start(call);
+        said_of(&started.expect(rt, MEMORY))
     }
 
     // A call of guest's first incarnation without arguments.
-    fn ask(&mut self, rt: &impl Abort, alloc: Global, session: u32, query: u16) -> Verdict {
+    fn ask(&mut self, rt: &impl Abort, alloc: Global, session: u32, query: u16) -> Said {
         self.call(rt, session, query, Items::of(Vec::new(alloc)))
     }
 
     // A call of guest's first incarnation with one argument.
-    fn tell(&mut self, rt: &impl Abort, alloc: Global, query: u16, value: &[u8]) -> Verdict {
+    fn tell(&mut self, rt: &impl Abort, alloc: Global, query: u16, value: &[u8]) -> Said {
         let mut args = Vec::new(alloc);
-        match args.push(Value::Bytes(bytes(rt, alloc, value))) {
-            Ok(()) => self.call(rt, 0, query, Items::of(args)),
-            Err(_) => panic!(rt; "memory was refused"),
-        }
+        args.push(Value::Bytes(bytes(rt, alloc, value)))
+            .expect(rt, MEMORY);
+        self.call(rt, 0, query, Items::of(args))
     }
 
     // A call of other's first incarnation that lists all rows, and is finished later.
-    fn list(&mut self, rt: &impl Abort, alloc: Global) -> Listed {
+    fn list(&mut self, rt: &impl Abort, alloc: Global) -> IndexPin {
         let call = Call {
             service: OTHER,
             incarnation: 1,
@@ -159,26 +197,13 @@ impl Column {
     }
 }
 
-// The tables of the first proxy.
-fn tables_at(config: &Config) -> &[Table]
-    ensures { result.now ≡ tables config.now 0 }
-{
-    match config.proxies.as_slice().get(0) {
-        None => &[],
-        Some(plan) => plan.tables.as_slice(),
-    }
-}
-
 // A keeper of the first proxy, whose calls of these numbers fail.
-fn keeper(rt: &impl Abort, alloc: Global, config: &Config, failing: &[u64]) -> ListKeeper
-    ensures tables { ⟦<ListKeeper as Keeper>⟧.tables result ≡ tables config.now 0 }
-    ensures told { ⟦<ListKeeper as Keeper>⟧.told result ≡ Some (first_rows config.now 0) }
+fn keeper<'a>(rt: &impl Abort, alloc: Global, config: &Config, failing: &'a [u64]) -> Shaky<'a>
+    ensures tables { ⟦<Shaky<'a> as Keeper>⟧.tables result ≡ tables config.now 0 }
+    ensures told { ⟦<Shaky<'a> as Keeper>⟧.told result ≡ Some (first_rows config.now 0) }
 {
-    let failing = failing.to_vec(alloc).expect(rt, "memory was refused");
-    match ListKeeper::new(alloc, tables_at(config), failing) {
-        Ok(keeper) => keeper,
-        Err(_) => panic!(rt; "memory was refused"),
-    }
+    let keeper = Shaky::new(alloc, tables_at(config, 0), queries_at(config, 0), failing);
+    keeper.expect(rt, MEMORY)
 }
 
 // The token of the first incarnation of a service.
@@ -187,7 +212,7 @@ fn first(service: u16) -> Token {
 }
 
 // The column with guest's first incarnation, which has opened a session, and with other's.
-fn opened(rt: &impl Abort, alloc: Global, failing: &[u64]) -> Column {
+fn opened<'a>(rt: &impl Abort, alloc: Global, failing: &'a [u64]) -> Column<'a> {
     let mut column = Column::new(rt, alloc, failing);
     column.install(rt, GUEST, 1);
     column.install(rt, OTHER, 1);
@@ -198,58 +223,62 @@ fn opened(rt: &impl Abort, alloc: Global, failing: &[u64]) -> Column {
 #[test]
 fn opens_are_denied(rt: HostRuntime) {
     let mut column = opened(&rt, rt.alloc(), &[]);
-    assert!(rt; column.open(&rt, 1, first(GUEST)) == Verdict::Opened(1));
-    assert!(rt; column.open(&rt, 1, UNKNOWN) == Verdict::Denied(Rule::UnknownToken));
-    assert!(rt; column.open(&rt, 1, first(OTHER)) == Verdict::Denied(Rule::UnknownToken));
-    assert!(rt; column.open(&rt, 2, first(GUEST)) == Verdict::Denied(Rule::StaleToken));
+    says(&rt, column.open(&rt, 1, first(GUEST)), Said::Opened(1));
+    denied(&rt, column.open(&rt, 1, UNKNOWN), Rule::UnknownToken);
+    denied(&rt, column.open(&rt, 1, first(OTHER)), Rule::UnknownToken);
+    denied(&rt, column.open(&rt, 2, first(GUEST)), Rule::StaleToken);
 }
 
 #[test]
 fn a_revoked_incarnation_opens_none(rt: HostRuntime) {
     let mut column = opened(&rt, rt.alloc(), &[]);
-    assert!(rt; column.proxy.standing(GUEST) == Some(1));
-    assert!(rt; column.proxy.last(GUEST) == 1);
+    holds(&rt, column.proxy.standing(GUEST) == Some(1), "stands");
+    holds(&rt, column.proxy.last(GUEST) == 1, "last");
     column.revoke();
-    assert!(rt; column.open(&rt, 1, first(GUEST)) == Verdict::Denied(Rule::StaleToken));
+    denied(&rt, column.open(&rt, 1, first(GUEST)), Rule::StaleToken);
 }
 
 #[test]
 fn sessions_are_limited(rt: HostRuntime) {
     let mut column = opened(&rt, rt.alloc(), &[]);
     column.open_many(&rt, MOST_SESSIONS - 1);
-    assert!(rt; column.open(&rt, 1, first(GUEST)) == Verdict::Denied(Rule::TooManySessions));
+    denied(
+        &rt,
+        column.open(&rt, 1, first(GUEST)),
+        Rule::TooManySessions,
+    );
 }
 
 #[test]
 fn calls_are_denied(rt: HostRuntime) {
     let alloc = rt.alloc();
     let mut column = opened(&rt, alloc, &[]);
-    assert!(rt; column.ask(&rt, alloc, 1, 2) == Verdict::Denied(Rule::NoSession));
-    assert!(rt; column.ask(&rt, alloc, 0, 3) == Verdict::Denied(Rule::QueryNotGranted));
-    assert!(rt; column.ask(&rt, alloc, 0, 1) == Verdict::Denied(Rule::BadArguments));
+    denied(&rt, column.ask(&rt, alloc, 1, 2), Rule::NoSession);
+    denied(&rt, column.ask(&rt, alloc, 0, 3), Rule::QueryNotGranted);
+    denied(&rt, column.ask(&rt, alloc, 0, 1), Rule::BadArguments);
     column.revoke();
-    assert!(rt; column.ask(&rt, alloc, 0, 2) == Verdict::Denied(Rule::StaleToken));
-    assert!(rt; column.ask(&rt, alloc, 1, 2) == Verdict::Denied(Rule::NoSession));
+    denied(&rt, column.ask(&rt, alloc, 0, 2), Rule::StaleToken);
+    denied(&rt, column.ask(&rt, alloc, 1, 2), Rule::NoSession);
 }
 
 #[test]
 fn a_call_that_failed_may_be_made_again(rt: HostRuntime) {
     let alloc = rt.alloc();
     let mut column = opened(&rt, alloc, &[1]);
-    assert!(rt; column.tell(&rt, alloc, 1, b"a") == Verdict::Changed(1));
-    assert!(rt; column.tell(&rt, alloc, 1, b"b") == Verdict::Failed);
-    assert!(rt; column.tell(&rt, alloc, 1, b"b") == Verdict::Changed(1));
+    says(&rt, column.tell(&rt, alloc, 1, b"a"), Said::Changed(1));
+    says(&rt, column.tell(&rt, alloc, 1, b"b"), Said::Failed);
+    says(&rt, column.tell(&rt, alloc, 1, b"b"), Said::Changed(1));
     let (past, keeper) = column.proxy.close();
-    assert!(rt; past.as_slice().map(|entries| entries.len()) == Some(6));
-    assert!(rt; keeper.faults() == 1);
+    holds(&rt, entries(&past) == Some(6), "entries");
+    holds(&rt, keeper.faults() == 1, "faults");
 }
 
 // The column with a session of other too, and with the rows a and b.
-fn filled(rt: &impl Abort, alloc: Global) -> Column {
+fn filled(rt: &impl Abort, alloc: Global) -> Column<'static> {
     let mut column = opened(rt, alloc, &[]);
     column.open_other(rt);
-    assert!(rt; column.tell(rt, alloc, 1, b"a") == Verdict::Changed(1));
-    assert!(rt; column.tell(rt, alloc, 1, b"b") == Verdict::Changed(1));
+    says(rt, column.tell(rt, alloc, 1, b"a"), Said::Changed(1));
+    says(rt, column.tell(rt, alloc, 1, b"b"), Said::Changed(1));
     column
 }
 
@@ -258,10 +287,10 @@ fn rows_that_are_ready_outlast_a_delete(rt: HostRuntime) {
     let alloc = rt.alloc();
     let mut column = filled(&rt, alloc);
     let mut pin = column.list(&rt, alloc);
-    assert!(rt; column.tell(&rt, alloc, 4, b"a") == Verdict::Changed(1));
-    assert!(rt; finish(&mut pin) == Finished::Rows(2));
+    says(&rt, column.tell(&rt, alloc, 4, b"a"), Said::Changed(1));
+    holds(&rt, finish(&mut pin) == Finished::Rows(2), "a and b");
     let value = Value::Bytes(bytes(&rt, alloc, b"a"));
-    assert!(rt; first_value(&mut pin) == Some(&value));
+    holds(&rt, first_value(&mut pin) == Some(&value), "a is first");
     let mut pin = column.list(&rt, alloc);
-    assert!(rt; finish(&mut pin) == Finished::Rows(1));
+    holds(&rt, finish(&mut pin) == Finished::Rows(1), "b alone");
 }

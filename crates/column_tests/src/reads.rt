@@ -3,6 +3,7 @@
 
 ghost use Rattle.std.specs.Prelude.{◌≡◌, ◌<◌, length};
 
+use crate::holding::{MEMORY, holds};
 use crate::site::{config, first_value, shared};
 use monitor_model::verdict::Verdict;
 use okws_base::items::Items;
@@ -47,10 +48,7 @@ fn columns(rt: &impl Abort, alloc: Global) -> SiteColumns
     assert!(rt; config.services.as_slice().len() == 2);
     assert!(rt; config.proxies.as_slice().len() == 1);
     let config = shared(rt, alloc, config);
-    match SiteColumns::new(alloc, &config, SEED, true) {
-        Ok(columns) => columns,
-        Err(_) => panic!(rt; "memory was refused"),
-    }
+    SiteColumns::new(alloc, &config, SEED, true).expect(rt, MEMORY)
 }
 
 // The next incarnation of a service stands at the proxy.
@@ -60,16 +58,10 @@ fn install(rt: &impl Abort, columns: &mut SiteColumns, service: u16)
     ensures { columns.new.config ≡ columns.old.config }
 {
     assert!(rt; columns.greatest(service) < MOST_INCARNATIONS);
-    match columns.begin(service) {
-        Ok(_) => {}
-        Err(_) => panic!(rt; "memory was refused"),
-    }
+    columns.begin(service).expect(rt, MEMORY);
     let begun = columns.greatest(service);
     assert!(rt; begun != 0 && columns.last(service, Place::Proxy(0)) < begun);
-    match columns.install(service, Place::Proxy(0)) {
-        Ok(()) => {}
-        Err(_) => panic!(rt; "memory was refused"),
-    }
+    columns.install(service, Place::Proxy(0)).expect(rt, MEMORY);
 }
 
 // The first incarnation of a service opens a session.
@@ -104,10 +96,7 @@ fn call<R: Abort, C: Columns>(
         query,
         args: Items::of(args),
     };
-    match columns.call(0, call) {
-        Ok(started) => started,
-        Err(_) => panic!(rt; "memory was refused"),
-    }
+    columns.call(0, call).expect(rt, MEMORY)
 }
 
 // A call of other's that lists all rows, which are not found yet.
@@ -129,9 +118,7 @@ fn delete<R: Abort, C: Columns>(rt: &R, alloc: Global, columns: &mut C, id: i64)
     ensures { (C.asker columns.new).config ≡ (C.asker columns.old).config }
 {
     let mut args = Vec::new(alloc);
-    if args.push(Value::Int(id)).is_err() {
-        panic!(rt; "memory was refused");
-    }
+    args.push(Value::Int(id)).expect(rt, MEMORY);
     match call(rt, columns, GUEST, 3, args) {
         Started::Changed(1) => {}
         _ => panic!(rt; "not deleted"),
@@ -158,8 +145,16 @@ fn rows_that_are_ready_outlast_a_delete_of_another(rt: HostRuntime) {
     install(&rt, &mut columns, GUEST);
     install(&rt, &mut columns, OTHER);
     let (mut before, mut after) = found(&rt, alloc, &mut columns);
-    assert!(rt; finish(&mut before) == Finished::Rows(2));
-    assert!(rt; finish(&mut after) == Finished::Rows(1));
-    assert!(rt; first_value(&mut before) == Some(&Value::Int(1)));
-    assert!(rt; first_value(&mut after) == Some(&Value::Int(2)));
+    holds(&rt, finish(&mut before) == Finished::Rows(2), "before");
+    holds(&rt, finish(&mut after) == Finished::Rows(1), "after");
+    holds(
+        &rt,
+        first_value(&mut before) == Some(&Value::Int(1)),
+        "the first before",
+    );
+    holds(
+        &rt,
+        first_value(&mut after) == Some(&Value::Int(2)),
+        "the first after",
+    );
 }

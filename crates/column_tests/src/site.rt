@@ -6,8 +6,10 @@ ghost use Rattle.config_reader.specs.Ruled.{AreRuled};
 ghost use Rattle.okws_plan.specs.Sound.{IsSound};
 ghost use Rattle.okws_base.specs.declared.limit.TheConstants.{MOST_SERVICES, MOST_TEMPLATES};
 
+use crate::holding::MEMORY;
 use config_reader::read;
 use okws_base::items::{Items, copies};
+use okws_base::journal::Past;
 use okws_base::value::Value;
 use okws_outer::pinned::Pinned;
 use okws_plan::configuration::Config;
@@ -33,19 +35,13 @@ pub(crate) fn config(rt: &impl Abort, alloc: Global, text: &str) -> Config
 pub(crate) fn shared(rt: &impl Abort, alloc: Global, config: Config) -> Arc<Config, Global>
     ensures { arc_value result ≡ config }
 {
-    match Arc::new(alloc, config) {
-        Ok(shared) => shared,
-        Err(_) => panic!(rt; "memory was refused"),
-    }
+    Arc::new(alloc, config).expect(rt, MEMORY)
 }
 
 pub(crate) fn bytes(rt: &impl Abort, alloc: Global, bytes: &[u8]) -> Items<u8>
     ensures { result ≡ bytes.now }
 {
-    match copies(alloc, bytes) {
-        Ok(copy) => Items::of(copy),
-        Err(_) => panic!(rt; "memory was refused"),
-    }
+    Items::of(copies(alloc, bytes).expect(rt, MEMORY))
 }
 
 /// The first value of the answer, which is found here.
@@ -60,4 +56,9 @@ pub(crate) fn first_value<P: Pinned>(pin: &mut P) -> Option<&Value> {
         }
         Finished::Denied(_) => None,
     }
+}
+
+/// How many entries there are, where they were kept.
+pub(crate) fn entries<E: Drop>(past: &Past<E>) -> Option<usize> {
+    past.as_slice().map(|entries| entries.len())
 }

@@ -1,6 +1,7 @@
 //! The template column. Not tested here: the greatest sizes and counts of editions.
 
-use crate::site::{bytes, config, shared};
+use crate::holding::{MEMORY, holds};
+use crate::site::{bytes, config, entries, shared};
 use monitor_model::verdict::{Got, Push};
 use okws_base::denial::Rule;
 use okws_base::limit::{LONGEST_TEMPLATE, MOST_EDITIONS};
@@ -47,53 +48,48 @@ impl Column {
         let config = config(rt, alloc, SITE);
         assert!(rt; config.services.as_slice().len() == 1);
         assert!(rt; config.templates.as_slice().len() == 3);
-        match Pubd::new(alloc, shared(rt, alloc, config), keeps) {
-            Ok(pubd) => Column { pubd },
-            Err(_) => panic!(rt; "memory was refused"),
-        }
+        let pubd = Pubd::new(alloc, shared(rt, alloc, config), keeps).expect(rt, MEMORY);
+        Column { pubd }
     }
 
     fn publish_at(&mut self, rt: &impl Abort, alloc: Global, template: u16, content: &[u8]) {
         assert!(rt; template <= 2 && content.len() <= LONGEST_TEMPLATE);
         assert!(rt; self.pubd.edition(template) < MOST_EDITIONS);
         let content = bytes(rt, alloc, content);
-        match self.pubd.publish_at(template, content) {
-            Ok(()) => {}
-            Err(_) => panic!(rt; "memory was refused"),
-        }
+        self.pubd.publish_at(template, content).expect(rt, MEMORY);
     }
 
     fn install(&mut self, rt: &impl Abort, incarnation: u32) {
         assert!(rt; self.pubd.last(GUEST) < incarnation);
-        match self.pubd.install(GUEST, incarnation) {
-            Ok(()) => {}
-            Err(_) => panic!(rt; "memory was refused"),
-        }
+        self.pubd.install(GUEST, incarnation).expect(rt, MEMORY);
     }
 
     fn revoke(&mut self, incarnation: u32) {
         self.pubd.revoke(GUEST, incarnation);
     }
 
-    // Whether a Drain gives these editions of page.
-    fn hears(
+    // A Drain gives these editions of page.
+    fn hears(&mut self, rt: &impl Abort, incarnation: u32, editions: &[(u32, &[u8])]) {
+        let pushes = self.pubd.drain(GUEST, incarnation).expect(rt, MEMORY);
+        holds(rt, are_editions(&pushes, editions), "other editions");
+    }
+
+    fn get(&mut self, rt: &impl Abort, alloc: Global, incarnation: u32, name: &[u8]) -> Got {
+        let name = bytes(rt, alloc, name);
+        self.pubd.get(GUEST, incarnation, name).expect(rt, MEMORY)
+    }
+
+    // A Get is denied by this rule.
+    fn denies(
         &mut self,
         rt: &impl Abort,
         alloc: Global,
         incarnation: u32,
-        editions: &[(u32, &[u8])],
-    ) -> bool {
-        match self.pubd.drain(GUEST, incarnation) {
-            Ok(pushes) => are_editions(rt, alloc, &pushes, editions),
-            Err(_) => panic!(rt; "memory was refused"),
-        }
-    }
-
-    fn get(&mut self, rt: &impl Abort, alloc: Global, incarnation: u32, name: &[u8]) -> Got {
-        match self.pubd.get(GUEST, incarnation, bytes(rt, alloc, name)) {
-            Ok(got) => got,
-            Err(_) => panic!(rt; "memory was refused"),
-        }
+        name: &[u8],
+        rule: Rule,
+    ) {
+        let got = self.get(rt, alloc, incarnation, name);
+        holds(rt, matches!(&got, Got::Denied(by) if *by == rule), "denied");
     }
 
     fn hold(&mut self, number: u16) {
@@ -101,25 +97,18 @@ impl Column {
     }
 }
 
-// A push of this edition of page.
-fn push(rt: &impl Abort, alloc: Global, edition: u32, content: &[u8]) -> Push {
-    Push {
-        template: bytes(rt, alloc, b"page"),
-        edition,
-        content: bytes(rt, alloc, content),
-    }
+// Whether it is a push of this edition of page.
+fn is_edition(push: &Push, edition: u32, content: &[u8]) -> bool {
+    push.template.as_slice() == b"page".as_slice()
+        && push.edition == edition
+        && push.content.as_slice() == content
 }
 
 // Whether these are pushes of these editions of page.
-fn are_editions(
-    rt: &impl Abort,
-    alloc: Global,
-    pushes: &[Push],
-    editions: &[(u32, &[u8])],
-) -> bool {
+fn are_editions(pushes: &[Push], editions: &[(u32, &[u8])]) -> bool {
     let mut same = pushes.len() == editions.len();
     for (found, (edition, content)) in pushes.iter().zip(editions) {
-        same = same && *found == push(rt, alloc, *edition, content);
+        same = same && is_edition(found, *edition, content);
     }
     same
 }
@@ -137,11 +126,11 @@ fn editions_reach_running_incarnations(rt: HostRuntime) {
     let alloc = rt.alloc();
     let mut column = Column::new(&rt, alloc, false);
     column.install(&rt, 1);
-    assert!(rt; column.hears(&rt, alloc, 1, &[]));
+    column.hears(&rt, 1, &[]);
     column.publish_at(&rt, alloc, PAGE, b"a");
     column.publish_at(&rt, alloc, PAGE, b"bb");
-    assert!(rt; column.hears(&rt, alloc, 1, &[(1, b"a"), (2, b"bb")]));
-    assert!(rt; column.hears(&rt, alloc, 1, &[]));
+    column.hears(&rt, 1, &[(1, b"a"), (2, b"bb")]);
+    column.hears(&rt, 1, &[]);
 }
 
 // A second incarnation of the guest stands in the place of the first, which is then revoked.
@@ -149,14 +138,14 @@ fn editions_reach_running_incarnations(rt: HostRuntime) {
 fn a_new_incarnation_hears_what_is_current(rt: HostRuntime) {
     let alloc = rt.alloc();
     let mut column = published(&rt, alloc);
-    assert!(rt; column.pubd.edition(PAGE) == 2);
+    holds(&rt, column.pubd.edition(PAGE) == 2, "edition");
     column.install(&rt, 1);
     column.install(&rt, 2);
     column.revoke(1);
-    assert!(rt; column.pubd.standing(GUEST) == Some(2));
-    assert!(rt; column.pubd.last(GUEST) == 2);
-    assert!(rt; column.hears(&rt, alloc, 1, &[]));
-    assert!(rt; column.hears(&rt, alloc, 2, &[(2, b"bb")]));
+    holds(&rt, column.pubd.standing(GUEST) == Some(2), "stands");
+    holds(&rt, column.pubd.last(GUEST) == 2, "last");
+    column.hears(&rt, 1, &[]);
+    column.hears(&rt, 2, &[(2, b"bb")]);
 }
 
 #[test]
@@ -164,9 +153,9 @@ fn gets_are_denied(rt: HostRuntime) {
     let alloc = rt.alloc();
     let mut column = published(&rt, alloc);
     column.install(&rt, 2);
-    assert!(rt; column.get(&rt, alloc, 1, b"page") == Got::Denied(Rule::StaleAtPubd));
-    assert!(rt; column.get(&rt, alloc, 2, b"secret") == Got::Denied(Rule::TemplateNotGranted));
-    assert!(rt; column.get(&rt, alloc, 2, b"blank") == Got::Denied(Rule::TemplateUnpublished));
+    column.denies(&rt, alloc, 1, b"page", Rule::StaleAtPubd);
+    column.denies(&rt, alloc, 2, b"secret", Rule::TemplateNotGranted);
+    column.denies(&rt, alloc, 2, b"blank", Rule::TemplateUnpublished);
 }
 
 #[test]
@@ -180,8 +169,8 @@ fn gets_are_answered_and_entered(rt: HostRuntime) {
         edition: 2,
         content: bytes(&rt, alloc, b"bb"),
     };
-    assert!(rt; column.get(&rt, alloc, 2, b"page") == want);
-    assert!(rt; column.pubd.holder() == 7);
+    holds(&rt, column.get(&rt, alloc, 2, b"page") == want, "got");
+    holds(&rt, column.pubd.holder() == 7, "holder");
     let past = column.pubd.close();
-    assert!(rt; past.as_slice().map(|entries| entries.len()) == Some(5));
+    holds(&rt, entries(&past) == Some(5), "entries");
 }

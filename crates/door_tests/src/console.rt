@@ -2,6 +2,7 @@
 
 ghost use Rattle.std.specs.Prelude.{◌≡◌};
 
+use crate::holding::{MEMORY, holds, same};
 use admin_console::answer::Answer;
 use admin_console::controls::{Controls, Publishing, Relaunching};
 use admin_console::reader::Reader;
@@ -61,7 +62,7 @@ fn none<T>(alloc: Global) -> Items<T> {
 }
 
 fn name(rt: &impl Abort, alloc: Global, text: &[u8]) -> Name {
-    let text = Vec::from_slice(alloc, text).expect(rt, "memory was refused");
+    let text = Vec::from_slice(alloc, text).expect(rt, MEMORY);
     Name::new(Items::of(text)).expect(rt, "no name")
 }
 
@@ -69,7 +70,7 @@ fn names(rt: &impl Abort, alloc: Global, texts: [&[u8]; 2]) -> Items<Name> {
     let mut names = Vec::new(alloc);
     for text in texts {
         let name = name(rt, alloc, text);
-        names.push(name).expect(rt, "memory was refused");
+        names.push(name).expect(rt, MEMORY);
     }
     Items::of(names)
 }
@@ -81,7 +82,7 @@ fn services(rt: &impl Abort, alloc: Global, texts: [&[u8]; 2]) -> Items<ServiceP
             name: name(rt, alloc, text),
             words: none(alloc),
         };
-        services.push(service).expect(rt, "memory was refused");
+        services.push(service).expect(rt, MEMORY);
     }
     Items::of(services)
 }
@@ -139,7 +140,7 @@ fn conn<'a>(
     room: usize,
     failing: &'a [u64],
 ) -> MemoryConn<'a> {
-    MemoryConn::new(alloc, bytes, &[], room, failing).expect(rt, "memory was refused")
+    MemoryConn::new(alloc, bytes, &[], room, failing).expect(rt, MEMORY)
 }
 
 /// What a console of these bytes is given in at most twelve steps, and whether it then finished.
@@ -150,7 +151,7 @@ fn answers<R: Abort + Wait>(
     site: &mut Site<'_>,
 ) -> (Vec<u8>, bool) {
     let mut console = conn(rt, alloc, bytes, 400, &[]);
-    let mut reader = Reader::new(alloc).expect(rt, "memory was refused");
+    let mut reader = Reader::new(alloc).expect(rt, MEMORY);
     let mut finished = false;
     for _ in 0..12 {
         if !finished {
@@ -158,7 +159,7 @@ fn answers<R: Abort + Wait>(
         }
     }
     let given = Vec::from_slice(alloc, console.given());
-    (given.expect(rt, "memory was refused"), finished)
+    (given.expect(rt, MEMORY), finished)
 }
 
 #[test]
@@ -191,8 +192,8 @@ fn commands_are_answered(rt: HostRuntime) {
     ];
     for (bytes, wanted) in rows {
         let (given, finished) = answers(&rt, alloc, bytes, &mut site_of(&config));
-        assert!(rt; given.as_slice() == wanted, "at {bytes:?}");
-        assert!(rt; finished, "at {bytes:?}");
+        same(&rt, &given, wanted);
+        holds(&rt, finished, "finished");
     }
 }
 
@@ -203,13 +204,21 @@ fn the_site_is_told(rt: HostRuntime) {
     let mut steered = site_of(&config);
     let bytes = b"publish secret 5\na\n\r\nbrelaunch other\nend\n";
     let (_, finished) = answers(&rt, alloc, bytes, &mut steered);
-    assert!(rt; finished);
-    assert!(rt; (steered.template, steered.service) == (1, 1));
-    assert!(rt; (steered.published, steered.relaunched) == (1, 1));
+    holds(&rt, finished, "finished");
+    holds(
+        &rt,
+        (steered.template, steered.service) == (1, 1),
+        "told of",
+    );
+    holds(
+        &rt,
+        (steered.published, steered.relaunched) == (1, 1),
+        "told",
+    );
     let Some(content) = steered.content else {
         panic!(rt; "not as planned");
     };
-    assert!(rt; content.as_slice() == b"a\n\r\nb".as_slice());
+    same(&rt, content.as_slice(), b"a\n\r\nb");
 }
 
 #[test]
@@ -244,19 +253,18 @@ fn what_they_come_to_is_answered(rt: HostRuntime) {
         steered.relaunching = relaunching;
         steered.publishing = publishing;
         let (given, _) = answers(&rt, alloc, bytes, &mut steered);
-        assert!(rt; given.as_slice() == wanted);
+        same(&rt, &given, wanted);
     }
 }
 
 /// A line of so many bytes that is a relaunch of guest, and its end.
 fn padded(rt: &impl Abort, alloc: Global, len: usize, end: &[u8]) -> Vec<u8> {
-    let mut line = Vec::from_slice(alloc, b"relaunch ").expect(rt, "memory was refused");
+    let mut line = Vec::from_slice(alloc, b"relaunch ").expect(rt, MEMORY);
     for _ in 14..len {
-        line.push(b' ').expect(rt, "memory was refused");
+        line.push(b' ').expect(rt, MEMORY);
     }
     for part in [b"guest".as_slice(), end] {
-        line.extend_from_slice(part)
-            .expect(rt, "memory was refused");
+        line.extend_from_slice(part).expect(rt, MEMORY);
     }
     line
 }
@@ -275,8 +283,8 @@ fn lines_have_a_greatest_length(rt: HostRuntime) {
     for (len, end, wanted) in rows {
         let line = padded(&rt, alloc, len, end);
         let (given, finished) = answers(&rt, alloc, &line, &mut site_of(&config));
-        assert!(rt; given.as_slice() == wanted, "at {len}");
-        assert!(rt; finished, "at {len}");
+        same(&rt, &given, wanted);
+        holds(&rt, finished, "finished");
     }
 }
 
@@ -285,16 +293,28 @@ fn faults_of_a_console_are_told(rt: HostRuntime) {
     let alloc = rt.alloc();
     let config = declared(&rt, alloc);
     let mut steered = site_of(&config);
-    let mut reader = Reader::new(alloc).expect(&rt, "memory was refused");
+    let mut reader = Reader::new(alloc).expect(&rt, MEMORY);
     let mut deaf = conn(&rt, alloc, b"relaunch guest\n", 9, &[3]);
     let unread = next(&rt, alloc, &mut deaf, &mut reader, &mut steered);
-    assert!(rt; unread == Stepped::ConsoleFault(None));
-    assert!(rt; (steered.relaunched, deaf.faults()) == (0, 1));
+    holds(&rt, unread == Stepped::ConsoleFault(None), "unread");
+    holds(
+        &rt,
+        (steered.relaunched, deaf.faults()) == (0, 1),
+        "counts of the deaf",
+    );
     let mut mute = conn(&rt, alloc, b"relaunch guest\n", 9, &[]);
     let untold = next(&rt, alloc, &mut mute, &mut reader, &mut steered);
-    assert!(rt; untold == Stepped::ConsoleFault(Some(Answer::Relaunched(2))));
-    assert!(rt; mute.given() == b"relaunche".as_slice());
-    assert!(rt; (steered.relaunched, mute.faults()) == (1, 1));
+    holds(
+        &rt,
+        untold == Stepped::ConsoleFault(Some(Answer::Relaunched(2))),
+        "untold",
+    );
+    same(&rt, mute.given(), b"relaunche");
+    holds(
+        &rt,
+        (steered.relaunched, mute.faults()) == (1, 1),
+        "counts of the mute",
+    );
 }
 
 #[test]
@@ -302,21 +322,23 @@ fn nothing_behind_the_end_is_taken(rt: HostRuntime) {
     let alloc = rt.alloc();
     let config = declared(&rt, alloc);
     let mut steered = site_of(&config);
-    let mut reader = Reader::new(alloc).expect(&rt, "memory was refused");
+    let mut reader = Reader::new(alloc).expect(&rt, MEMORY);
     let mut console = conn(&rt, alloc, b"\npublish page 2\nabcd\nend\nmore", 99, &[]);
     let first = next(&rt, alloc, &mut console, &mut reader, &mut steered);
-    assert!(rt; first == Stepped::Answered(Answer::Published(1)));
-    assert!(rt; console.left() == b"cd\nend\nmore".as_slice());
-    let second = next(&rt, alloc, &mut console, &mut reader, &mut steered);
-    assert!(rt;
-        second
-            == Stepped::Answered(Answer::Refused {
-                line: 3,
-                rule: Rule::NoCommand
-            })
+    holds(
+        &rt,
+        first == Stepped::Answered(Answer::Published(1)),
+        "the first step",
     );
+    same(&rt, console.left(), b"cd\nend\nmore");
+    let second = next(&rt, alloc, &mut console, &mut reader, &mut steered);
+    let refused = Answer::Refused {
+        line: 3,
+        rule: Rule::NoCommand,
+    };
+    holds(&rt, second == Stepped::Answered(refused), "the second step");
     let last = next(&rt, alloc, &mut console, &mut reader, &mut steered);
-    assert!(rt; last == Stepped::Finished);
-    assert!(rt; console.left() == b"more".as_slice());
-    assert!(rt; Rule::NoCommand.number() == 1);
+    holds(&rt, last == Stepped::Finished, "the last step");
+    same(&rt, console.left(), b"more");
+    holds(&rt, Rule::NoCommand.number() == 1, "the rule's number");
 }

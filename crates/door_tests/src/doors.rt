@@ -3,6 +3,7 @@
 
 ghost use Rattle.std.specs.Prelude.{IsNone};
 
+use crate::holding::{MEMORY, holds, same};
 use door_worker::answer::Answer;
 use door_worker::handler::{Handler, Outcome};
 use door_worker::serving::{Serving, serve_one};
@@ -107,7 +108,7 @@ fn turn_of(rt: &impl Abort, alloc: Global, serving: Serving, served: &Served, fa
     let given = Vec::from_slice(alloc, told(&served.given));
     Turn {
         serving,
-        given: given.expect(rt, "memory was refused"),
+        given: given.expect(rt, MEMORY),
         left: told(&served.left).len(),
         faults,
     }
@@ -116,8 +117,8 @@ fn turn_of(rt: &impl Abort, alloc: Global, serving: Serving, served: &Served, fa
 /// One turn at a door of these clients.
 fn one_turn(rt: &impl Abort, alloc: Global, clients: &[Client<'_>], site: &mut Site) -> Turn {
     let mut door = door(rt, alloc, clients, &[]);
-    let mut kept = Kept::new(alloc).expect(rt, "memory was refused");
-    let mut reply = Reply::new(alloc).expect(rt, "memory was refused");
+    let mut kept = Kept::new(alloc).expect(rt, MEMORY);
+    let mut reply = Reply::new(alloc).expect(rt, MEMORY);
     let serving = serve_one(alloc, &mut door, site, &mut kept, &mut reply);
     match door.finished() {
         Some([served]) => turn_of(rt, alloc, serving, served, door.faults()),
@@ -138,6 +139,9 @@ fn turn_at(rt: &impl Abort, alloc: Global, bytes: &[u8], site: &mut Site) -> Tur
 
 const OK: &[u8] =
     b"HTTP/1.1 200 OK\r\nContent-Type: text/plain\r\nContent-Length: 2\r\nConnection: close\r\n\r\nok";
+
+const SEE_OTHER: &[u8] =
+    b"HTTP/1.1 100 Continue\r\n\r\nHTTP/1.1 303 See Other\r\nContent-Type: text/plain\r\nLocation: /guest\r\nContent-Length: 0\r\nConnection: close\r\n\r\n";
 
 const BAD_GATEWAY: &[u8] =
     b"HTTP/1.1 502 Bad Gateway\r\nContent-Type: text/plain\r\nContent-Length: 16\r\nConnection: close\r\n\r\n502 Bad Gateway\n";
@@ -169,9 +173,13 @@ fn outcomes_have_their_responses(rt: HostRuntime) {
     for (outcome, response) in rows {
         let mut behind = site_of(outcome);
         let turn = turn_at(&rt, rt.alloc(), GET, &mut behind);
-        assert!(rt; matches!(turn.serving, Serving::Served(_)));
-        assert!(rt; turn.given.as_slice() == response);
-        assert!(rt; (turn.left, turn.faults, behind.handled) == (0, 0, 1));
+        holds(&rt, matches!(turn.serving, Serving::Served(_)), "served");
+        same(&rt, &turn.given, response);
+        holds(
+            &rt,
+            (turn.left, turn.faults, behind.handled) == (0, 0, 1),
+            "counts",
+        );
     }
 }
 
@@ -202,9 +210,17 @@ fn refused_bytes_reach_nobody(rt: HostRuntime) {
     for (bytes, response) in rows {
         let mut behind = site_of(Outcome::Ended(End::Reply));
         let turn = turn_at(&rt, rt.alloc(), bytes, &mut behind);
-        assert!(rt; matches!(turn.serving, Serving::Served(Answer::Own(_))));
-        assert!(rt; turn.given.as_slice() == response);
-        assert!(rt; (turn.faults, behind.handled, behind.starved) == (0, 0, 0));
+        holds(
+            &rt,
+            matches!(turn.serving, Serving::Served(Answer::Own(_))),
+            "served",
+        );
+        same(&rt, &turn.given, response);
+        holds(
+            &rt,
+            (turn.faults, behind.handled, behind.starved) == (0, 0, 0),
+            "counts",
+        );
     }
 }
 
@@ -218,18 +234,19 @@ fn requests_are_handed_on(rt: HostRuntime) {
     behind.location = b"/guest";
     behind.content = b"";
     let turn = turn_at(&rt, rt.alloc(), bytes, &mut behind);
-    assert!(rt; matches!(turn.serving, Serving::Served(Answer::Reply)));
-    assert!(rt;
-        turn.given.as_slice()
-            == b"HTTP/1.1 100 Continue\r\n\r\nHTTP/1.1 303 See Other\r\nContent-Type: text/plain\r\nLocation: /guest\r\nContent-Length: 0\r\nConnection: close\r\n\r\n".as_slice()
+    holds(
+        &rt,
+        matches!(turn.serving, Serving::Served(Answer::Reply)),
+        "served",
     );
+    same(&rt, &turn.given, SEE_OTHER);
     let Some(request) = behind.last else {
         panic!(rt; "not as planned");
     };
-    assert!(rt; request.method == b"POST".as_slice());
-    assert!(rt; request.path() == b"/guest".as_slice());
-    assert!(rt; request.head.as_slice() == head.as_slice());
-    assert!(rt; request.content.as_slice() == b"abc".as_slice());
+    same(&rt, request.method, b"POST");
+    same(&rt, request.path(), b"/guest");
+    same(&rt, request.head.as_slice(), head);
+    same(&rt, request.content.as_slice(), b"abc");
 }
 
 #[test]
@@ -241,9 +258,10 @@ fn head_gets_no_content(rt: HostRuntime) {
         b"HEAD /guest HTTP/1.0\r\n\r\n",
         &mut behind,
     );
-    assert!(rt;
-        turn.given.as_slice()
-            == b"HTTP/1.1 200 OK\r\nContent-Type: text/plain\r\nContent-Length: 2\r\nConnection: close\r\n\r\n".as_slice()
+    same(
+        &rt,
+        &turn.given,
+        b"HTTP/1.1 200 OK\r\nContent-Type: text/plain\r\nContent-Length: 2\r\nConnection: close\r\n\r\n",
     );
 }
 
@@ -257,21 +275,33 @@ fn failing<'a>(room: usize, failing: &'a [u64]) -> Client<'a> {
     }
 }
 
+/// A turn ended so, and its client was given this.
+fn ends(rt: &impl Abort, turn: &Turn, serving: Serving, given: &[u8]) {
+    holds(rt, turn.serving == serving, "another end");
+    same(rt, &turn.given, given);
+}
+
 #[test]
 fn faults_end_their_connection(rt: HostRuntime) {
     let mut behind = site_of(Outcome::Ended(End::Reply));
     let unread = one_turn(&rt, rt.alloc(), &[failing(400, &[0])], &mut behind);
-    assert!(rt; matches!(unread.serving, Serving::ConnFault(None)));
-    assert!(rt; unread.given.as_slice() == b"".as_slice());
-    assert!(rt; (unread.left, unread.faults, behind.handled) == (GET.len(), 1, 0));
+    ends(&rt, &unread, Serving::ConnFault(None), b"");
+    holds(
+        &rt,
+        (unread.left, unread.faults, behind.handled) == (GET.len(), 1, 0),
+        "counts",
+    );
     let unsent = one_turn(&rt, rt.alloc(), &[failing(400, &[1])], &mut behind);
-    assert!(rt; matches!(unsent.serving, Serving::ConnFault(Some(Answer::Reply))));
-    assert!(rt; unsent.given.as_slice() == b"".as_slice());
-    assert!(rt; (unsent.faults, behind.handled) == (1, 1));
+    ends(&rt, &unsent, Serving::ConnFault(Some(Answer::Reply)), b"");
+    holds(&rt, (unsent.faults, behind.handled) == (1, 1), "counts");
     let cut = one_turn(&rt, rt.alloc(), &[failing(12, &[])], &mut behind);
-    assert!(rt; matches!(cut.serving, Serving::ConnFault(Some(Answer::Reply))));
-    assert!(rt; cut.given.as_slice() == b"HTTP/1.1 200".as_slice());
-    assert!(rt; (cut.faults, behind.handled) == (1, 2));
+    ends(
+        &rt,
+        &cut,
+        Serving::ConnFault(Some(Answer::Reply)),
+        b"HTTP/1.1 200",
+    );
+    holds(&rt, (cut.faults, behind.handled) == (1, 2), "counts");
 }
 
 /// A door of one client, whose accepts of these numbers fail.
@@ -299,25 +329,29 @@ fn a_door_goes_on_after_a_fault(rt: HostRuntime) {
     let alloc = rt.alloc();
     let clients = [failing(400, &[0]), failing(400, &[])];
     let mut door = door(&rt, alloc, &clients, &[0]);
-    let mut kept = Kept::new(alloc).expect(&rt, "memory was refused");
-    let mut reply = Reply::new(alloc).expect(&rt, "memory was refused");
+    let mut kept = Kept::new(alloc).expect(&rt, MEMORY);
+    let mut reply = Reply::new(alloc).expect(&rt, MEMORY);
     let mut behind = site_of(Outcome::NotOwned);
     let none = serve_one(alloc, &mut door, &mut behind, &mut kept, &mut reply);
-    assert!(rt; matches!(none, Serving::NoConn));
+    holds(&rt, none == Serving::NoConn, "nobody");
     behind.has_room = false;
     let unready = serve_one(alloc, &mut door, &mut behind, &mut kept, &mut reply);
-    assert!(rt; matches!(unready, Serving::NoMemory));
+    holds(&rt, unready == Serving::NoMemory, "no room");
     behind.has_room = true;
     let cut = serve_one(alloc, &mut door, &mut behind, &mut kept, &mut reply);
-    assert!(rt; matches!(cut, Serving::ConnFault(None)));
+    holds(&rt, cut == Serving::ConnFault(None), "cut");
     let served = serve_one(alloc, &mut door, &mut behind, &mut kept, &mut reply);
-    assert!(rt; matches!(served, Serving::Served(Answer::Own(_))));
+    holds(
+        &rt,
+        matches!(served, Serving::Served(Answer::Own(_))),
+        "served",
+    );
     let last = serve_one(alloc, &mut door, &mut behind, &mut kept, &mut reply);
-    assert!(rt; matches!(last, Serving::NoConn));
-    assert!(rt; (door.faults(), behind.handled) == (3, 1));
+    holds(&rt, last == Serving::NoConn, "the last");
+    holds(&rt, (door.faults(), behind.handled) == (3, 1), "counts");
     let Some([first, second]) = door.finished() else {
         panic!(rt; "not as planned");
     };
-    assert!(rt; told(&first.given) == b"".as_slice());
-    assert!(rt; told(&second.given) == NOT_FOUND);
+    same(&rt, told(&first.given), b"");
+    same(&rt, told(&second.given), NOT_FOUND);
 }

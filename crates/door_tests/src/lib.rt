@@ -6,3 +6,5 @@
 mod console;
 #[cfg(test)]
 mod doors;
+#[cfg(test)]
+mod holding;

@@ -16,7 +16,6 @@ pub const SEED: Seed = [5; 32];
 pub const REQUEST: &[u8] = b"GET /guest HTTP/1.0\r\n\r\n";
 
 /// What a small run's lines are made of.
-#[derive(Drop)]
 pub struct Stuff {
     /// The tokens of the first two incarnations.
     pub tokens: [Token; 2],
@@ -26,6 +25,20 @@ pub struct Stuff {
     pub first: Vec<Item>,
     /// And in the second.
     pub second: Vec<Item>,
+}
+
+impl Drop for Stuff {
+    fn drop(self) {
+        let Stuff {
+            tokens: _,
+            args,
+            first,
+            second,
+        } = self;
+        drop(args);
+        drop(first);
+        drop(second);
+    }
 }
 
 fn bytes(rt: &impl Abort, alloc: Global, text: &[u8]) -> Items<u8> {

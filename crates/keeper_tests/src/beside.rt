@@ -1,11 +1,12 @@
-//! The same statements, drawn at random, over the keeper with indexes and over the plain one; and pins of
-//! both, whose answers are found after later statements.
+//! The same statements, drawn at random, over the keeper with indexes and over a plain list; and pins of the
+//! keeper, whose answers are found after later statements.
 
-ghost use Rattle.std.specs.Prelude.{◌≡◌};
-
-use crate::site::{bytes, call, config, found, indexed, pin, plain, query_at, text};
-use okws_base::value::{Kind, Value};
-use okws_plan::configuration::Config;
+use crate::draws::{Pool, arguments, next};
+use crate::holding::holds;
+use crate::plain::Plain;
+use crate::site::{call, config, found, indexed, pin};
+use index_keeper::IndexPin;
+use okws_plan::statement::Answer;
 use std::alloc::Global;
 use std::process::Abort;
 
@@ -27,38 +28,12 @@ query main 12 SELECT id, data FROM t WHERE data = ?1
 query main 13 INSERT INTO t (id, kind, n, data) VALUES (?1, 'b', ?2, X'00')
 ";
 
-// The next number of a row of numbers that looks drawn.
-fn next(state: u64) -> u64 {
-    state
-        .wrapping_mul(6_364_136_223_846_793_005)
-        .wrapping_add(1_442_695_040_888_963_407)
-}
-
-fn drawn(rt: &impl Abort, alloc: Global, kind: Kind, number: u64) -> Value {
-    let small = (number / 65_536 % 11) as u8;
-    match kind {
-        Kind::Int => Value::Int(i64::from(small)),
-        Kind::Text => text(rt, alloc, if small < 4 { "a" } else { "b" }),
-        Kind::Bytes => bytes(rt, alloc, &[small / 4]),
+// What was pinned is what the list answered then.
+fn outlasts(rt: &impl Abort, alloc: Global, held: Option<(IndexPin, Option<Answer>)>) {
+    if let Some((mut mine, theirs)) = held {
+        let mine = found(rt, alloc, &mut mine);
+        holds(rt, Some(mine) == theirs, "another pin");
     }
-}
-
-fn arguments(
-    rt: &impl Abort,
-    alloc: Global,
-    config: &Config,
-    query: u16,
-    mut number: u64,
-) -> Vec<Value> {
-    let mut args = Vec::new(alloc);
-    if let Some(query) = query_at(config, query) {
-        for kind in query.statement.parameters.as_slice() {
-            number = next(number);
-            args.push(drawn(rt, alloc, *kind, number))
-                .expect(rt, "memory was refused");
-        }
-    }
-    args
 }
 
 #[test]
@@ -66,14 +41,15 @@ fn the_answers_are_the_same(rt: HostRuntime) {
     let alloc = rt.alloc();
     let config = config(&rt, alloc, SITE);
     let mut one = indexed(&rt, alloc, &config);
-    let mut other = plain(&rt, alloc, &config);
+    let mut other = Plain::new(alloc);
     let mut number = 1;
     for _ in 0..4_000 {
         number = next(number);
         let query = (number / 4_294_967_296 % 16) as u16;
-        let args = arguments(&rt, alloc, &config, query, number);
-        let found = call(alloc, &mut one, &config, query, &args);
-        assert!(rt; found == call(alloc, &mut other, &config, query, &args));
+        let args = arguments(&rt, alloc, &config, query, Pool::Few, number);
+        let found = call(&rt, alloc, &mut one, &config, query, &args);
+        let want = other.call(&rt, alloc, &config, query, &args);
+        holds(&rt, found == want, "another answer");
     }
 }
 
@@ -82,23 +58,21 @@ fn the_pins_outlast_later_statements(rt: HostRuntime) {
     let alloc = rt.alloc();
     let config = config(&rt, alloc, SITE);
     let mut one = indexed(&rt, alloc, &config);
-    let mut other = plain(&rt, alloc, &config);
+    let mut other = Plain::new(alloc);
     let mut number = 1;
     let mut held = None;
     for _ in 0..2_000 {
         number = next(number);
         let query = (number / 4_294_967_296 % 16) as u16;
-        let args = arguments(&rt, alloc, &config, query, number);
-        if let Some(Ok(mine)) = pin(alloc, &mut one, &config, query, &args) {
-            if let Some(Ok(theirs)) = pin(alloc, &mut other, &config, query, &args) {
-                if let Some((mut mine, mut theirs)) = held {
-                    assert!(rt; found(&rt, alloc, &mut mine) == found(&rt, alloc, &mut theirs));
-                }
-                held = Some((mine, theirs));
-            }
+        let args = arguments(&rt, alloc, &config, query, Pool::Few, number);
+        let mine = pin(&rt, alloc, &mut one, &config, query, &args);
+        let want = other.call(&rt, alloc, &config, query, &args);
+        if let Some(mine) = mine {
+            outlasts(&rt, alloc, held);
+            held = Some((mine, want));
         } else {
-            let answer = call(alloc, &mut one, &config, query, &args);
-            assert!(rt; answer == call(alloc, &mut other, &config, query, &args));
+            let answer = call(&rt, alloc, &mut one, &config, query, &args);
+            holds(&rt, answer == want, "another answer");
         }
     }
 }

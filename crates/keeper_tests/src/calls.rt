@@ -7,11 +7,12 @@ ghost use Rattle.okws_plan.specs.Fits.{fits};
 ghost use Rattle.okws_plan.specs.Rules.{keeps_rules};
 ghost use Rattle.config_reader.specs.Ruled.{AreRuled};
 
+use crate::holding::{MEMORY, holds};
 use crate::site::{bytes, call, config, found, indexed, pin, query_at, rows, text};
 use index_keeper::{IndexKeeper, Steps};
 use okws_base::items::Items;
 use okws_base::value::{Row, Value};
-use okws_outer::keeper::{Keeper, RunError};
+use okws_outer::keeper::Keeper;
 use okws_plan::configuration::Config;
 use okws_plan::meaning::fit;
 use okws_plan::statement::{Answer, Statement};
@@ -34,7 +35,7 @@ query main 5 SELECT id FROM msgs WHERE note = 'hi'
 
 fn list(rt: &impl Abort, alloc: Global, first: Value) -> Vec<Value> {
     let mut values = Vec::new(alloc);
-    values.push(first).expect(rt, "memory was refused");
+    values.push(first).expect(rt, MEMORY);
     values
 }
 
@@ -42,7 +43,7 @@ fn message(rt: &impl Abort, alloc: Global, id: i64, who: &str, note: &str) -> Ve
     let mut values = list(rt, alloc, Value::Int(id));
     for field in [who, note] {
         let value = text(rt, alloc, field);
-        values.push(value).expect(rt, "memory was refused");
+        values.push(value).expect(rt, MEMORY);
     }
     values
 }
@@ -50,7 +51,7 @@ fn message(rt: &impl Abort, alloc: Global, id: i64, who: &str, note: &str) -> Ve
 fn entry(rt: &impl Abort, alloc: Global, id: i64, who: &str) -> Row {
     let mut values = list(rt, alloc, Value::Int(id));
     let value = text(rt, alloc, who);
-    values.push(value).expect(rt, "memory was refused");
+    values.push(value).expect(rt, MEMORY);
     Items::of(values)
 }
 
@@ -59,7 +60,7 @@ fn entries(rt: &impl Abort, alloc: Global, first: &str, second: &str) -> Vec<Row
     let mut all = Vec::new(alloc);
     for (id, who) in [(1, first), (2, second)] {
         let row = entry(rt, alloc, id, who);
-        all.push(row).expect(rt, "memory was refused");
+        all.push(row).expect(rt, MEMORY);
     }
     all
 }
@@ -100,8 +101,22 @@ fn hits_of<L: Ledger>(
     keeper.hits(alloc, statement, args, &mut steps)
 }
 
-fn changed(n: u64) -> Option<Result<Answer, RunError>> {
-    Some(Ok(Answer::Changed(n)))
+// A query changes so many rows.
+fn changes<R: Abort>(
+    rt: &R,
+    alloc: Global,
+    keeper: &mut IndexKeeper,
+    config: &Config,
+    number: u16,
+    args: &[Value],
+    count: u64,
+)
+    requires tables { ⟦<IndexKeeper as Keeper>⟧.tables keeper.old ≡ tables config.now 0 }
+    requires ruled { AreRuled config.now }
+    ensures { ⟦<IndexKeeper as Keeper>⟧.tables keeper.new ≡ tables config.now 0 }
+{
+    let answer = call(rt, alloc, keeper, config, number, args);
+    holds(rt, answer == Some(Answer::Changed(count)), "another count");
 }
 
 // Whether a query has just these hits.
@@ -129,11 +144,13 @@ fn keys_are_taken_and_freed(rt: HostRuntime) {
     let mut keeper = indexed(&rt, alloc, &config);
     let cy = message(&rt, alloc, 1, "cy", "");
     let one = list(&rt, alloc, Value::Int(1));
-    assert!(rt; call(alloc, &mut keeper, &config, 2, &cy) == Some(Ok(Answer::Duplicate)));
-    assert!(rt; call(alloc, &mut keeper, &config, 3, &one) == changed(1));
-    assert!(rt; call(alloc, &mut keeper, &config, 2, &cy) == changed(1));
+    let refused = call(&rt, alloc, &mut keeper, &config, 2, &cy);
+    holds(&rt, refused == Some(Answer::Duplicate), "taken");
+    changes(&rt, alloc, &mut keeper, &config, 3, &one, 1);
+    changes(&rt, alloc, &mut keeper, &config, 2, &cy, 1);
     let all = entries(&rt, alloc, "cy", "bob");
-    assert!(rt; call(alloc, &mut keeper, &config, 1, &[]) == rows(2, all));
+    let answer = call(&rt, alloc, &mut keeper, &config, 1, &[]);
+    holds(&rt, answer == Some(rows(2, all)), "all");
 }
 
 #[test]
@@ -142,9 +159,10 @@ fn an_update_counts_its_hits(rt: HostRuntime) {
     let config = config(&rt, alloc, MESSAGES);
     let mut keeper = indexed(&rt, alloc, &config);
     let note = list(&rt, alloc, text(&rt, alloc, "x"));
-    assert!(rt; call(alloc, &mut keeper, &config, 4, &note) == changed(1));
-    assert!(rt; call(alloc, &mut keeper, &config, 4, &note) == changed(0));
-    assert!(rt; call(alloc, &mut keeper, &config, 5, &[]) == rows(1, Vec::new(alloc)));
+    changes(&rt, alloc, &mut keeper, &config, 4, &note, 1);
+    changes(&rt, alloc, &mut keeper, &config, 4, &note, 0);
+    let answer = call(&rt, alloc, &mut keeper, &config, 5, &[]);
+    holds(&rt, answer == Some(rows(1, Vec::new(alloc))), "none");
 }
 
 const NUMBERS: &str = "okws 1
@@ -162,13 +180,21 @@ fn a_key_leads_to_its_row(rt: HostRuntime) {
     let mut keeper = indexed(&rt, alloc, &config);
     for id in 1..1_001 {
         let args = list(&rt, alloc, Value::Int(id));
-        assert!(rt; call(alloc, &mut keeper, &config, 1, &args) == changed(1));
+        changes(&rt, alloc, &mut keeper, &config, 1, &args, 1);
     }
     let args = list(&rt, alloc, Value::Int(500));
-    assert!(rt; are_hits(alloc, &keeper, &config, 2, &args, &[499]));
-    assert!(rt; call(alloc, &mut keeper, &config, 2, &args) == changed(1));
-    assert!(rt; are_hits(alloc, &keeper, &config, 2, &args, &[]));
-    assert!(rt; call(alloc, &mut keeper, &config, 2, &args) == changed(0));
+    holds(
+        &rt,
+        are_hits(alloc, &keeper, &config, 2, &args, &[499]),
+        "hits",
+    );
+    changes(&rt, alloc, &mut keeper, &config, 2, &args, 1);
+    holds(
+        &rt,
+        are_hits(alloc, &keeper, &config, 2, &args, &[]),
+        "hits",
+    );
+    changes(&rt, alloc, &mut keeper, &config, 2, &args, 0);
 }
 
 #[test]
@@ -176,14 +202,12 @@ fn a_pin_is_of_the_rows_before_a_delete(rt: HostRuntime) {
     let alloc = rt.alloc();
     let config = config(&rt, alloc, MESSAGES);
     let mut keeper = indexed(&rt, alloc, &config);
-    let mut pin = match pin(alloc, &mut keeper, &config, 1, &[]) {
-        Some(Ok(pin)) => pin,
-        _ => panic!(rt; "no pin"),
-    };
+    let pin = pin(&rt, alloc, &mut keeper, &config, 1, &[]);
+    let mut pin = pin.expect(&rt, "no pin");
     let one = list(&rt, alloc, Value::Int(1));
-    assert!(rt; call(alloc, &mut keeper, &config, 3, &one) == changed(1));
+    changes(&rt, alloc, &mut keeper, &config, 3, &one, 1);
     let all = entries(&rt, alloc, "ann", "bob");
-    assert!(rt; Some(Ok(found(&rt, alloc, &mut pin))) == rows(2, all));
+    holds(&rt, found(&rt, alloc, &mut pin) == rows(2, all), "the pin");
 }
 
 // A copy has its rows at places from 0 on, so the place of a row tells whether they were copied.
@@ -194,19 +218,31 @@ fn a_write_copies_only_what_is_pinned(rt: HostRuntime) {
     let mut keeper = indexed(&rt, alloc, &config);
     for id in 1..6 {
         let args = list(&rt, alloc, Value::Int(id));
-        assert!(rt; call(alloc, &mut keeper, &config, 1, &args) == changed(1));
+        changes(&rt, alloc, &mut keeper, &config, 1, &args, 1);
     }
     let one = list(&rt, alloc, Value::Int(1));
     let two = list(&rt, alloc, Value::Int(2));
     let three = list(&rt, alloc, Value::Int(3));
     let last = list(&rt, alloc, Value::Int(5));
-    assert!(rt; call(alloc, &mut keeper, &config, 2, &one) == changed(1));
-    assert!(rt; are_hits(alloc, &keeper, &config, 2, &last, &[4]));
-    let pinned = pin(alloc, &mut keeper, &config, 3, &[]);
-    assert!(rt; call(alloc, &mut keeper, &config, 2, &two) == changed(1));
-    assert!(rt; are_hits(alloc, &keeper, &config, 2, &last, &[3]));
-    assert!(rt; call(alloc, &mut keeper, &config, 2, &three) == changed(1));
-    assert!(rt; are_hits(alloc, &keeper, &config, 2, &last, &[3]));
+    changes(&rt, alloc, &mut keeper, &config, 2, &one, 1);
+    holds(
+        &rt,
+        are_hits(alloc, &keeper, &config, 2, &last, &[4]),
+        "hits",
+    );
+    let pinned = pin(&rt, alloc, &mut keeper, &config, 3, &[]);
+    changes(&rt, alloc, &mut keeper, &config, 2, &two, 1);
+    holds(
+        &rt,
+        are_hits(alloc, &keeper, &config, 2, &last, &[3]),
+        "hits",
+    );
+    changes(&rt, alloc, &mut keeper, &config, 2, &three, 1);
+    holds(
+        &rt,
+        are_hits(alloc, &keeper, &config, 2, &last, &[3]),
+        "hits",
+    );
     drop(pinned);
 }
 
@@ -222,13 +258,14 @@ fn long_values_are_kept(rt: HostRuntime) {
     let alloc = rt.alloc();
     let config = config(&rt, alloc, BLOBS);
     let mut keeper = indexed(&rt, alloc, &config);
-    let long = vec![in alloc; 7u8; 524_280].expect(&rt, "memory was refused");
+    let long = vec![in alloc; 7u8; 524_280].expect(&rt, MEMORY);
     let args = list(&rt, alloc, bytes(&rt, alloc, &long));
     let mut all = Vec::new(alloc);
     for _ in 0..2 {
-        assert!(rt; call(alloc, &mut keeper, &config, 1, &args) == changed(1));
+        changes(&rt, alloc, &mut keeper, &config, 1, &args, 1);
         let row = Items::of(list(&rt, alloc, bytes(&rt, alloc, &long)));
-        all.push(row).expect(&rt, "memory was refused");
+        all.push(row).expect(&rt, MEMORY);
     }
-    assert!(rt; call(alloc, &mut keeper, &config, 2, &[]) == rows(1, all));
+    let answer = call(&rt, alloc, &mut keeper, &config, 2, &[]);
+    holds(&rt, answer == Some(rows(1, all)), "all");
 }

@@ -7,16 +7,16 @@ ghost use Rattle.okws_plan.specs.Configuration.{tables, query, queries_of};
 ghost use Rattle.okws_outer.specs.Keeping.{is_select};
 ghost use Rattle.config_reader.specs.Ruled.{AreRuled};
 
+use crate::holding::MEMORY;
 use config_reader::read;
 use index_keeper::IndexKeeper;
 use okws_base::items::{Exact, Items, copies};
 use okws_base::value::{Row, Text, Value};
-use okws_outer::keeper::{Keeper, RunError};
+use okws_outer::keeper::Keeper;
 use okws_outer::pinned::Pinned;
 use okws_plan::configuration::{Config, Query, Table};
 use okws_plan::meaning::fit;
 use okws_plan::statement::{Action, Answer};
-use row_keeper::ListKeeper;
 use std::alloc::Global;
 use std::process::Abort;
 
@@ -62,30 +62,18 @@ pub fn query_at(config: &Config, number: u16) -> Option<&Query>
 pub fn indexed(rt: &impl Abort, alloc: Global, config: &Config) -> IndexKeeper
     ensures { ⟦<IndexKeeper as Keeper>⟧.tables result ≡ tables config.now 0 }
 {
-    match IndexKeeper::new(alloc, tables_at(config), queries_at(config)) {
-        Ok(keeper) => keeper,
-        Err(_) => panic!(rt; "memory was refused"),
-    }
-}
-
-/// A plain keeper over the first proxy.
-pub fn plain(rt: &impl Abort, alloc: Global, config: &Config) -> ListKeeper
-    ensures { ⟦<ListKeeper as Keeper>⟧.tables result ≡ tables config.now 0 }
-{
-    match ListKeeper::new(alloc, tables_at(config), Vec::new(alloc)) {
-        Ok(keeper) => keeper,
-        Err(_) => panic!(rt; "memory was refused"),
-    }
+    IndexKeeper::new(alloc, tables_at(config), queries_at(config)).expect(rt, MEMORY)
 }
 
 /// What a query answers; nothing where there is none of this number, or its arguments are wrong.
-pub fn call<K: Keeper>(
+pub fn call<R: Abort, K: Keeper>(
+    rt: &R,
     alloc: Global,
     keeper: &mut K,
     config: &Config,
     number: u16,
     args: &[Value],
-) -> Option<Result<Answer, RunError>>
+) -> Option<Answer>
     requires tables { K.tables keeper.old ≡ tables config.now 0 }
     requires ruled { AreRuled config.now }
     ensures { K.tables keeper.new ≡ tables config.now 0 }
@@ -94,7 +82,8 @@ pub fn call<K: Keeper>(
     if !fit(query.statement.parameters.as_slice(), args) {
         return None;
     }
-    Some(keeper.run(alloc, &query.statement, args))
+    let answer = keeper.run(alloc, &query.statement, args);
+    Some(answer.expect(rt, MEMORY))
 }
 
 fn lists_rows(action: &Action) -> bool
@@ -113,13 +102,14 @@ fn lists_rows(action: &Action) -> bool
 
 /// A pin of what a query answers; nothing where there is none of this number, it lists no rows, or its
 /// arguments are wrong.
-pub fn pin<K: Keeper>(
+pub fn pin<R: Abort, K: Keeper>(
+    rt: &R,
     alloc: Global,
     keeper: &mut K,
     config: &Config,
     number: u16,
     args: &[Value],
-) -> Option<Result<K::Pin, RunError>>
+) -> Option<K::Pin>
     requires tables { K.tables keeper.old ≡ tables config.now 0 }
     requires ruled { AreRuled config.now }
     ensures { K.tables keeper.new ≡ tables config.now 0 }
@@ -128,7 +118,8 @@ pub fn pin<K: Keeper>(
     if !fit(query.statement.parameters.as_slice(), args) || !lists_rows(&query.statement.action) {
         return None;
     }
-    Some(keeper.pin(alloc, &query.statement, args))
+    let pin = keeper.pin(alloc, &query.statement, args);
+    Some(pin.expect(rt, MEMORY))
 }
 
 /// The answer of a pin.
@@ -136,8 +127,7 @@ pub fn found<R: Abort, P: Pinned>(rt: &R, alloc: Global, pin: &mut P) -> Answer 
     let count = pin.answer();
     let mut rows = Vec::new(alloc);
     for row in 0..count {
-        rows.push(row_at(rt, alloc, pin, row))
-            .expect(rt, "memory was refused");
+        rows.push(row_at(rt, alloc, pin, row)).expect(rt, MEMORY);
     }
     Answer::Rows {
         columns: pin.columns(),
@@ -152,31 +142,25 @@ fn row_at<R: Abort, P: Pinned>(rt: &R, alloc: Global, pin: &P, row: usize) -> Ro
     let mut values = Vec::new(alloc);
     for column in 0..pin.columns() {
         let value = pin.value(row, column).copy(alloc);
-        values
-            .push(value.expect(rt, "memory was refused"))
-            .expect(rt, "memory was refused");
+        values.push(value.expect(rt, MEMORY)).expect(rt, MEMORY);
     }
     Items::of(values)
 }
 
 pub fn text(rt: &impl Abort, alloc: Global, text: &str) -> Value {
-    match String::from_str(alloc, text) {
-        Ok(text) => Value::Text(Text::of(text)),
-        Err(_) => panic!(rt; "memory was refused"),
-    }
+    let text = String::from_str(alloc, text).expect(rt, MEMORY);
+    Value::Text(Text::of(text))
 }
 
 pub fn bytes(rt: &impl Abort, alloc: Global, bytes: &[u8]) -> Value {
-    match copies(alloc, bytes) {
-        Ok(bytes) => Value::Bytes(Items::of(bytes)),
-        Err(_) => panic!(rt; "memory was refused"),
-    }
+    let bytes = copies(alloc, bytes).expect(rt, MEMORY);
+    Value::Bytes(Items::of(bytes))
 }
 
 /// The answer of these rows.
-pub fn rows(columns: usize, all: Vec<Row>) -> Option<Result<Answer, RunError>> {
-    Some(Ok(Answer::Rows {
+pub fn rows(columns: usize, all: Vec<Row>) -> Answer {
+    Answer::Rows {
         columns,
         rows: Items::of(all),
-    }))
+    }
 }

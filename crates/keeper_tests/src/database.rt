@@ -1,16 +1,15 @@
-//! The same statements, drawn at random, over the keeper with a database and over the plain one. The values
-//! are those at which another order or another equality would show: the ends of the numbers, texts that
-//! are numbers, upper case, letters of several bytes, a zero byte, and bytes that begin one another.
+//! The same statements, drawn at random, over the keeper with a database and over the one with indexes.
 
 ghost use Rattle.std.specs.Prelude.{◌≡◌};
 ghost use Rattle.okws_plan.specs.Configuration.{tables};
 ghost use Rattle.config_reader.specs.Ruled.{AreRuled};
 
-use crate::site::{bytes, call, config, plain, query_at, tables_at, text};
-use okws_base::value::{Kind, Value};
+use crate::draws::{Pool, arguments, next};
+use crate::holding::{MEMORY, holds};
+use crate::site::{call, config, indexed, tables_at};
+use index_keeper::IndexKeeper;
 use okws_outer::keeper::Keeper;
 use okws_plan::configuration::Config;
-use row_keeper::ListKeeper;
 use sqlite::{Alter, Connection};
 use sqlite_keeper::SqliteKeeper;
 use std::alloc::Global;
@@ -50,94 +49,28 @@ query main 22 DELETE FROM v WHERE data = ?1
 query main 23 SELECT id FROM t WHERE n = 0 AND kind = 'a' ORDER BY data
 ";
 
-const INTS: [i64; 11] = [
-    i64::MIN,
-    -256,
-    -1,
-    0,
-    1,
-    2,
-    9,
-    10,
-    256,
-    i64::MAX - 1,
-    i64::MAX,
-];
-
-const TEXTS: [&str; 11] = [
-    "", "a", "A", "ab", "b", "10", "9", "é", "\u{0}", "a\u{0}", "𝄞",
-];
-
-const BYTES: [&[u8]; 11] = [
-    &[],
-    &[0],
-    &[0, 0],
-    &[1],
-    &[97],
-    &[97, 0],
-    &[127],
-    &[128],
-    &[255],
-    &[255, 0],
-    &[254, 255],
-];
-
-// The next number of a row of numbers that looks drawn.
-fn next(state: u64) -> u64 {
-    state
-        .wrapping_mul(6_364_136_223_846_793_005)
-        .wrapping_add(1_442_695_040_888_963_407)
-}
-
-fn drawn(rt: &impl Abort, alloc: Global, kind: Kind, number: u64) -> Value {
-    let at = (number / 4_294_967_296 % 11) as usize;
-    match kind {
-        Kind::Int => Value::Int(INTS[at]),
-        Kind::Text => text(rt, alloc, TEXTS[at]),
-        Kind::Bytes => bytes(rt, alloc, BYTES[at]),
-    }
-}
-
-fn arguments(
-    rt: &impl Abort,
-    alloc: Global,
-    config: &Config,
-    query: u16,
-    mut number: u64,
-) -> Vec<Value> {
-    let mut args = Vec::new(alloc);
-    if let Some(query) = query_at(config, query) {
-        for kind in query.statement.parameters.as_slice() {
-            number = next(number);
-            args.push(drawn(rt, alloc, *kind, number))
-                .expect(rt, "memory was refused");
-        }
-    }
-    args
-}
-
 // Whether both keepers answer so many statements alike, the first of which is drawn by this number.
 fn answer_alike<R: Abort, K: Keeper>(
     rt: &R,
     alloc: Global,
     config: &Config,
     one: &mut K,
-    other: &mut ListKeeper,
+    other: &mut IndexKeeper,
     mut number: u64,
     calls: u64,
 ) -> bool
     requires one { K.tables one.old ≡ tables config.now 0 }
-    requires other { ⟦<ListKeeper as Keeper>⟧.tables other.old ≡ tables config.now 0 }
+    requires other { ⟦<IndexKeeper as Keeper>⟧.tables other.old ≡ tables config.now 0 }
     requires ruled { AreRuled config.now }
     ensures one { K.tables one.new ≡ tables config.now 0 }
-    ensures other { ⟦<ListKeeper as Keeper>⟧.tables other.new ≡ tables config.now 0 }
+    ensures other { ⟦<IndexKeeper as Keeper>⟧.tables other.new ≡ tables config.now 0 }
 {
     for _ in 0..calls {
         number = next(number);
         let query = (number / 4_294_967_296 % 24) as u16;
-        let args = arguments(rt, alloc, config, query, number);
-        let found = call(alloc, one, config, query, &args);
-        if found != call(alloc, other, config, query, &args) {
+        let args = arguments(rt, alloc, config, query, Pool::Ends, number);
+        let found = call(rt, alloc, one, config, query, &args);
+        if found != call(rt, alloc, other, config, query, &args) {
             return false;
         }
     }
@@ -150,13 +83,13 @@ fn database_answers_alike<R: Abort, S: Alter + Drop>(
     alloc: Global,
     conn: Connection<S>,
     config: &Config,
-    other: &mut ListKeeper,
+    other: &mut IndexKeeper,
     number: u64,
     calls: u64,
 ) -> bool
-    requires other { ⟦<ListKeeper as Keeper>⟧.tables other.old ≡ tables config.now 0 }
+    requires other { ⟦<IndexKeeper as Keeper>⟧.tables other.old ≡ tables config.now 0 }
     requires ruled { AreRuled config.now }
-    ensures other { ⟦<ListKeeper as Keeper>⟧.tables other.new ≡ tables config.now 0 }
+    ensures other { ⟦<IndexKeeper as Keeper>⟧.tables other.new ≡ tables config.now 0 }
 {
     let Ok(mut one) = SqliteKeeper::new(alloc, conn, tables_at(config)) else {
         panic!(rt; "no keeper");
@@ -169,51 +102,51 @@ fn new_answers_alike(
     rt: &impl Abort,
     alloc: Global,
     config: &Config,
-    other: &mut ListKeeper,
+    other: &mut IndexKeeper,
     number: u64,
 ) -> bool
-    requires other { ⟦<ListKeeper as Keeper>⟧.tables other.old ≡ tables config.now 0 }
+    requires other { ⟦<IndexKeeper as Keeper>⟧.tables other.old ≡ tables config.now 0 }
     requires ruled { AreRuled config.now }
 {
-    let conn = Connection::open_in_memory(alloc).expect(rt, "memory was refused");
+    let conn = Connection::open_in_memory(alloc).expect(rt, MEMORY);
     database_answers_alike(rt, alloc, conn, config, other, number, 2_000)
 }
 
-// Whether a database in memory answers 2,000 statements as lists do, the first of which is drawn by this number.
+// Whether a database in memory answers 2,000 statements as indexes do, the first of which is drawn by this number.
 fn memory_answers_alike(rt: &impl Abort, alloc: Global, number: u64) -> bool {
     let config = config(rt, alloc, SITE);
-    let mut other = plain(rt, alloc, &config);
+    let mut other = indexed(rt, alloc, &config);
     new_answers_alike(rt, alloc, &config, &mut other, number)
 }
 
 #[test]
-fn a_database_answers_as_lists_do_one(rt: HostRuntime) {
-    assert!(rt; memory_answers_alike(&rt, rt.alloc(), 1));
+fn a_database_answers_as_indexes_do_one(rt: HostRuntime) {
+    holds(&rt, memory_answers_alike(&rt, rt.alloc(), 1), "alike");
 }
 
 #[test]
-fn a_database_answers_as_lists_do_two(rt: HostRuntime) {
-    assert!(rt; memory_answers_alike(&rt, rt.alloc(), 2));
+fn a_database_answers_as_indexes_do_two(rt: HostRuntime) {
+    holds(&rt, memory_answers_alike(&rt, rt.alloc(), 2), "alike");
 }
 
 #[test]
-fn a_database_answers_as_lists_do_three(rt: HostRuntime) {
-    assert!(rt; memory_answers_alike(&rt, rt.alloc(), 3));
+fn a_database_answers_as_indexes_do_three(rt: HostRuntime) {
+    holds(&rt, memory_answers_alike(&rt, rt.alloc(), 3), "alike");
 }
 
 #[test]
-fn a_database_answers_as_lists_do_four(rt: HostRuntime) {
-    assert!(rt; memory_answers_alike(&rt, rt.alloc(), 4));
+fn a_database_answers_as_indexes_do_four(rt: HostRuntime) {
+    holds(&rt, memory_answers_alike(&rt, rt.alloc(), 4), "alike");
 }
 
 #[test]
-fn a_database_answers_as_lists_do_five(rt: HostRuntime) {
-    assert!(rt; memory_answers_alike(&rt, rt.alloc(), 5));
+fn a_database_answers_as_indexes_do_five(rt: HostRuntime) {
+    holds(&rt, memory_answers_alike(&rt, rt.alloc(), 5), "alike");
 }
 
 #[test]
-fn a_database_answers_as_lists_do_six(rt: HostRuntime) {
-    assert!(rt; memory_answers_alike(&rt, rt.alloc(), 6));
+fn a_database_answers_as_indexes_do_six(rt: HostRuntime) {
+    holds(&rt, memory_answers_alike(&rt, rt.alloc(), 6), "alike");
 }
 
 // The same of 60 statements over the rows that a file has, which is closed again.
@@ -222,12 +155,12 @@ fn file_answers_alike(
     host: &HostRuntime,
     config: &Config,
     path: &str,
-    other: &mut ListKeeper,
+    other: &mut IndexKeeper,
     number: u64,
 ) -> bool
-    requires other { ⟦<ListKeeper as Keeper>⟧.tables other.old ≡ tables config.now 0 }
+    requires other { ⟦<IndexKeeper as Keeper>⟧.tables other.old ≡ tables config.now 0 }
     requires ruled { AreRuled config.now }
-    ensures other { ⟦<ListKeeper as Keeper>⟧.tables other.new ≡ tables config.now 0 }
+    ensures other { ⟦<IndexKeeper as Keeper>⟧.tables other.new ≡ tables config.now 0 }
 {
     let Ok(conn) = Connection::open(host, path) else {
         panic!(rt; "no database");
@@ -237,15 +170,15 @@ fn file_answers_alike(
 
 fn clear(rt: &impl Abort, host: &HostRuntime, path: &str) {
     let log = format!(in host.alloc(); "{path}-wal");
-    let log = log.expect(rt, "memory was refused");
+    let log = log.expect(rt, MEMORY);
     let _ = fs::remove_file(host, path);
     let _ = fs::remove_file(host, log.as_str());
 }
 
-// Whether a file that is opened twice, for 60 statements each, answers as lists do.
+// Whether a file that is opened twice, for 60 statements each, answers as indexes do.
 fn path_answers_alike(rt: &impl Abort, host: &HostRuntime, path: &str, first: u64) -> bool {
     let config = config(rt, host.alloc(), SITE);
-    let mut other = plain(rt, host.alloc(), &config);
+    let mut other = indexed(rt, host.alloc(), &config);
     for turn in 0..2 {
         let number = first.wrapping_add(turn);
         if !file_answers_alike(rt, host, &config, path, &mut other, number) {
@@ -259,7 +192,7 @@ fn path_answers_alike(rt: &impl Abort, host: &HostRuntime, path: &str, first: u6
 fn opened_again_answers_alike(rt: &impl Abort, host: &HostRuntime, first: u64) -> bool {
     let id = process::id(host.process());
     let path = format!(in host.alloc(); "/tmp/okws-drawn-{id}-{first}");
-    let path = path.expect(rt, "memory was refused");
+    let path = path.expect(rt, MEMORY);
     clear(rt, host, &path);
     let alike = path_answers_alike(rt, host, &path, first);
     clear(rt, host, &path);
@@ -267,21 +200,21 @@ fn opened_again_answers_alike(rt: &impl Abort, host: &HostRuntime, first: u64) -
 }
 
 #[test]
-fn a_file_that_is_opened_again_answers_as_lists_do_one(rt: HostRuntime) {
-    assert!(rt; opened_again_answers_alike(&rt, &rt, 10));
+fn a_file_that_is_opened_again_answers_as_indexes_do_one(rt: HostRuntime) {
+    holds(&rt, opened_again_answers_alike(&rt, &rt, 10), "alike");
 }
 
 #[test]
-fn a_file_that_is_opened_again_answers_as_lists_do_two(rt: HostRuntime) {
-    assert!(rt; opened_again_answers_alike(&rt, &rt, 20));
+fn a_file_that_is_opened_again_answers_as_indexes_do_two(rt: HostRuntime) {
+    holds(&rt, opened_again_answers_alike(&rt, &rt, 20), "alike");
 }
 
 #[test]
-fn a_file_that_is_opened_again_answers_as_lists_do_three(rt: HostRuntime) {
-    assert!(rt; opened_again_answers_alike(&rt, &rt, 30));
+fn a_file_that_is_opened_again_answers_as_indexes_do_three(rt: HostRuntime) {
+    holds(&rt, opened_again_answers_alike(&rt, &rt, 30), "alike");
 }
 
 #[test]
-fn a_file_that_is_opened_again_answers_as_lists_do_four(rt: HostRuntime) {
-    assert!(rt; opened_again_answers_alike(&rt, &rt, 40));
+fn a_file_that_is_opened_again_answers_as_indexes_do_four(rt: HostRuntime) {
+    holds(&rt, opened_again_answers_alike(&rt, &rt, 40), "alike");
 }

@@ -1,10 +1,10 @@
 //! The children of a server in memory, on the ways that no clause tells. Not tested here: real children, and what
 //! threads do to each other.
 
+use crate::holding::{has_failed, holds};
 use crate::objects::is;
 use okws_outer::child::{Child, Ended};
 use okws_outer::children::{Children, Started};
-use okws_outer::error::MakeError;
 use okws_outer::stream::{Link, Pull, Put};
 use outer_memory::children::{ChildLink, ChildPlan, MemoryChildren};
 use std::alloc::Global;
@@ -22,32 +22,40 @@ const PLANS: [ChildPlan<'static>; 1] = [ChildPlan {
 /// The link says `hel`, fails once, and takes four bytes as soon as there is room.
 fn speaks(rt: &impl Abort, link: &mut ChildLink) {
     let mut piece = [0u8; 8];
-    assert!(rt; link.pull(&mut piece) == Pull::Took(3));
-    assert!(rt; link.pull(&mut piece) == Pull::Failed);
-    assert!(rt; link.put(b"boot") == Put::Stopped(0));
-    assert!(rt; link.make_room(4).is_ok());
-    assert!(rt; link.put(b"boot") == Put::Done);
+    holds(rt, link.pull(&mut piece) == Pull::Took(3), "pull");
+    holds(rt, link.pull(&mut piece) == Pull::Failed, "pull");
+    holds(rt, link.put(b"boot") == Put::Stopped(0), "put");
+    holds(rt, link.make_room(4).is_ok(), "room");
+    holds(rt, link.put(b"boot") == Put::Done, "put");
 }
 
 /// One start and one end are told.
 fn tells_a_child(rt: &impl Abort, children: &MemoryChildren) {
-    assert!(rt; children.faults() == 1);
+    holds(rt, children.faults() == 1, "faults");
     let (Some([start]), Some([end])) = (children.started(), children.finished()) else {
         panic!(rt; "not as planned");
     };
-    assert!(rt; (start.service, start.incarnation, start.after) == (1, 2, 0));
-    assert!(rt; is(&start.says, b"hello"));
-    assert!(rt; (end.service, end.incarnation, end.faults) == (1, 2, 2));
-    assert!(rt; end.ended);
-    assert!(rt; is(&end.left, b"lo"));
-    assert!(rt; is(&end.given, b"boot"));
+    holds(
+        rt,
+        (start.service, start.incarnation, start.after) == (1, 2, 0),
+        "the start",
+    );
+    holds(rt, is(&start.says, b"hello"), "says");
+    holds(
+        rt,
+        (end.service, end.incarnation, end.faults) == (1, 2, 2),
+        "the end",
+    );
+    holds(rt, end.ended, "ended");
+    holds(rt, is(&end.left, b"lo"), "left");
+    holds(rt, is(&end.given, b"boot"), "given");
 }
 
 #[test]
 fn children_do_what_is_planned(rt: HostRuntime) {
     let mut children = MemoryChildren::new(rt.alloc(), &PLANS, &[0]);
     let refused = children.start(rt.alloc(), 1, 1, &[]);
-    assert!(rt; matches!(refused, Err(MakeError::Failed)));
+    holds(&rt, has_failed(refused), "refused");
     let Ok(
         Started {
             mut child,
@@ -58,9 +66,9 @@ fn children_do_what_is_planned(rt: HostRuntime) {
         panic!(rt; "not as planned");
     };
     speaks(&rt, &mut link);
-    assert!(rt; child.ended() == Ended::No);
-    assert!(rt; child.ended() == Ended::Failed);
-    assert!(rt; child.ended() == Ended::Yes);
+    holds(&rt, child.ended() == Ended::No, "not yet");
+    holds(&rt, child.ended() == Ended::Failed, "failed");
+    holds(&rt, child.ended() == Ended::Yes, "ended");
     child.stop();
     children.finish(1, 2, child, link);
     tells_a_child(&rt, &children);
@@ -78,8 +86,8 @@ fn child_without_a_plan_is_silent(rt: HostRuntime) {
     else {
         panic!(rt; "not as planned");
     };
-    assert!(rt; link.pull(&mut [0u8; 8]) == Pull::End);
-    assert!(rt; child.ended() == Ended::No);
+    holds(&rt, link.pull(&mut [0u8; 8]) == Pull::End, "pull");
+    holds(&rt, child.ended() == Ended::No, "not yet");
     child.stop();
     children.finish(1, 1, child, link);
 }
@@ -102,7 +110,11 @@ fn start_tells_how_many_were_finished(rt: HostRuntime) {
     let Some([first, second, third]) = children.started() else {
         panic!(rt; "not as planned");
     };
-    assert!(rt; (first.after, second.after, third.after) == (0, 1, 2));
+    holds(
+        &rt,
+        (first.after, second.after, third.after) == (0, 1, 2),
+        "after",
+    );
 }
 
 #[test]
@@ -110,7 +122,7 @@ fn absent_children_refuse_each_start(rt: HostRuntime) {
     let mut children = MemoryChildren::absent(rt.alloc());
     for _ in 0..2 {
         let child = children.start(rt.alloc(), 0, 1, &[]);
-        assert!(rt; matches!(child, Err(MakeError::Failed)));
+        holds(&rt, has_failed(child), "refused");
     }
-    assert!(rt; children.faults() == 2);
+    holds(&rt, children.faults() == 2, "faults");
 }

@@ -4,6 +4,8 @@
 #[cfg(test)]
 mod children;
 #[cfg(test)]
+mod holding;
+#[cfg(test)]
 mod objects;
 #[cfg(test)]
 mod streams;

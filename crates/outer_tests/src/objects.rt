@@ -4,10 +4,11 @@
 
 ghost use Rattle.std.specs.Prelude.{◌≡◌, [], IsNone, None};
 
+use crate::holding::{MEMORY, has_failed, holds};
 use okws_base::items::Items;
 use okws_outer::conn::Conn;
 use okws_outer::door::{Door, Served};
-use okws_outer::error::{Fault, MakeError};
+use okws_outer::error::Fault;
 use okws_outer::gate::{Gate, NoGate, Point};
 use okws_outer::memory::link::FedLink;
 use okws_outer::network::Network;
@@ -118,11 +119,11 @@ fn serve_beside<D: Door>(rt: &impl Abort, first: &mut D, second: &mut D)
     let Ok(held) = second.accept() else {
         panic!(rt; "not as planned");
     };
-    assert!(rt; serve_one(first) == Some(3));
-    assert!(rt; serve_one(first) == Some(0));
-    assert!(rt; serve_one(first) == None);
+    holds(rt, serve_one(first) == Some(3), "two");
+    holds(rt, serve_one(first) == Some(0), "three");
+    holds(rt, serve_one(first) == None, "no client");
     second.finish(held);
-    assert!(rt; serve_one(second) == None);
+    holds(rt, serve_one(second) == None, "no client");
 }
 
 /// The first door finished the clients `two` and `three`.
@@ -130,9 +131,9 @@ fn tells_two(rt: &impl Abort, door: &MemoryDoor) {
     let Some([two, three]) = door.finished() else {
         panic!(rt; "not as planned");
     };
-    assert!(rt; is_served(two, b"two", b"", b"o"));
-    assert!(rt; is_served(three, b"three", b"three", b""));
-    assert!(rt; (two.faults, three.faults) == (1, 2));
+    holds(rt, is_served(two, b"two", b"", b"o"), "two");
+    holds(rt, is_served(three, b"three", b"three", b""), "three");
+    holds(rt, (two.faults, three.faults) == (1, 2), "faults");
 }
 
 /// The second door finished the client `one`.
@@ -140,16 +141,16 @@ fn tells_one(rt: &impl Abort, door: &MemoryDoor) {
     let Some([one]) = door.finished() else {
         panic!(rt; "not as planned");
     };
-    assert!(rt; is_served(one, b"one", b"one", b""));
+    holds(rt, is_served(one, b"one", b"one", b""), "one");
 }
 
 /// The network was asked twice, and took the two doors back.
 fn tells_doors(rt: &impl Abort, network: &MemoryNetwork) {
-    assert!(rt; network.faults() == 1);
+    holds(rt, network.faults() == 1, "faults");
     let Some([_, last]) = network.listened() else {
         panic!(rt; "not as planned");
     };
-    assert!(rt; (last.port, last.count) == (8080, 2));
+    holds(rt, (last.port, last.count) == (8080, 2), "listened");
     let [first, second] = network.doors() else {
         panic!(rt; "not as planned");
     };
@@ -161,17 +162,17 @@ fn tells_doors(rt: &impl Abort, network: &MemoryNetwork) {
 fn doors_take_from_one_line(rt: HostRuntime) {
     let mut network = MemoryNetwork::new(rt.alloc(), &CLIENTS, &[2], &[0]);
     let refused = network.listen(rt.alloc(), 8080, 2);
-    assert!(rt; matches!(refused, Err(MakeError::Failed)));
+    holds(&rt, has_failed(refused), "refused");
     let Two {
         mut first,
         mut second,
     } = two_doors(&rt, rt.alloc(), &mut network);
     serve_beside(&rt, &mut first, &mut second);
-    assert!(rt; first.faults() == 4);
-    assert!(rt; second.faults() == 1);
+    holds(&rt, first.faults() == 4, "faults");
+    holds(&rt, second.faults() == 1, "faults");
     let mut doors = Vec::new(rt.alloc());
-    doors.push(first).expect(&rt, "memory was refused");
-    doors.push(second).expect(&rt, "memory was refused");
+    doors.push(first).expect(&rt, MEMORY);
+    doors.push(second).expect(&rt, MEMORY);
     network.close(doors);
     tells_doors(&rt, &network);
 }
@@ -184,19 +185,23 @@ fn doors_serve_in_two_threads(rt: HostRuntime) {
         mut second,
     } = two_doors(&rt, rt.alloc(), &mut network);
     let (one, other) = thread::join(&rt, || serve_all(&mut first), || serve_all(&mut second));
-    assert!(rt; one.saturating_add(other) == 3);
+    holds(&rt, one.saturating_add(other) == 3, "served");
 }
 
 /// An opening, one that failed, and a sink that was closed are told.
 fn tells_a_sink(rt: &impl Abort, sinks: &MemorySinks) {
-    assert!(rt; sinks.faults() == 3);
+    holds(rt, sinks.faults() == 3, "faults");
     let (Some([first, second]), Some([closed])) = (sinks.opened(), sinks.closed()) else {
         panic!(rt; "not as planned");
     };
-    assert!(rt; (first.is_open, second.is_open) == (true, false));
-    assert!(rt; second.path.as_slice() == b"audit".as_slice());
-    assert!(rt; is(&closed.given, b"abce"));
-    assert!(rt; closed.faults == 2);
+    holds(
+        rt,
+        (first.is_open, second.is_open) == (true, false),
+        "opened",
+    );
+    holds(rt, second.path.as_slice() == b"audit".as_slice(), "path");
+    holds(rt, is(&closed.given, b"abce"), "given");
+    holds(rt, closed.faults == 2, "faults");
 }
 
 #[test]
@@ -205,13 +210,13 @@ fn sinks_fail_in_turn(rt: HostRuntime) {
     let Ok(mut log) = sinks.open("log") else {
         panic!(rt; "not as planned");
     };
-    assert!(rt; sinks.open("audit").is_err());
+    holds(&rt, sinks.open("audit").is_err(), "refused");
     for (put, bytes) in [
         (Put::Done, b"abc".as_slice()),
         (Put::Stopped(0), b"d"),
         (Put::Stopped(1), b"ef"),
     ] {
-        assert!(rt; log.put(bytes) == put);
+        holds(&rt, log.put(bytes) == put, "put");
     }
     sinks.close("log", log);
     tells_a_sink(&rt, &sinks);
@@ -222,9 +227,9 @@ fn absent_network_refuses_each_listen(rt: HostRuntime) {
     let mut network = MemoryNetwork::absent(rt.alloc());
     for _ in 0..2 {
         let doors = network.listen(rt.alloc(), 8080, 1);
-        assert!(rt; matches!(doors, Err(MakeError::Failed)));
+        holds(&rt, has_failed(doors), "refused");
     }
-    assert!(rt; network.faults() == 2);
+    holds(&rt, network.faults() == 2, "faults");
 }
 
 #[test]
@@ -232,18 +237,18 @@ fn absent_stores_refuse_each_making(rt: HostRuntime) {
     let mut stores = MemoryStores::absent(Breaking);
     for _ in 0..2 {
         let keeper = stores.make(rt.alloc(), "rows", 0, &[]);
-        assert!(rt; matches!(keeper, Err(MakeError::Failed)));
+        holds(&rt, has_failed(keeper), "refused");
     }
-    assert!(rt; stores.faults() == 2);
+    holds(&rt, stores.faults() == 2, "faults");
 }
 
 #[test]
 fn absent_sinks_refuse_each_opening(rt: HostRuntime) {
     let mut sinks = MemorySinks::absent(rt.alloc());
     for _ in 0..2 {
-        assert!(rt; sinks.open("log").is_err());
+        holds(&rt, sinks.open("log").is_err(), "refused");
     }
-    assert!(rt; sinks.faults() == 2);
+    holds(&rt, sinks.faults() == 2, "faults");
 }
 
 #[test]
@@ -253,9 +258,9 @@ fn stores_fail_in_turn(rt: HostRuntime) {
         panic!(rt; "not as planned");
     };
     let refused = stores.make(rt.alloc(), "rows", 1, &[]);
-    assert!(rt; matches!(refused, Err(MakeError::Failed)));
+    holds(&rt, has_failed(refused), "refused");
     stores.finish(0, keeper);
-    assert!(rt; stores.faults() == 1);
+    holds(&rt, stores.faults() == 1, "faults");
 }
 
 /// A gate that waits for its turn to count.
@@ -291,5 +296,5 @@ fn gate_may_wait(rt: HostRuntime) {
         passed: Mutex::new(0),
     };
     pass_all(&gate);
-    assert!(rt; *gate.passed.lock(&rt) == 8);
+    holds(&rt, *gate.passed.lock(&rt) == 8, "passed");
 }

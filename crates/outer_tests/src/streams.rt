@@ -1,6 +1,7 @@
 //! Each object in memory on a plain way and on the ways that no clause tells: which calls fail, and
 //! where the bytes are cut. Not tested here: real files, which the program's runs have.
 
+use crate::holding::{MEMORY, holds};
 use okws_outer::files::Files;
 use okws_outer::memory::files::{Entry, MemoryFiles};
 use okws_outer::memory::link::{FedLink, MemoryLink};
@@ -42,10 +43,10 @@ fn source_comes_in_pieces(rt: HostRuntime) {
         (Pull::Took(1), b"ol"),
         (Pull::End, b"ol"),
     ] {
-        assert!(rt; source.pull(&mut piece) == pull);
-        assert!(rt; &piece[..2] == bytes);
+        holds(&rt, source.pull(&mut piece) == pull, "pull");
+        holds(&rt, &piece[..2] == bytes, "piece");
     }
-    assert!(rt; source.faults() == 1);
+    holds(&rt, source.faults() == 1, "faults");
 }
 
 #[test]
@@ -58,13 +59,13 @@ fn whole_source_is_read_to_the_limit(rt: HostRuntime) {
     ] {
         let mut source = MemorySource::new(b"hello", 2, &[]);
         let read = read_whole(rt.alloc(), &mut source, limit);
-        assert!(rt; is_read(&read, Ok(want)), "at {limit}");
+        holds(&rt, is_read(&read, Ok(want)), "read");
     }
 }
 
 #[test]
 fn put_past_the_room_stops(rt: HostRuntime) {
-    let mut sink = MemorySink::new(rt.alloc(), 5, &[1]).expect(&rt, "memory was refused");
+    let mut sink = MemorySink::new(rt.alloc(), 5, &[1]).expect(&rt, MEMORY);
     for (put, bytes) in [
         (Put::Done, b"abc".as_slice()),
         (Put::Stopped(0), b"xyz"),
@@ -72,54 +73,54 @@ fn put_past_the_room_stops(rt: HostRuntime) {
         (Put::Stopped(0), b"g"),
         (Put::Done, b""),
     ] {
-        assert!(rt; sink.put(bytes) == put);
+        holds(&rt, sink.put(bytes) == put, "put");
     }
-    assert!(rt; sink.given() == b"abcde".as_slice());
-    assert!(rt; sink.faults() == 3);
+    holds(&rt, sink.given() == b"abcde".as_slice(), "given");
+    holds(&rt, sink.faults() == 3, "faults");
 }
 
 #[test]
 fn link_is_cut_in_single_bytes(rt: HostRuntime) {
     let mut link = MemoryLink::new(rt.alloc(), 1, &[2]);
     let mut piece = [0u8; 8];
-    link.feed(b"ab").expect(&rt, "memory was refused");
-    assert!(rt; link.pull(&mut piece) == Pull::Took(1));
-    link.feed(b"c").expect(&rt, "memory was refused");
+    link.feed(b"ab").expect(&rt, MEMORY);
+    holds(&rt, link.pull(&mut piece) == Pull::Took(1), "pull");
+    link.feed(b"c").expect(&rt, MEMORY);
     link.feed_end();
-    assert!(rt; link.left() == b"bc".as_slice());
+    holds(&rt, link.left() == b"bc".as_slice(), "left");
     for pull in [Pull::Took(1), Pull::Failed, Pull::Took(1), Pull::End] {
-        assert!(rt; link.pull(&mut piece) == pull);
+        holds(&rt, link.pull(&mut piece) == pull, "pull");
     }
-    assert!(rt; piece[0] == b'c');
-    assert!(rt; link.is_ended());
+    holds(&rt, piece[0] == b'c', "piece");
+    holds(&rt, link.is_ended(), "ended");
 }
 
 #[test]
 fn link_takes_what_room_was_made_for(rt: HostRuntime) {
     let mut link = MemoryLink::new(rt.alloc(), 1, &[]);
-    assert!(rt; link.put(b"a") == Put::Stopped(0));
-    link.make_room(2).expect(&rt, "memory was refused");
-    assert!(rt; link.put(b"ab") == Put::Done);
-    assert!(rt; link.given() == b"ab".as_slice());
-    assert!(rt; link.faults() == 1);
+    holds(&rt, link.put(b"a") == Put::Stopped(0), "put");
+    link.make_room(2).expect(&rt, MEMORY);
+    holds(&rt, link.put(b"ab") == Put::Done, "put");
+    holds(&rt, link.given() == b"ab".as_slice(), "given");
+    holds(&rt, link.faults() == 1, "faults");
 }
 
 #[test]
 fn passing_link_takes_all_that_is_put(rt: HostRuntime) {
     let mut link = PassingLink::new(rt.alloc());
     let mut piece = [0u8; 2];
-    link.feed(b"abc").expect(&rt, "memory was refused");
+    link.feed(b"abc").expect(&rt, MEMORY);
     link.feed_end();
     for (pull, left) in [
         (Pull::Took(2), b"c".as_slice()),
         (Pull::Took(1), b""),
         (Pull::End, b""),
     ] {
-        assert!(rt; link.put(b"abc") == Put::Done);
-        assert!(rt; link.pull(&mut piece) == pull);
-        assert!(rt; link.left() == left);
+        holds(&rt, link.put(b"abc") == Put::Done, "put");
+        holds(&rt, link.pull(&mut piece) == pull, "pull");
+        holds(&rt, link.left() == left, "left");
     }
-    assert!(rt; link.is_ended());
+    holds(&rt, link.is_ended(), "ended");
 }
 
 #[test]
@@ -131,14 +132,14 @@ fn files_are_read_by_their_paths(rt: HostRuntime) {
         ("site", Ok(b"okws 1\n")),
     ] {
         let read = read_file(rt.alloc(), &mut files, path, 99);
-        assert!(rt; is_read(&read, want), "at {path}");
+        holds(&rt, is_read(&read, want), path);
     }
 }
 
 #[test]
 fn printing_goes_on_after_a_fault(rt: HostRuntime) {
     let files = MemoryFiles::new(&FILES, 3, &[]);
-    let out = MemorySink::new(rt.alloc(), 9, &[1]).expect(&rt, "memory was refused");
+    let out = MemorySink::new(rt.alloc(), 9, &[1]).expect(&rt, MEMORY);
     let mut world = Held {
         objects: Some(Outside {
             files,
@@ -155,7 +156,7 @@ fn printing_goes_on_after_a_fault(rt: HostRuntime) {
     for bytes in [b"ab".as_slice(), b"cd", b"ef"] {
         print(&mut out, &mut stopped, bytes);
     }
-    assert!(rt; stopped);
-    assert!(rt; out.given() == b"ab".as_slice());
+    holds(&rt, stopped, "stopped");
+    holds(&rt, out.given() == b"ab".as_slice(), "given");
     world.close(Outside { files, out, seed });
 }

@@ -8,6 +8,7 @@ ghost use Rattle.monitor_model.specs.Cell.{incarnation};
 ghost use Rattle.service_cell.specs.Steps.{IsSpeaking};
 
 use crate::bare::Bare;
+use crate::holding::{MEMORY, holds};
 use crate::scant::Scant;
 use frame_codec::frame::ServiceFrame;
 use okws_base::crash::Cause;
@@ -81,10 +82,7 @@ pub(crate) fn site(rt: &impl Abort, alloc: Global) -> Arc<Config, Global>
         readables: Items::of(Vec::new(alloc)),
         loggers: Items::of(Vec::new(alloc)),
     };
-    match Arc::new(alloc, config) {
-        Ok(shared) => shared,
-        Err(_) => panic!(rt; "memory was refused"),
-    }
+    Arc::new(alloc, config).expect(rt, MEMORY)
 }
 
 /// A cell with this incarnation, over this link.
@@ -153,10 +151,7 @@ fn spoken(
         return ('-', Vec::new(alloc));
     };
     columns.shown = shown;
-    match cell.feed(coming) {
-        Ok(()) => {}
-        Err(_) => panic!(rt; "memory was refused"),
-    }
+    cell.feed(coming).expect(rt, MEMORY);
     if has_ended {
         cell.feed_end();
     }
@@ -166,7 +161,7 @@ fn spoken(
     match link {
         Some(link) => {
             let given = Vec::from_slice(alloc, link.given());
-            (letter, given.expect(rt, "memory was refused"))
+            (letter, given.expect(rt, MEMORY))
         }
         None => (letter, Vec::new(alloc)),
     }
@@ -186,7 +181,7 @@ fn each_end_comes_once(rt: HostRuntime) {
         (b"\x00\x00\x00\x07\x44", true, 1, 'b'),
     ] {
         let (letter, _given) = spoken(&rt, rt.alloc(), coming, has_ended, shown, &[]);
-        assert!(rt; letter == want);
+        holds(&rt, letter == want, "another end");
     }
 }
 
@@ -195,8 +190,8 @@ fn a_link_fails(rt: HostRuntime) {
     // The call that takes a Log, and the one that puts its answer: what was put before stays.
     for (call, length) in [(2, 25), (7, 25)] {
         let (letter, given) = spoken(&rt, rt.alloc(), LOG, true, 1, &[call]);
-        assert!(rt; letter == 'f');
-        assert!(rt; given.len() == length);
+        holds(&rt, letter == 'f', "another end");
+        holds(&rt, given.len() == length, "given");
     }
 }
 
@@ -205,10 +200,7 @@ fn a_link_fails(rt: HostRuntime) {
 fn spoken_in(rt: &impl Abort, alloc: Global, rooms: u32) -> char {
     let mut columns = Bare::new(alloc);
     let mut link = MemoryLink::new(alloc, 3, &[]);
-    match link.feed(LOG) {
-        Ok(()) => {}
-        Err(_) => panic!(rt; "memory was refused"),
-    }
+    link.feed(LOG).expect(rt, MEMORY);
     link.feed_end();
     let Some(mut cell) = started(rt, alloc, Scant::new(link, rooms), &mut columns) else {
         return '-';
@@ -222,7 +214,11 @@ fn spoken_in(rt: &impl Abort, alloc: Global, rooms: u32) -> char {
 fn memory_is_refused(rt: HostRuntime) {
     // Room is made for the Boot, for the Request, and before each frame is taken.
     for (rooms, want) in [(0, '-'), (1, '-'), (2, 'n'), (3, 'n'), (4, 'e')] {
-        assert!(rt; spoken_in(&rt, rt.alloc(), rooms) == want);
+        holds(
+            &rt,
+            spoken_in(&rt, rt.alloc(), rooms) == want,
+            "another end",
+        );
     }
 }
 
@@ -232,7 +228,7 @@ fn frames_are_put(rt: HostRuntime) {
     let (_letter, given) = spoken(&rt, rt.alloc(), LOG, true, 1, &[]);
     let want =
         b"\x00\x00\x00\x08\x01\x00\x00\x00\x00\x00\x01\x00\x00\x00\x00\x09\x02\x00\x00\x00\x00\x00\x00\x00\x00\x00\x00\x00\x01\x0b";
-    assert!(rt; given.as_slice() == want.as_slice());
+    holds(&rt, given.as_slice() == want.as_slice(), "given");
 }
 
 /// What is at hand of a cell: the number of the request whose dialog is open, how many items its last
@@ -269,10 +265,7 @@ fn hand_after(rt: &impl Abort, alloc: Global, coming: &[u8]) -> Hand {
     let Some(mut cell) = started(rt, alloc, link, &mut columns) else {
         return (None, 0, None);
     };
-    match cell.feed(coming) {
-        Ok(()) => {}
-        Err(_) => panic!(rt; "memory was refused"),
-    }
+    cell.feed(coming).expect(rt, MEMORY);
     if !coming.is_empty() {
         let _answer = cell.advance(&mut columns);
     }
@@ -292,8 +285,8 @@ fn the_last_step_is_at_hand(rt: HostRuntime) {
         (b"\x00\x00\x00\x01\xff", None, 0, None),
     ] {
         let (found_open, found_count, found_status) = hand_after(&rt, rt.alloc(), coming);
-        assert!(rt; found_open == open);
-        assert!(rt; found_count == count);
-        assert!(rt; found_status == status);
+        holds(&rt, found_open == open, "the open dialog");
+        holds(&rt, found_count == count, "items");
+        holds(&rt, found_status == status, "the status");
     }
 }

@@ -8,6 +8,8 @@ mod bare;
 #[cfg(test)]
 mod dialogs;
 #[cfg(test)]
+mod holding;
+#[cfg(test)]
 mod scant;
 #[cfg(test)]
 mod turns;

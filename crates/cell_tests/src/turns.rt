@@ -6,6 +6,7 @@ ghost use Rattle.okws_outer.specs.Families.{IsNewLink};
 
 use crate::bare::Bare;
 use crate::dialogs::{REPLY, site};
+use crate::holding::holds;
 use okws_base::items::Items;
 use okws_outer::children::{Children, Started};
 use okws_outer::stream::Link;
@@ -80,5 +81,5 @@ fn a_cell_is_taken_in_turns(rt: HostRuntime) {
     };
     let cell = Cell::new(alloc, site(&rt, alloc), [0; 32], 0, false);
     let taken = take_turns::<_, Brand, _>(&rt, alloc, cell, link, &mut columns);
-    assert!(rt; taken == Some((Spoken::Reply, 1, 0)));
+    holds(&rt, taken == Some((Spoken::Reply, 1, 0)), "taken");
 }

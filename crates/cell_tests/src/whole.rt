@@ -6,6 +6,7 @@ ghost use Rattle.service_cell.specs.Standing.{IsFresh};
 
 use crate::bare::Bare;
 use crate::dialogs::{LOG, REPLY, booted, letter_of_cause};
+use crate::holding::{MEMORY, holds};
 use crate::scant::Scant;
 use okws_base::items::Items;
 use okws_outer::memory::link::{FedLink, MemoryLink};
@@ -69,10 +70,7 @@ fn fed<'a>(rt: &impl Abort, alloc: Global, coming: &[u8], failing: &'a [u64]) ->
     ensures { IsFresh (⟦<MemoryLink<'a> as Link>⟧.wire result) }
 {
     let mut link = MemoryLink::new(alloc, 3, failing);
-    match link.feed(coming) {
-        Ok(()) => {}
-        Err(_) => panic!(rt; "memory was refused"),
-    }
+    link.feed(coming).expect(rt, MEMORY);
     link.feed_end();
     link
 }
@@ -100,10 +98,9 @@ fn letter(
 fn logs(rt: &impl Abort, alloc: Global, count: usize) -> Vec<u8> {
     let mut all = Vec::new(alloc);
     for _ in 0..count {
-        all.extend_from_slice(LOG).expect(rt, "memory was refused");
+        all.extend_from_slice(LOG).expect(rt, MEMORY);
     }
-    all.extend_from_slice(REPLY)
-        .expect(rt, "memory was refused");
+    all.extend_from_slice(REPLY).expect(rt, MEMORY);
     all
 }
 
@@ -121,7 +118,8 @@ fn each_end_comes_once(rt: HostRuntime) {
         (b"\x00\x00\x00\x01\xff", 1, 0, 'b'),
         (b"\x00\x00\x00\x07\x44", 1, 0, 'b'),
     ] {
-        assert!(rt; letter(&rt, alloc, coming, shown, meanwhile, &[]) == want);
+        let found = letter(&rt, alloc, coming, shown, meanwhile, &[]);
+        holds(&rt, found == want, "another end");
     }
 }
 
@@ -141,7 +139,8 @@ fn a_link_fails_in_a_dialog(rt: HostRuntime) {
         (16, 'f'),
         (17, 'r'),
     ] {
-        assert!(rt; letter(&rt, alloc, &served, 1, 0, &[call]) == want);
+        let found = letter(&rt, alloc, &served, 1, 0, &[call]);
+        holds(&rt, found == want, "another end");
     }
 }
 
@@ -150,7 +149,8 @@ fn the_4097th_frame_is_too_many(rt: HostRuntime) {
     let alloc = rt.alloc();
     // The Reply is the 4,096th frame, or the 4,097th.
     for (count, want) in [(4_095, 'r'), (4_096, 'l')] {
-        assert!(rt; letter(&rt, alloc, &logs(&rt, alloc, count), 1, 0, &[]) == want);
+        let found = letter(&rt, alloc, &logs(&rt, alloc, count), 1, 0, &[]);
+        holds(&rt, found == want, "another end");
     }
 }
 
@@ -162,7 +162,7 @@ fn memory_is_refused_in_a_dialog(rt: HostRuntime) {
         let mut columns = Bare::new(alloc);
         let link = Scant::new(fed(&rt, alloc, b"", &[]), rooms);
         let letter = talked(&rt, alloc, link, 1, &mut columns).map_or('-', letter_of);
-        assert!(rt; letter == want);
+        holds(&rt, letter == want, "another end");
     }
 }
 
@@ -171,7 +171,8 @@ fn another_incarnation_is_there(rt: HostRuntime) {
     let alloc = rt.alloc();
     let mut columns = Bare::new(alloc);
     let answer = talked(&rt, alloc, fed(&rt, alloc, REPLY, &[]), 2, &mut columns);
-    assert!(rt; answer == Some(Spoken::Missed { wanted: 1, is: 2 }));
+    let missed = Spoken::Missed { wanted: 1, is: 2 };
+    holds(&rt, answer == Some(missed), "missed");
 }
 
 /// The letters of two dialogs with incarnation 1, of which these columns drain one alone.
@@ -186,5 +187,5 @@ fn twice(rt: &impl Abort, alloc: Global) -> Option<(char, char)> {
 
 #[test]
 fn a_drain_is_refused_memory(rt: HostRuntime) {
-    assert!(rt; twice(&rt, rt.alloc()) == Some(('r', '0')));
+    holds(&rt, twice(&rt, rt.alloc()) == Some(('r', '0')), "twice");
 }

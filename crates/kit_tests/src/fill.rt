@@ -1,5 +1,6 @@
 //! Templates, filled or refused. That memory may be refused isn't tested here.
 
+use crate::holding::{MEMORY, holds};
 use std::alloc::Global;
 use std::process::Abort;
 use svc_kit::bounded::LONGEST_FILLED;
@@ -20,10 +21,8 @@ fn filled(
 }
 
 fn fills(rt: &impl Abort, alloc: Global, template: &str, pairs: &[Pair], want: &str) {
-    match filled(rt, alloc, template.as_bytes(), pairs) {
-        Ok(text) => assert!(rt; text.as_slice() == want.as_bytes(), "{template}"),
-        Err((at, rule)) => panic!(rt; "{template} refused at {at} by rule {rule}"),
-    }
+    let text = filled(rt, alloc, template.as_bytes(), pairs).ok();
+    holds(rt, text.as_deref() == Some(want.as_bytes()), template);
 }
 
 fn refuses(
@@ -34,10 +33,8 @@ fn refuses(
     place: usize,
     number: u8,
 ) {
-    match filled(rt, alloc, template.as_bytes(), pairs) {
-        Ok(_) => panic!(rt; "{template} is filled"),
-        Err(found) => assert!(rt; found == (place, number), "{template}"),
-    }
+    let found = filled(rt, alloc, template.as_bytes(), pairs).err();
+    holds(rt, found == Some((place, number)), template);
 }
 
 #[test]
@@ -98,13 +95,13 @@ fn templates_are_refused(rt: HostRuntime) {
 #[test]
 fn a_text_may_be_just_as_long(rt: HostRuntime) {
     let alloc = rt.alloc();
-    let value = vec![in alloc; b'a'; LONGEST_FILLED].expect(&rt, "memory was refused");
+    let value = vec![in alloc; b'a'; LONGEST_FILLED].expect(&rt, MEMORY);
     let x = [Pair {
         name: b"x",
         value: &value,
     }];
     match filled(&rt, alloc, b"@{x}", &x) {
-        Ok(text) => assert!(rt; text.len() == LONGEST_FILLED),
+        Ok(text) => holds(&rt, text.len() == LONGEST_FILLED, "as long as it may be"),
         Err(_) => panic!(rt; "refused"),
     }
     refuses(&rt, alloc, "@{x}.", &x, 5, 3);

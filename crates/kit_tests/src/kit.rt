@@ -6,6 +6,7 @@ mod example;
 mod form;
 mod reading;
 
+use crate::holding::MEMORY;
 use okws_outer::memory::link::{FedLink, MemoryLink};
 use okws_outer::stream::Link;
 use std::alloc::Global;
@@ -35,19 +36,16 @@ fn decoded(rt: &impl Abort, alloc: Global, digits: &str) -> Vec<u8> {
 
 /// The hexadecimal digits of these bytes.
 fn encoded(rt: &impl Abort, alloc: Global, bytes: &[u8]) -> String {
-    match hex::encode(alloc, bytes) {
-        Ok(digits) => digits,
-        Err(_) => panic!(rt; "memory was refused"),
-    }
+    hex::encode(alloc, bytes).expect(rt, MEMORY)
 }
 
 /// A link with room, to which these frames were fed, and then the end.
 fn fed(rt: &impl Abort, alloc: Global, piece: usize, frames: &[&str]) -> MemoryLink<'static> {
     let mut link = MemoryLink::new(alloc, piece, &[]);
-    link.make_room(4096).expect(rt, "memory was refused");
+    link.make_room(4096).expect(rt, MEMORY);
     for frame in frames {
         let bytes = decoded(rt, alloc, frame);
-        link.feed(&bytes).expect(rt, "memory was refused");
+        link.feed(&bytes).expect(rt, MEMORY);
     }
     link.feed_end();
     link

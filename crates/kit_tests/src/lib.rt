@@ -4,6 +4,8 @@
 #[cfg(test)]
 mod fill;
 #[cfg(test)]
+mod holding;
+#[cfg(test)]
 mod kit;
 #[cfg(test)]
 mod pages;

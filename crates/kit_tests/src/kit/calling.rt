@@ -1,6 +1,7 @@
 //! Calls over links in memory.
 
 use super::{BOOT, OPENED, REQUEST, ROWS, decoded, encoded, fed};
+use crate::holding::{MEMORY, holds};
 use okws_outer::memory::sink::MemorySink;
 use okws_outer::memory::source::MemorySource;
 use okws_outer::stream::Link;
@@ -27,14 +28,18 @@ fn booted<L: Link + Drop>(rt: &impl Abort, alloc: Global, link: L) -> Service<L>
 }
 
 fn bytes(rt: &impl Abort, alloc: Global, text: &str) -> Vec<u8> {
-    Vec::from_slice(alloc, text.as_bytes()).expect(rt, "memory was refused")
+    Vec::from_slice(alloc, text.as_bytes()).expect(rt, MEMORY)
 }
 
 /// Opens a session at proxy 0, and none at proxy 1, for which there is no token.
 fn opens<L: Link>(rt: &impl Abort, service: &mut Service<L>) {
-    assert!(rt; matches!(service.open(1), Ok(None)));
+    holds(
+        rt,
+        matches!(service.open(1), Ok(None)),
+        "no number of its own",
+    );
     match service.open(0) {
-        Ok(Some(Answer::Given(session))) => assert!(rt; session == SESSION),
+        Ok(Some(Answer::Given(session))) => holds(rt, session == SESSION, "session"),
         _ => panic!(rt; "no session"),
     }
 }
@@ -43,28 +48,41 @@ fn opens<L: Link>(rt: &impl Abort, service: &mut Service<L>) {
 fn calls<L: Link>(rt: &impl Abort, alloc: Global, service: &mut Service<L>) {
     match service.call(SESSION, 1, Vec::new(alloc)) {
         Ok(Answer::Given(Outcome::Rows { columns, rows })) => {
-            assert!(rt; columns == 2);
-            assert!(rt; rows.as_slice().len() == 2);
+            holds(rt, columns == 2, "columns");
+            holds(rt, rows.as_slice().len() == 2, "rows");
         }
         _ => panic!(rt; "no rows"),
     }
+}
+
+/// Whether the server ended the link.
+fn has_ended<T: Drop>(heard: Result<T, Stop>) -> bool {
+    matches!(heard, Err(Stop::Ended))
 }
 
 /// Replies `ok`.
 fn replies<L: Link>(rt: &impl Abort, alloc: Global, service: &mut Service<L>) {
     let plain = bytes(rt, alloc, "text/plain");
     let content = bytes(rt, alloc, "ok");
-    assert!(rt; service.reply(200, plain, Vec::new(alloc), content).is_ok());
+    holds(
+        rt,
+        service.reply(200, plain, Vec::new(alloc), content).is_ok(),
+        "a reply",
+    );
 }
 
 /// Hears a Request, opens a session, calls query 1 and replies `ok`.
 fn one_dialog<L: Link>(rt: &impl Abort, alloc: Global, service: &mut Service<L>) {
-    assert!(rt; service.incarnation == 1);
-    assert!(rt; matches!(service.wait(), Ok(Event::Request { .. })));
+    holds(rt, service.incarnation == 1, "incarnation");
+    holds(
+        rt,
+        matches!(service.wait(), Ok(Event::Request { .. })),
+        "a request",
+    );
     opens(rt, service);
     calls(rt, alloc, service);
     replies(rt, alloc, service);
-    assert!(rt; matches!(service.wait(), Err(Stop::Ended)));
+    holds(rt, has_ended(service.wait()), "ended");
 }
 
 /// What `one_dialog` says.
@@ -77,7 +95,7 @@ fn dialog_in_pieces(rt: &impl Abort, alloc: Global, piece: usize) {
     let mut service = booted(rt, alloc, link);
     one_dialog(rt, alloc, &mut service);
     let said = encoded(rt, alloc, service.link.given());
-    assert!(rt; said.as_str() == SAID);
+    holds(rt, said.as_str() == SAID, "said");
 }
 
 #[test]
@@ -93,7 +111,7 @@ fn joined(rt: &impl Abort, alloc: Global, frames: &[&str]) -> Vec<u8> {
     for frame in frames {
         bytes
             .extend_from_slice(&decoded(rt, alloc, frame))
-            .expect(rt, "memory was refused");
+            .expect(rt, MEMORY);
     }
     bytes
 }
@@ -104,8 +122,8 @@ fn one_pull_brings_all(rt: HostRuntime) {
     let heard = joined(&rt, alloc, &[BOOT, REQUEST, OPENED, ROWS]);
     // The second pull is the one that finds the end.
     let source = MemorySource::new(&heard, 4096, &[2]);
-    let sink = MemorySink::new(alloc, 4096, &[]).expect(&rt, "memory was refused");
-    let link = over(alloc, source, sink).expect(&rt, "memory was refused");
+    let sink = MemorySink::new(alloc, 4096, &[]).expect(&rt, MEMORY);
+    let link = over(alloc, source, sink).expect(&rt, MEMORY);
     let mut service = booted(&rt, alloc, link);
     one_dialog(&rt, alloc, &mut service);
 }
@@ -132,7 +150,7 @@ fn logs(rt: &impl Abort, alloc: Global, frames: [&str; 2], want: &str) {
     let mut service = booted(rt, alloc, link);
     for letter in want.chars() {
         let result = service.log(bytes(rt, alloc, "hi"));
-        assert!(rt; logged(&result) == letter, "{want}");
+        holds(rt, logged(&result) == letter, want);
     }
 }
 
@@ -160,7 +178,7 @@ fn is_unsayable<L: Link>(
     let kind = bytes(rt, alloc, kind);
     let location = bytes(rt, alloc, location);
     let result = service.reply(status, kind, location, Vec::new(alloc));
-    assert!(rt; matches!(result, Err(Stop::Unsayable)));
+    holds(rt, matches!(result, Err(Stop::Unsayable)), "unsayable");
 }
 
 #[test]
@@ -175,5 +193,5 @@ fn what_has_no_spelling_is_not_put(rt: HostRuntime) {
     ] {
         is_unsayable(&rt, alloc, &mut service, reply);
     }
-    assert!(&rt; service.link.given().is_empty());
+    holds(&rt, service.link.given().is_empty(), "nothing was put");
 }

@@ -1,6 +1,7 @@
 //! The service of the crate's documentation.
 
 use super::{BOOT, OPENED, REQUEST, ROWS, encoded, fed};
+use crate::holding::holds;
 use okws_base::value::{Row, Value};
 use okws_outer::stream::Link;
 use std::alloc::{AllocError, Global};
@@ -71,7 +72,11 @@ fn answers_with_rows(rt: HostRuntime) {
         Booting::Booted(service) => service,
         Booting::Stopped(..) => panic!(rt; "not booted"),
     };
-    assert!(rt; matches!(serve(&mut service), Err(Stop::Ended)));
+    holds(
+        &rt,
+        matches!(serve(&mut service), Err(Stop::Ended)),
+        "ended",
+    );
     let said = encoded(&rt, alloc, service.link.given());
     let want = concat!(
         "000000174100000000000000000001ade0b876903df1a0e56a5d40",
@@ -80,5 +85,5 @@ fn answers_with_rows(rt: HostRuntime) {
         "0000000a42000000000000000100",
         "0000001b4501f40a746578742f706c61696e0000000008726566757365640a",
     );
-    assert!(rt; said.as_str() == want);
+    holds(&rt, said.as_str() == want, "said");
 }

@@ -1,5 +1,6 @@
 //! Values of forms.
 
+use crate::holding::{MEMORY, holds};
 use svc_kit::form::value_of;
 
 #[test]
@@ -12,7 +13,7 @@ fn first_pairs(rt: HostRuntime) {
         ("empty", Some("")),
         ("i", None),
     ] {
-        let found = value_of(rt.alloc(), form, name).expect(&rt, "memory was refused");
-        assert!(rt; found.as_deref() == value, "{name}");
+        let found = value_of(rt.alloc(), form, name).expect(&rt, MEMORY);
+        holds(&rt, found.as_deref() == value, name);
     }
 }

@@ -5,4 +5,6 @@
 #[cfg(test)]
 mod drills;
 #[cfg(test)]
+mod holding;
+#[cfg(test)]
 mod runs;

@@ -1,6 +1,7 @@
 //! Whole runs over a world in memory: two worked scripts, what is refused, and each status. Not tested
 //! here: the other worked scripts, which are run by the program, and want of memory.
 
+use crate::holding::{MEMORY, holds, same};
 use okws_outer::memory::files::{Entry, MemoryFiles};
 use okws_outer::memory::sink::MemorySink;
 use okws_outer::world::Outside;
@@ -50,10 +51,16 @@ const TWO_SESSIONS_PRINTED: &str =
     heard guest 1 000000050400000001\n";
 
 /// How a run ended, and what it printed.
-#[derive(Debug, Drop)]
+#[derive(Drop)]
 struct Ended {
     status: Status,
     printed: Vec<u8>,
+}
+
+/// A run ended with this status, and printed this.
+fn ends(rt: &impl Abort, ended: &Ended, status: Status, printed: &[u8]) {
+    holds(rt, ended.status == status, "status");
+    same(rt, &ended.printed, printed);
 }
 
 /// Runs these words over files in memory, whose pulls of the numbers in `pulls` fail, and an out with
@@ -68,8 +75,8 @@ fn run<R: Abort + Wait + Threads + Sync>(
     puts: &[u64],
 ) -> Ended {
     let words = owned(rt, alloc, words);
-    let out = MemorySink::new(alloc, room, puts).expect(rt, "memory was refused");
-    let further = absent(alloc).expect(rt, "memory was refused");
+    let out = MemorySink::new(alloc, room, puts).expect(rt, MEMORY);
+    let further = absent(alloc).expect(rt, MEMORY);
     let mut world = Fitted {
         outside: Some(Outside {
             files: MemoryFiles::new(entries, 4096, pulls),
@@ -83,7 +90,7 @@ fn run<R: Abort + Wait + Threads + Sync>(
     match &world.outside {
         Some(all) => Ended {
             status,
-            printed: Vec::from_slice(alloc, all.out.given()).expect(rt, "memory was refused"),
+            printed: Vec::from_slice(alloc, all.out.given()).expect(rt, MEMORY),
         },
         None => panic!(rt; "the objects are out"),
     }
@@ -92,8 +99,8 @@ fn run<R: Abort + Wait + Threads + Sync>(
 fn owned(rt: &impl Abort, alloc: Global, words: &[&str]) -> Vec<String> {
     let mut all = Vec::new(alloc);
     for word in words {
-        let word = String::from_str(alloc, word).expect(rt, "memory was refused");
-        all.push(word).expect(rt, "memory was refused");
+        let word = String::from_str(alloc, word).expect(rt, MEMORY);
+        all.push(word).expect(rt, MEMORY);
     }
     all
 }
@@ -118,16 +125,14 @@ const PLAY: [&str; 3] = ["play", "site", "script"];
 fn a_dialog_is_printed(rt: HostRuntime) {
     let entries = files(SITE, ONE_DIALOG);
     let ended = run(&rt, rt.alloc(), &PLAY, &entries, &[], 4096, &[]);
-    assert!(rt; ended.status == Status::Ok);
-    assert!(rt; ended.printed.as_slice() == ONE_DIALOG_PRINTED.as_bytes());
+    ends(&rt, &ended, Status::Ok, ONE_DIALOG_PRINTED.as_bytes());
 }
 
 #[test]
 fn two_sessions_are_opened(rt: HostRuntime) {
     let entries = files(SITE, TWO_SESSIONS);
     let ended = run(&rt, rt.alloc(), &PLAY, &entries, &[], 4096, &[]);
-    assert!(rt; ended.status == Status::Ok);
-    assert!(rt; ended.printed.as_slice() == TWO_SESSIONS_PRINTED.as_bytes());
+    ends(&rt, &ended, Status::Ok, TWO_SESSIONS_PRINTED.as_bytes());
 }
 
 #[test]
@@ -136,9 +141,9 @@ fn out_may_be_full_at_any_byte(rt: HostRuntime) {
     let entries = files(SITE, ONE_DIALOG);
     for room in 0..whole.len() {
         let ended = run(&rt, rt.alloc(), &PLAY, &entries, &[], room, &[]);
-        assert!(rt; ended.status == Status::OutFault);
-        assert!(rt; ended.printed.len() <= room);
-        assert!(rt; whole.starts_with(&ended.printed));
+        holds(&rt, ended.status == Status::OutFault, "status");
+        holds(&rt, ended.printed.len() <= room, "room");
+        holds(&rt, whole.starts_with(&ended.printed), "a front");
     }
 }
 
@@ -147,10 +152,11 @@ fn a_put_that_fails_is_the_last(rt: HostRuntime) {
     let entries = files(SITE, ONE_DIALOG);
     for put in [0, 2, 4] {
         let ended = run(&rt, rt.alloc(), &PLAY, &entries, &[], 4096, &[put as u64]);
-        assert!(rt; ended.status == Status::OutFault);
+        holds(&rt, ended.status == Status::OutFault, "status");
         let lines = ended.printed.iter().filter(|byte| **byte == b'\n').count();
-        assert!(rt; lines == put);
-        assert!(rt; ONE_DIALOG_PRINTED.as_bytes().starts_with(&ended.printed));
+        holds(&rt, lines == put, "lines");
+        let whole = ONE_DIALOG_PRINTED.as_bytes();
+        holds(&rt, whole.starts_with(&ended.printed), "a front");
     }
 }
 
@@ -183,8 +189,7 @@ fn broken_files_are_told(rt: HostRuntime) {
         ),
     ] {
         let ended = run(&rt, rt.alloc(), &PLAY, &files(site, script), &[], 4096, &[]);
-        assert!(rt; ended.status == status);
-        assert!(rt; ended.printed.as_slice() == printed.as_bytes());
+        ends(&rt, &ended, status, printed.as_bytes());
     }
 }
 
@@ -200,8 +205,7 @@ fn files_that_fail_are_told(rt: HostRuntime) {
         (&["play", "site", "script"], &[2]),
     ] {
         let ended = run(&rt, rt.alloc(), words, &entries, pulls, 4096, &[]);
-        assert!(rt; ended.status == Status::ReadFault);
-        assert!(rt; ended.printed.as_slice() == b"read fault\n".as_slice());
+        ends(&rt, &ended, Status::ReadFault, b"read fault\n");
     }
 }
 
@@ -222,8 +226,7 @@ fn queries_are_listed(rt: HostRuntime) {
             4096,
             puts,
         );
-        assert!(rt; ended.status == status);
-        assert!(rt; ended.printed.as_slice() == printed);
+        ends(&rt, &ended, status, printed);
     }
 }
 
@@ -254,8 +257,8 @@ fn other_words_are_told_how_to_call(rt: HostRuntime) {
         &["drill", "0", "+5"],
     ] {
         let ended = run(&rt, rt.alloc(), words, &[], &[], 4096, &[]);
-        assert!(rt; ended.status == Status::Usage);
-        assert!(rt; tells_how_to_call(&ended.printed));
+        holds(&rt, ended.status == Status::Usage, "status");
+        holds(&rt, tells_how_to_call(&ended.printed), "how to call");
     }
 }
 
@@ -277,14 +280,12 @@ fn drills_are_summed(rt: HostRuntime) {
         ),
     ] {
         let ended = run(&rt, rt.alloc(), words, &[], &[], 4096, &[]);
-        assert!(rt; ended.status == Status::Ok);
-        assert!(rt; ended.printed.as_slice() == printed.as_bytes());
+        ends(&rt, &ended, Status::Ok, printed.as_bytes());
     }
 }
 
 #[test]
 fn a_drill_over_an_out_that_fails(rt: HostRuntime) {
     let ended = run(&rt, rt.alloc(), &["drill", "0", "5"], &[], &[], 4096, &[0]);
-    assert!(rt; ended.status == Status::OutFault);
-    assert!(rt; ended.printed.is_empty());
+    ends(&rt, &ended, Status::OutFault, b"");
 }

@@ -39,12 +39,20 @@ pub trait Equipped: World {
 }
 
 /// A world that holds all objects of a server.
-#[derive(Drop)]
 pub struct Fitted<F, O, N, H, C, S, K, G> {
     /// The files, the printing and the seed, None while they are out.
     pub outside: Option<Outside<F, O>>,
     /// The further objects, None while they are out.
     pub further: Option<Objects<N, H, C, S, K, G>>,
+}
+
+impl<F: Drop, O: Drop, N: Drop, H: Drop, C: Drop, S: Drop, K: Drop, G: Drop> Drop
+    for Fitted<F, O, N, H, C, S, K, G> {
+    fn drop(self) {
+        let Fitted { outside, further } = self;
+        drop(outside);
+        drop(further);
+    }
 }
 
 impl<

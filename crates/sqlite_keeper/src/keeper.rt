@@ -24,16 +24,27 @@ use std::alloc::Global;
 
 /// The rows of some tables in a database, each statement a transaction of its own. A refusal of the
 /// database for another cause than memory is counted as a fault. It tells no rows.
-#[derive(Drop)]
 pub struct SqliteKeeper<S: Alter> {
     conn: Connection<S>,
     tables: Vec<Table>,
     faults: u64,
 }
 
+impl<S: Alter + Drop> Drop for SqliteKeeper<S> {
+    fn drop(self) {
+        let SqliteKeeper {
+            conn,
+            tables,
+            faults: _,
+        } = self;
+        drop(conn);
+        drop(tables);
+    }
+}
+
 impl<S: Alter + Drop> SqliteKeeper<S> {
     /// A keeper for these tables over a database. A table that is not there is made and has its first
-    /// rows; one that is there is kept, where its columns are the declared ones. All of this is one
+    /// rows; one that is there is kept, where its name and its columns are the declared ones, in their order. All of this is one
     /// transaction. An error comes with the database, whose rows are as they were.
     pub fn new(
         alloc: Global,
@@ -64,7 +75,13 @@ impl<S: Alter + Drop> SqliteKeeper<S> {
     pub fn into_connection(self) -> Connection<S>
         ensures { result ≡ self.conn }
     {
-        self.conn
+        let SqliteKeeper {
+            conn,
+            tables,
+            faults: _,
+        } = self;
+        drop(tables);
+        conn
     }
 }
 

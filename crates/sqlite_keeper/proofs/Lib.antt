@@ -1,6 +1,7 @@
-pub mod Joined
-pub mod Refused
-pub mod May
 pub mod Alone
-pub mod Turns
 pub mod Inside
+pub mod Joined
+pub mod Labels
+pub mod May
+pub mod Refused
+pub mod Turns

@@ -60,14 +60,14 @@ module _ {S : Type 0} (g : Ghosts S) where
   -- A table is made, and its first rows are inserted.
   abbrev pub Creates : ℕ → Table → Deed S
   Creates t table old new made =
-      IsOut old new made ⊎ Then (Hands (create_sql t table.columns) []) (InTurn (Inserts (insert_sql t (length table.columns))) 0 table.first) old new made
+      IsOut old new made ⊎ Then (Hands (create_sql t table) []) (InTurn (Inserts (insert_sql t (length table.columns))) 0 table.first) old new made
 
-  -- By what the database shows of a table: one that isn't there is made and filled; one that was made by the very text of the declared columns is kept as it is; any other is refused.
+  -- By what the database shows of a table: one that isn't there is made and filled; one that was made by the very text of the declared table, with all its names, is kept as it is; any other is refused.
   abbrev pub IsSettled : ℕ → Table → List (List SqlValue) → Deed S
   IsSettled t table shown old new made =
       ((shown ≡ []) × Creates t table old new made)
       ⊎ ((shown ≢ []) × (new ≡ old)
-      × (((shown ≡ made_by (create_sql t table.columns)) × (made ≡ Ok tt)) ⊎ ((shown ≢ made_by (create_sql t table.columns)) × (made ≡ Err Failed))))
+      × (((shown ≡ made_by (create_sql t table)) × (made ≡ Ok tt)) ⊎ ((shown ≢ made_by (create_sql t table)) × (made ≡ Err Failed))))
 
   -- The database is asked how table t was made, and it is settled by what it shows.
   abbrev pub Asks : ℕ → Held S → Held S → Result (List (List SqlValue)) MakeError → Type 0

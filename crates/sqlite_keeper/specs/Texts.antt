@@ -1,9 +1,11 @@
 -- The SQL of statements and of tables. Tables and columns are named by their numbers; each value is handed apart, at the `?` of its place.
-use Rattle.std.specs.Prelude.{ℕ, ◌+◌, Bool, true, false, List, [], ◌∷◌, ◌++◌, Option, Some, None, codes, decimal, length}
+use Rattle.std.specs.Prelude.{ℕ, ◌+◌, Bool, true, false, List, [], ◌∷◌, ◌++◌, Option, Some, None, codes, decimal, length, if◌then◌else◌}
+use Rattle.std.specs.Str.{is_utf8}
 use Rattle.std.specs.List.{join_by, repeat}
 use Rattle.okws_base.specs.declared.value.Kind.{Kind}
 use Rattle.okws_base.specs.declared.value.Kind.TheVariants as kind
 use Rattle.okws_plan.specs.declared.configuration.Column.{Column}
+use Rattle.okws_plan.specs.declared.configuration.Table.{Table}
 use Rattle.okws_plan.specs.declared.statement.Comparison.{Comparison}
 use Rattle.okws_plan.specs.declared.statement.Comparison.TheVariants as comparison
 use Rattle.okws_plan.specs.declared.statement.Condition.{Condition}
@@ -86,14 +88,18 @@ abbrev pub key_sql : Bool → List ℕ
 key_sql true = codes " UNIQUE"
 key_sql false = []
 
--- The columns, the first of which has number at.
+-- A name, as a comment.
+abbrev pub label_sql : List ℕ → List ℕ
+label_sql name = if is_utf8 name then codes " /* " ++ name ++ codes " */" else []
+
+-- The columns, the first of which has number at, each with its name.
 abbrev pub columns_sql : ℕ → List Column → List ℕ
 columns_sql at [] = []
-columns_sql at (c ∷ more) = codes ", " ++ column_name at ++ kind_sql c.kind ++ key_sql c.key ++ columns_sql (at + 1) more
+columns_sql at (c ∷ more) = codes ", " ++ column_name at ++ label_sql c.name ++ kind_sql c.kind ++ key_sql c.key ++ columns_sql (at + 1) more
 
--- A table of these columns, behind a key of its own, which no row has twice, even after it is deleted, and which rises with each insertion.
-abbrev pub create_sql : ℕ → List Column → List ℕ
-create_sql t columns = codes "CREATE TABLE t" ++ decimal t ++ codes " (id INTEGER PRIMARY KEY AUTOINCREMENT" ++ columns_sql 0 columns ++ codes ") STRICT"
+-- A table with its name and its columns, behind a key of its own, which no row has twice, even after it is deleted, and which rises with each insertion.
+abbrev pub create_sql : ℕ → Table → List ℕ
+create_sql t table = codes "CREATE TABLE t" ++ decimal t ++ label_sql table.name ++ codes " (id INTEGER PRIMARY KEY AUTOINCREMENT" ++ columns_sql 0 table.columns ++ codes ") STRICT"
 
 -- Asks how a table was made.
 abbrev pub schema_sql : List ℕ

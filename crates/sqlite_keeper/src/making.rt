@@ -80,7 +80,7 @@ fn create<S: Alter>(
     ensures same_reference { tx.new.conn.ghost_name ≡ tx.old.conn.ghost_name }
     ensures steps { Steps S.Store tx.old.conn.now tx.new.conn.now result (Creates S.Store at table.now tx.old.conn.now tx.new.conn.now result) }
 {
-    let sql = create_sql(alloc, at, table.columns.as_slice())?;
+    let sql = create_sql(alloc, at, table)?;
     let row_sql = insert_sql(alloc, at, table.columns.as_slice().len())?;
     hand(tx, &sql, &[])?;
     fill(alloc, tx, &row_sql, table.first.as_slice())
@@ -115,7 +115,7 @@ fn settle<S: Alter>(
     shown: &[Shown],
 ) -> Result<(), MakeError>
     requires inside { HasCleanDisk (state S.Store tx.old.conn.now) → tx.old.conn.now.in_transaction ≡ true }
-    requires text { sql.now ≡ create_sql at table.now.columns }
+    requires text { sql.now ≡ create_sql at table.now }
     ensures same_reference { tx.new.conn.ghost_name ≡ tx.old.conn.ghost_name }
     ensures steps { Steps S.Store tx.old.conn.now tx.new.conn.now result (IsSettled S.Store at table.now shown.now tx.old.conn.now tx.new.conn.now result) }
 {
@@ -157,7 +157,7 @@ fn prepare_table<S: Alter>(
     ensures steps { Steps S.Store tx.old.conn.now tx.new.conn.now result (Prepares S.Store at table.now tx.old.conn.now tx.new.conn.now result) }
 {
     let name = table_name(alloc, at)?;
-    let sql = create_sql(alloc, at, table.columns.as_slice())?;
+    let sql = create_sql(alloc, at, table)?;
     let shown = ask(tx, at, &name)?;
     settle(alloc, tx, at, table, &sql, shown.as_slice())
 }
@@ -178,8 +178,8 @@ fn prepare_all<S: Alter>(
     Ok(())
 }
 
-/// Makes and fills the tables that are not there, keeps those that were made by the very text of their
-/// columns, and refuses others; all in one transaction.
+/// Makes and fills the tables that are not there, keeps those that were made by their very text, with the
+/// names of the table and of its columns, and refuses others; all in one transaction.
 pub(crate) fn prepare<S: Alter>(
     alloc: Global,
     conn: &mut Connection<S>,

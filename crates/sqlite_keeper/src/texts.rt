@@ -1,14 +1,16 @@
 //! The SQL of statements and of tables. It names tables and columns by their numbers, so a statement's text
-//! depends on its form alone; each value is handed apart.
+//! depends on its form alone; each value is handed apart. The text that makes a table has their names beside the
+//! numbers, so that it tells them apart.
 
 ghost use Rattle.std.specs.Prelude.{◌≡◌, IfOk, string_bytes, length, codes};
 ghost use Rattle.std.specs.List.{join_by};
-ghost use Rattle.sqlite_keeper.specs.Texts.{table_name, column_name, comparison_sql, condition_sql, where_sql, assignment_sql, order_sql, limit_sql, select_sql, insert_sql, update_sql, delete_sql, sql_of, kind_sql, key_sql, columns_sql, create_sql};
+ghost use Rattle.sqlite_keeper.specs.Texts.{table_name, column_name, comparison_sql, condition_sql, where_sql, assignment_sql, order_sql, limit_sql, select_sql, insert_sql, update_sql, delete_sql, sql_of, kind_sql, key_sql, label_sql, columns_sql, create_sql};
 
 use okws_base::value::Kind;
-use okws_plan::configuration::Column;
+use okws_plan::configuration::{Column, Table};
 use okws_plan::statement::{Action, Assignment, Comparison, Condition, Selection};
 use std::alloc::{AllocError, Global};
+use std::str;
 
 /// The name of a table.
 pub(crate) fn table_name(alloc: Global, table: usize) -> Result<String, AllocError>
@@ -179,6 +181,17 @@ fn key_sql(key: bool) -> &'static str
     if key { " UNIQUE" } else { "" }
 }
 
+/// A name, as a comment.
+#[tactic(auto, using(crate::proofs::Labels::utf8_tests))]
+fn label_sql(alloc: Global, name: &[u8]) -> Result<String, AllocError>
+    ensures { IfOk result (λ t. string_bytes t ≡ label_sql name.now) }
+{
+    match str::from_utf8(name) {
+        Ok(text) => format!(in alloc; " /* {text} */"),
+        Err(_) => Ok(String::new(alloc)),
+    }
+}
+
 fn columns_sql(alloc: Global, columns: &[Column]) -> Result<String, AllocError>
     ensures { IfOk result (λ t. string_bytes t ≡ columns_sql 0 columns.now) }
 {
@@ -186,20 +199,20 @@ fn columns_sql(alloc: Global, columns: &[Column]) -> Result<String, AllocError>
     for at in 0..columns.len() {
         let kind = kind_sql(columns[at].kind);
         let key = key_sql(columns[at].key);
-        let one = format!(in alloc; ", c{at}{kind}{key}")?;
+        let label = label_sql(alloc, columns[at].name.as_slice())?;
+        let one = format!(in alloc; ", c{at}{label}{kind}{key}")?;
         all.push_str(&one)?;
     }
     Ok(all)
 }
 
-/// The CREATE of a table of these columns.
-pub(crate) fn create_sql(
-    alloc: Global,
-    table: usize,
-    columns: &[Column],
-) -> Result<String, AllocError>
-    ensures { IfOk result (λ t. string_bytes t ≡ create_sql table columns.now) }
+/// The CREATE of a table.
+pub(crate) fn create_sql(alloc: Global, at: usize, table: &Table) -> Result<String, AllocError>
+    ensures { IfOk result (λ t. string_bytes t ≡ create_sql at table.now) }
 {
-    let all = columns_sql(alloc, columns)?;
-    format!(in alloc; "CREATE TABLE t{table} (id INTEGER PRIMARY KEY AUTOINCREMENT{all}) STRICT")
+    let label = label_sql(alloc, table.name.as_slice())?;
+    let all = columns_sql(alloc, table.columns.as_slice())?;
+    format!(in alloc;
+        "CREATE TABLE t{at}{label} (id INTEGER PRIMARY KEY AUTOINCREMENT{all}) STRICT"
+    )
 }

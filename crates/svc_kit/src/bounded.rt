@@ -52,10 +52,13 @@ impl Bounded {
         }
     }
 
-    /// Puts the escaped value behind the text.
+    /// Puts the escaped value behind the text; takes no time where the text is too long already.
     pub(crate) fn put_escaped(&mut self, value: &[u8]) -> Result<(), AllocError>
         ensures { (text : List ℕ) → Holds self.old text → OnOk result (Holds self.new (text ++ escaped value.now)) }
     {
+        if self.over {
+            return Ok(());
+        }
         for byte in value {
             self.put_escaped_byte(*byte)?;
         }

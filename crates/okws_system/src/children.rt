@@ -20,10 +20,16 @@ use std::process::{ChildStdout, Command, Processes, Stdio, SystemProcess};
 use std::{io, process, str};
 
 /// The link of a child: its standard output, and the pipe that is its standard input.
-#[derive(Drop)]
 pub struct ChildLink {
     whose: ChildName,
     pipes: PipeLink<Awaited<ChildStdout>, PipeWriter>,
+}
+
+impl Drop for ChildLink {
+    fn drop(self) {
+        let ChildLink { whose: _, pipes } = self;
+        drop(pipes);
+    }
 }
 
 impl ChildLink {
@@ -54,7 +60,6 @@ impl Link for ChildLink {
 }
 
 /// A child of the system.
-#[derive(Drop)]
 pub struct RealChild {
     service: u16,
     incarnation: u32,
@@ -64,6 +69,22 @@ pub struct RealChild {
     ended: bool,
     faults: u64,
     stopped: bool,
+}
+
+impl Drop for RealChild {
+    fn drop(self) {
+        let RealChild {
+            service: _,
+            incarnation: _,
+            inner,
+            asked: _,
+            last: _,
+            ended: _,
+            faults: _,
+            stopped: _,
+        } = self;
+        drop(inner);
+    }
 }
 
 impl RealChild {
@@ -132,12 +153,22 @@ impl Child for RealChild {
 }
 
 /// The children of the system.
-#[derive(Drop)]
 pub struct RealChildren<'r, R> {
     rt: &'r R,
     started: Told<ChildStart>,
     finished: Told<ChildEnd>,
     faults: u64,
+}
+
+impl<'r, R> Drop for RealChildren<'r, R> {
+    fn drop(self) {
+        let RealChildren {
+            rt: _,
+            started: _,
+            finished: _,
+            faults: _,
+        } = self;
+    }
 }
 
 impl<'r, R: Processes<Started = SystemProcess> + Files> RealChildren<'r, R> {

@@ -10,11 +10,21 @@ use std::net::{OpenStream, Shutdown};
 
 /// A connection. Where it is closed with bytes of the client unread, the system resets it, and the
 /// client may lose the answer; so it notes whether such bytes may be there.
-#[derive(Drop)]
 pub struct RealConn<S> {
     stream: S,
     is_left: bool,
     faults: u64,
+}
+
+impl<S: Drop> Drop for RealConn<S> {
+    fn drop(self) {
+        let RealConn {
+            stream,
+            is_left: _,
+            faults: _,
+        } = self;
+        drop(stream);
+    }
 }
 
 /// Pieces of what is left that are taken at most before a connection is closed, and the length of one.

@@ -9,11 +9,22 @@ use std::alloc::{AllocError, Global};
 use std::io::{BufReader, Read, Write};
 
 /// A reader, which is read ahead, and a writer: standard input and output in the program.
-#[derive(Drop)]
 pub struct RealConsole<I, O> {
     input: BufReader<I>,
     output: O,
     faults: u64,
+}
+
+impl<I: Drop, O: Drop> Drop for RealConsole<I, O> {
+    fn drop(self) {
+        let RealConsole {
+            input,
+            output,
+            faults: _,
+        } = self;
+        drop(input);
+        drop(output);
+    }
 }
 
 impl<I: Read + Drop, O: Write + Drop> RealConsole<I, O> {

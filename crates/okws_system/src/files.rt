@@ -11,10 +11,16 @@ use std::fs;
 use std::io::Read;
 
 /// A file that is open, or one that could not be opened, whose first pull fails.
-#[derive(Drop)]
 pub struct RealFile<F> {
     inner: Option<F>,
     faults: u64,
+}
+
+impl<F: Drop> Drop for RealFile<F> {
+    fn drop(self) {
+        let RealFile { inner, faults: _ } = self;
+        drop(inner);
+    }
 }
 
 impl<F: Read> Source for RealFile<F> {
@@ -34,11 +40,20 @@ impl<F: Read> Source for RealFile<F> {
 }
 
 /// The files of the system by their paths.
-#[derive(Drop)]
 pub struct RealFiles<'r, R> {
     rt: &'r R,
     opened: Told<Items<u8>>,
     faults: u64,
+}
+
+impl<'r, R> Drop for RealFiles<'r, R> {
+    fn drop(self) {
+        let RealFiles {
+            rt: _,
+            opened: _,
+            faults: _,
+        } = self;
+    }
 }
 
 impl<'r, R: std::rt::Files> RealFiles<'r, R> {

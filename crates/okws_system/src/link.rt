@@ -9,11 +9,22 @@ use std::io::{BufReader, Read, Write};
 
 /// The end that is read, which is read ahead, and the end that is written. A link never tells and is
 /// never steady, so it needs no room.
-#[derive(Drop)]
 pub struct PipeLink<I, O> {
     input: BufReader<I>,
     output: O,
     faults: u64,
+}
+
+impl<I: Drop, O: Drop> Drop for PipeLink<I, O> {
+    fn drop(self) {
+        let PipeLink {
+            input,
+            output,
+            faults: _,
+        } = self;
+        drop(input);
+        drop(output);
+    }
 }
 
 impl<I: Read + Drop, O: Write + Drop> PipeLink<I, O> {

@@ -20,13 +20,24 @@ use std::os::fd::AsRawFd;
 const BACKLOG: i32 = 1024;
 
 /// A door: a descriptor of its own of the socket that all doors share.
-#[derive(Drop)]
 pub struct RealDoor {
     // None once the door is closed.
     listener: Option<TcpListener>,
     is_out: bool,
     finished: Told<Served>,
     faults: u64,
+}
+
+impl Drop for RealDoor {
+    fn drop(self) {
+        let RealDoor {
+            listener,
+            is_out: _,
+            finished: _,
+            faults: _,
+        } = self;
+        drop(listener);
+    }
 }
 
 impl RealDoor {
@@ -145,12 +156,23 @@ fn shut(doors: &mut [RealDoor])
 }
 
 /// The network of the system. Its doors take from one socket on the loopback address.
-#[derive(Drop)]
 pub struct RealNetwork<'r, R> {
     rt: &'r R,
     listened: Told<Listening>,
     doors: Vec<RealDoor>,
     faults: u64,
+}
+
+impl<'r, R> Drop for RealNetwork<'r, R> {
+    fn drop(self) {
+        let RealNetwork {
+            rt: _,
+            listened: _,
+            doors,
+            faults: _,
+        } = self;
+        drop(doors);
+    }
 }
 
 impl<'r, R: Net<Listener = TcpListener, Stream = TcpStream>> RealNetwork<'r, R> {

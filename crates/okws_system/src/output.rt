@@ -7,10 +7,16 @@ use okws_outer::stream::{Put, Sink};
 use std::io::Write;
 
 /// A writer, whose writes that failed, or that took nothing, are counted.
-#[derive(Drop)]
 pub struct Writing<W> {
     inner: W,
     faults: u64,
+}
+
+impl<W: Drop> Drop for Writing<W> {
+    fn drop(self) {
+        let Writing { inner, faults: _ } = self;
+        drop(inner);
+    }
 }
 
 impl<W: Write> Writing<W> {

@@ -12,12 +12,22 @@ use std::fs::{File, Files, OpenOptions};
 
 /// The files of the system that are written: each is made where it isn't there, and what is given to
 /// it goes behind what stands there.
-#[derive(Drop)]
 pub struct RealSinks<'r, R> {
     rt: &'r R,
     opened: Told<SinkStart>,
     closed: Told<SinkEnd>,
     faults: u64,
+}
+
+impl<'r, R> Drop for RealSinks<'r, R> {
+    fn drop(self) {
+        let RealSinks {
+            rt: _,
+            opened: _,
+            closed: _,
+            faults: _,
+        } = self;
+    }
 }
 
 impl<'r, R: Files<File = File>> RealSinks<'r, R> {

@@ -21,9 +21,15 @@ use std::alloc::{AllocError, Global};
 
 /// A keeper whose rows stand in a file. It hides of what the keeper is made: a program that holds stores
 /// is proved without comparing the parts of a database.
-#[derive(Drop)]
 pub struct FileKeeper {
     keeper: SqliteKeeper<FileStore<File>>,
+}
+
+impl Drop for FileKeeper {
+    fn drop(self) {
+        let FileKeeper { keeper } = self;
+        drop(keeper);
+    }
 }
 
 impl FileKeeper {
@@ -184,12 +190,22 @@ impl<'c> Says for Finished<'c> {
 
 /// Stores in files: the rows of proxy P stand in the database FILE.P, which is made where it is not
 /// there, and is the server's alone until the keeper is given back.
-#[derive(Drop)]
 pub struct RealStores<'r> {
     rt: &'r HostRuntime,
     made: Told<KeeperStart>,
     finished: Told<KeeperEnd>,
     faults: u64,
+}
+
+impl<'r> Drop for RealStores<'r> {
+    fn drop(self) {
+        let RealStores {
+            rt: _,
+            made: _,
+            finished: _,
+            faults: _,
+        } = self;
+    }
 }
 
 impl<'r> RealStores<'r> {

@@ -9,6 +9,7 @@ pub mod files;
 pub mod link;
 pub mod network;
 pub mod output;
+mod pause;
 pub mod sinks;
 pub mod stores;
 pub mod system;

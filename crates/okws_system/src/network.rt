@@ -5,6 +5,7 @@ ghost use Rattle.okws_outer.specs.Doors.{new_entrance};
 ghost use Rattle.okws_system.specs.Entrances.{entrance_of};
 
 use crate::conn::RealConn;
+use crate::pause::pause;
 use crate::trying::{count, refusal};
 use okws_base::told::{Says, Told};
 use okws_outer::conn::Conn;
@@ -18,6 +19,22 @@ use std::os::fd::AsRawFd;
 
 /// How many connections may wait to be accepted.
 const BACKLOG: i32 = 1024;
+
+/// The numbers of two errors: all open files that the system may have, and no room for what a connection needs.
+const ENFILE: i32 = 23;
+
+const ENOBUFS: i32 = 105;
+
+/// Whether a connection may be accepted later all the same.
+fn is_passing(error: &io::Error) -> bool {
+    match error.raw_os_error() {
+        Some(code) => matches!(
+            code,
+            libc::EMFILE | ENFILE | ENOBUFS | libc::ENOMEM | libc::ECONNABORTED
+        ),
+        None => false,
+    }
+}
 
 /// A door: a descriptor of its own of the socket that all doors share.
 pub struct RealDoor {
@@ -65,12 +82,17 @@ impl RealDoor {
         Some(address.port())
     }
 
-    /// The next connection, unless there can be none.
+    /// The next connection, unless there can be none. Where the system has no room for it now, it is asked again.
     fn next_stream(&self) -> Option<TcpStream> {
-        match self.listener.as_ref()?.accept() {
-            Ok((stream, _)) => Some(stream),
-            Err(_) => None,
+        let listener = self.listener.as_ref()?;
+        for _ in 0..u64::MAX {
+            match listener.accept() {
+                Ok((stream, _)) => return Some(stream),
+                Err(error) if is_passing(&error) => pause(),
+                Err(_) => return None,
+            }
         }
+        None
     }
 }
 

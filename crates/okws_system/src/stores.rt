@@ -6,6 +6,7 @@ ghost use Rattle.sqlite.specs.Files.{file_state, IsOpened};
 ghost use Rattle.okws_outer.specs.Depots.{IsNewKeeper};
 ghost use Rattle.okws_system.specs.Filed.{IsFiled};
 
+use crate::pause::pause;
 use crate::trying::count;
 use okws_base::told::{Says, Told};
 use okws_base::value::Value;
@@ -56,6 +57,12 @@ impl FileKeeper {
             Ok(keeper) => Ok(FileKeeper { keeper }),
             Err(refused) => Err(refused),
         }
+    }
+
+    /// Closes the file, into which all writes are copied before; where that fails they stay beside it.
+    fn close(self) {
+        let FileKeeper { keeper } = self;
+        let _ = keeper.into_connection().close();
     }
 }
 
@@ -131,16 +138,23 @@ fn file_of(alloc: Global, file: &str, proxy: u16) -> Result<String, AllocError>
     format!(in alloc; "{file}.{proxy}")
 }
 
-/// The database of a file, which is made where it is not there.
+/// How often a file is tried that others have, each time a pause later.
+const TRIES: u16 = 300;
+
+/// The database of a file, which is made where it is not there. Who has the file has some seconds to let it go.
 fn open(rt: &HostRuntime, name: &str) -> Result<Connection<FileStore<File>>, MakeError>
     ensures opened { IfOk result (λ c. HasCleanDisk (file_state c) → IsOpened c) }
     ensures unlimited { IfOk result (λ c. c.step_limit ≡ None) }
 {
-    match Connection::open(rt, name) {
-        Ok(conn) => Ok(conn),
-        Err(Error::SqliteFailure(ErrorCode::OutOfMemory)) => Err(MakeError::NoMemory),
-        Err(_) => Err(MakeError::Failed),
+    for _ in 0..TRIES {
+        match Connection::open(rt, name) {
+            Ok(conn) => return Ok(conn),
+            Err(Error::SqliteFailure(ErrorCode::DatabaseBusy)) => pause(),
+            Err(Error::SqliteFailure(ErrorCode::OutOfMemory)) => return Err(MakeError::NoMemory),
+            Err(_) => return Err(MakeError::Failed),
+        }
     }
+    Err(MakeError::Failed)
 }
 
 /// A keeper for tables over the database of a file.
@@ -292,5 +306,6 @@ impl<'r> Stores for RealStores<'r> {
             keeper: &keeper,
         };
         self.finished = self.finished.and(&finished);
+        keeper.close();
     }
 }

@@ -99,13 +99,17 @@ fn inserted(
     if is_alone { answer } else { None }
 }
 
+/// Removes a file of rows, where it is.
+fn remove(rt: &HostRuntime, path: &str, ending: &str) {
+    if let Ok(file) = format!(in rt.alloc(); "{path}.{ending}") {
+        let _ = fs::remove_file(rt, file.as_str());
+    }
+}
+
 /// Removes the files of proxy 7, where they are.
 fn clear(rt: &HostRuntime, path: &str) {
-    for ending in ["7", "7-wal"] {
-        if let Ok(file) = format!(in rt.alloc(); "{path}.{ending}") {
-            let _ = fs::remove_file(rt, file.as_str());
-        }
-    }
+    remove(rt, path, "7");
+    remove(rt, path, "7-wal");
 }
 
 #[test]
@@ -123,6 +127,8 @@ fn rows_stay_in_their_file(rt: HostRuntime) {
     for (id, answer) in all {
         let found = inserted(&rt, rt.alloc(), &mut stores, &path, id);
         holds(&rt, found == Some(answer), "an answer");
+        // All that was written stands in the one file.
+        remove(&rt, &path, "7-wal");
     }
     clear(&rt, &path);
     holds(&rt, stores.faults() == 3, "faults");

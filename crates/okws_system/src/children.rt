@@ -1,12 +1,15 @@
 //! Children of the system.
 
-ghost use Rattle.std.specs.Prelude.{◌≡◌, [], None, IfOk, IfSome};
+ghost use Rattle.std.specs.Prelude.{◌≡◌, ◌≢◌, ℕ, List, [], true, None, IfOk, IfSome, codes};
+ghost use Rattle.std.specs.Process.{clears_env, command_var};
 ghost use Rattle.okws_outer.specs.Lives.{new_life};
 ghost use Rattle.okws_outer.specs.Families.{IsNewLink};
 
 use crate::link::PipeLink;
+use crate::notice;
+use crate::pipes::{ChildInput, ChildOutput};
+use crate::process::Shared;
 use crate::trying::{count, refusal};
-use awaited_pipe::Awaited;
 use okws_base::items::Items;
 use okws_base::told::{Says, Told};
 use okws_outer::child::{Child, Ended};
@@ -14,15 +17,17 @@ use okws_outer::children::{ChildEnd, ChildName, ChildStart, Children, Started};
 use okws_outer::error::MakeError;
 use okws_outer::stream::{Link, Pull, Put};
 use std::alloc::{AllocError, Global};
+use std::env::VarError;
 use std::fs::Files;
-use std::io::{ErrorKind, PipeWriter};
-use std::process::{ChildStdout, Command, Processes, Stdio, SystemProcess};
-use std::{io, process, str};
+use std::io::{ErrorKind, PipeWriter, Stderr};
+use std::process::{Child as Spawned, ChildStdout, Command, Processes, Stdio, SystemProcess};
+use std::rt::Env;
+use std::{env, io, str};
 
 /// The link of a child: its standard output, and the pipe that is its standard input.
 pub struct ChildLink {
     whose: ChildName,
-    pipes: PipeLink<Awaited<ChildStdout>, PipeWriter>,
+    pipes: PipeLink<ChildOutput, ChildInput>,
 }
 
 impl Drop for ChildLink {
@@ -44,7 +49,7 @@ impl ChildLink {
 impl Link for ChildLink {
     ghost use Rattle.std.specs.Prelude.{Some};
 
-    ghost wire = { λ s. record (⟦<PipeLink<Awaited<ChildStdout>, PipeWriter> as Link>⟧.wire s.pipes) { whose = Some s.whose } };
+    ghost wire = { λ s. record (⟦<PipeLink<ChildOutput, ChildInput> as Link>⟧.wire s.pipes) { whose = Some s.whose } };
 
     fn pull(&mut self, into: &mut [u8]) -> Pull {
         self.pipes.pull(into)
@@ -63,7 +68,7 @@ impl Link for ChildLink {
 pub struct RealChild {
     service: u16,
     incarnation: u32,
-    inner: process::Child<SystemProcess>,
+    process: Shared,
     asked: u64,
     last: Option<Ended>,
     ended: bool,
@@ -76,25 +81,25 @@ impl Drop for RealChild {
         let RealChild {
             service: _,
             incarnation: _,
-            inner,
+            process,
             asked: _,
             last: _,
             ended: _,
             faults: _,
             stopped: _,
         } = self;
-        drop(inner);
+        drop(process);
     }
 }
 
 impl RealChild {
-    fn new(service: u16, incarnation: u32, inner: process::Child<SystemProcess>) -> Self
+    fn new(service: u16, incarnation: u32, process: Shared) -> Self
         ensures { ⟦<RealChild as Child>⟧.life result ≡ new_life service incarnation }
     {
         RealChild {
             service,
             incarnation,
-            inner,
+            process,
             asked: 0,
             last: None,
             ended: false,
@@ -102,25 +107,6 @@ impl RealChild {
             stopped: false,
         }
     }
-
-    /// Kills the child, unless it was waited for, and waits for its end.
-    fn end(&mut self) {
-        let _ = self.inner.kill();
-        let _ = self.inner.wait();
-    }
-}
-
-/// Whether a child has ended, whatever signals come.
-fn ask(inner: &mut process::Child<SystemProcess>) -> Ended {
-    for _ in 0..u64::MAX {
-        match inner.try_wait() {
-            Ok(Some(_)) => return Ended::Yes,
-            Ok(None) => return Ended::No,
-            Err(error) if error.kind() == ErrorKind::Interrupted => {}
-            Err(_) => return Ended::Failed,
-        }
-    }
-    Ended::Failed
 }
 
 impl Child for RealChild {
@@ -135,7 +121,7 @@ impl Child for RealChild {
     } };
 
     fn ended(&mut self) -> Ended {
-        let answer = ask(&mut self.inner);
+        let answer = self.process.ended();
         self.asked = self.asked.saturating_add(1);
         self.last = Some(answer);
         match answer {
@@ -148,13 +134,14 @@ impl Child for RealChild {
 
     fn stop(&mut self) {
         self.stopped = true;
-        let _ = self.inner.kill();
+        self.process.stop();
     }
 }
 
-/// The children of the system.
+/// The children of the system. It tells on standard error which could not be started, and which ended by themselves.
 pub struct RealChildren<'r, R> {
     rt: &'r R,
+    errors: Stderr,
     started: Told<ChildStart>,
     finished: Told<ChildEnd>,
     faults: u64,
@@ -164,6 +151,7 @@ impl<'r, R> Drop for RealChildren<'r, R> {
     fn drop(self) {
         let RealChildren {
             rt: _,
+            errors: _,
             started: _,
             finished: _,
             faults: _,
@@ -171,13 +159,14 @@ impl<'r, R> Drop for RealChildren<'r, R> {
     }
 }
 
-impl<'r, R: Processes<Started = SystemProcess> + Files> RealChildren<'r, R> {
+impl<'r, R: Processes<Started = SystemProcess> + Files + Env + AllocGlobal> RealChildren<'r, R> {
     /// The children, none of them started yet and no fault counted.
-    pub fn new(rt: &'r R) -> Self
+    pub fn new(rt: &'r R, errors: Stderr) -> Self
         ensures { ⟦<RealChildren<'r, R> as Children>⟧.family result ≡ record { started = []; finished = []; faults = 0 } }
     {
         RealChildren {
             rt,
+            errors,
             started: Told::new(),
             finished: Told::new(),
             faults: 0,
@@ -212,56 +201,97 @@ fn command_of(alloc: Global, words: &[Items<u8>]) -> io::Result<Command> {
     Ok(command)
 }
 
+/// The server's own PATH, where it has one that is text. Fails only where memory is refused.
+fn search_path<R: Env + AllocGlobal>(rt: &R) -> io::Result<Option<String>> {
+    match env::var(rt, "PATH") {
+        Ok(path) => Ok(Some(path)),
+        Err(VarError::OutOfMemory) => Err(io::Error::from(ErrorKind::OutOfMemory)),
+        Err(_) => Ok(None),
+    }
+}
+
+/// The command with an environment that has PATH alone, or nothing.
+fn with_path(mut command: Command, path: Option<&str>) -> io::Result<Command>
+    ensures clears { IfOk result (λ c. clears_env c ≡ true) }
+    ensures others { IfOk result (λ c. (k : List ℕ) → k ≢ codes "PATH" → command_var c k ≡ None) }
+{
+    command.env_clear();
+    if let Some(path) = path {
+        command.env("PATH", path)?;
+    }
+    Ok(command)
+}
+
 /// A process whose standard output is a pipe, and the end of the pipe that is its standard input. The
 /// other ends are closed here, so that a pipe ends with the child.
 fn spawn<R: Processes<Started = SystemProcess> + Files>(
     rt: &R,
+    errors: Stderr,
     mut command: Command,
-) -> io::Result<(process::Child<SystemProcess>, PipeWriter)> {
+) -> io::Result<(Spawned<SystemProcess>, PipeWriter)> {
     let (reader, writer) = io::pipe(rt)?;
     command.stdin(reader);
     command.stdout(Stdio::piped());
+    command.stderr(errors);
     let child = command.spawn(rt)?;
     Ok((child, writer))
 }
 
-/// The link of a process that was spawned so.
+/// The link of a process that was spawned so, by its standard output and the end that is written.
 fn link_of(
     alloc: Global,
     whose: ChildName,
-    child: &mut process::Child<SystemProcess>,
+    process: &Shared,
+    output: ChildStdout,
     writer: PipeWriter,
 ) -> io::Result<ChildLink>
     ensures { IfOk result (λ l. IsNewLink whose.service whose.incarnation (⟦<ChildLink as Link>⟧.wire l) × ((⟦<ChildLink as Link>⟧.wire l).left ≡ None)) }
 {
-    match child.stdout.take() {
-        Some(output) => {
-            let pipes = PipeLink::new(alloc, Awaited::new(output), writer)?;
-            Ok(ChildLink { whose, pipes })
-        }
-        None => Err(io::Error::from(ErrorKind::InvalidData)),
-    }
+    let input = ChildInput::new(writer, process.share()?);
+    let output = ChildOutput::new(output, process.share()?);
+    let pipes = PipeLink::new(alloc, output, input)?;
+    Ok(ChildLink { whose, pipes })
 }
 
-/// Starts a program; a process that gets no link is ended.
-fn start<R: Processes<Started = SystemProcess> + Files>(
-    rt: &R,
+/// A process that was spawned so, and its link; a process that gets no link is ended.
+fn linked(
     alloc: Global,
     whose: ChildName,
-    words: &[Items<u8>],
-) -> io::Result<(process::Child<SystemProcess>, ChildLink)>
+    mut child: Spawned<SystemProcess>,
+    writer: PipeWriter,
+) -> io::Result<(Shared, ChildLink)>
     ensures { IfOk result (λ s. IsNewLink whose.service whose.incarnation (⟦<ChildLink as Link>⟧.wire s.1) × ((⟦<ChildLink as Link>⟧.wire s.1).left ≡ None)) }
 {
-    let command = command_of(alloc, words)?;
-    let (mut child, writer) = spawn(rt, command)?;
-    match link_of(alloc, whose, &mut child, writer) {
-        Ok(link) => Ok((child, link)),
+    let output = child.stdout.take();
+    let process = Shared::new(alloc, child)?;
+    let link = match output {
+        Some(output) => link_of(alloc, whose, &process, output, writer),
+        None => Err(io::Error::from(ErrorKind::InvalidData)),
+    };
+    match link {
+        Ok(link) => Ok((process, link)),
         Err(error) => {
-            let _ = child.kill();
-            let _ = child.wait();
+            let _ = process.end();
             Err(error)
         }
     }
+}
+
+/// Starts a program.
+fn start<R: Processes<Started = SystemProcess> + Files + Env + AllocGlobal>(
+    rt: &R,
+    errors: Stderr,
+    alloc: Global,
+    whose: ChildName,
+    words: &[Items<u8>],
+) -> io::Result<(Shared, ChildLink)>
+    ensures { IfOk result (λ s. IsNewLink whose.service whose.incarnation (⟦<ChildLink as Link>⟧.wire s.1) × ((⟦<ChildLink as Link>⟧.wire s.1).left ≡ None)) }
+{
+    let path = search_path(rt)?;
+    let command = command_of(alloc, words)?;
+    let command = with_path(command, path.as_ref().map(|path| path.as_str()))?;
+    let (child, writer) = spawn(rt, errors, command)?;
+    linked(alloc, whose, child, writer)
 }
 
 /// A child that was started, and those that were finished before.
@@ -303,7 +333,8 @@ impl<'c> Says for Finished<'c> {
     } };
 }
 
-impl<'r, R: Processes<Started = SystemProcess> + Files> Children for RealChildren<'r, R> {
+impl<'r, R: Processes<Started = SystemProcess> + Files + Env + AllocGlobal> Children
+    for RealChildren<'r, R> {
     type Child = RealChild;
 
     type Link = ChildLink;
@@ -321,8 +352,8 @@ impl<'r, R: Processes<Started = SystemProcess> + Files> Children for RealChildre
             service,
             incarnation,
         };
-        match start(self.rt, alloc, whose, words) {
-            Ok((inner, link)) => {
+        match start(self.rt, self.errors, alloc, whose, words) {
+            Ok((process, link)) => {
                 let starting = Starting {
                     service,
                     incarnation,
@@ -330,10 +361,11 @@ impl<'r, R: Processes<Started = SystemProcess> + Files> Children for RealChildre
                     finished: &self.finished,
                 };
                 self.started = self.started.and(&starting);
-                let child = RealChild::new(service, incarnation, inner);
+                let child = RealChild::new(service, incarnation, process);
                 Ok(Started { child, link })
             }
             Err(error) => {
+                notice::not_started(self.errors, whose, &error);
                 let why = refusal(&error);
                 if why == MakeError::Failed {
                     count(&mut self.faults);
@@ -343,13 +375,19 @@ impl<'r, R: Processes<Started = SystemProcess> + Files> Children for RealChildre
         }
     }
 
-    fn finish(&mut self, _: u16, _: u32, mut child: RealChild, link: ChildLink) {
+    fn finish(&mut self, service: u16, incarnation: u32, child: RealChild, link: ChildLink) {
         let finished = Finished {
             child: &child,
             link: &link,
         };
         self.finished = self.finished.and(&finished);
         drop(link);
-        child.end();
+        if let Some(status) = child.process.end() {
+            let whose = ChildName {
+                service,
+                incarnation,
+            };
+            notice::ended(self.errors, whose, status);
+        }
     }
 }

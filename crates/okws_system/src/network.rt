@@ -5,6 +5,7 @@ ghost use Rattle.okws_outer.specs.Doors.{new_entrance};
 ghost use Rattle.okws_system.specs.Entrances.{entrance_of};
 
 use crate::conn::RealConn;
+use crate::notice;
 use crate::pause::pause;
 use crate::trying::{count, refusal};
 use okws_base::told::{Says, Told};
@@ -14,6 +15,7 @@ use okws_outer::error::{Fault, MakeError};
 use okws_outer::network::{Listening, Network};
 use std::alloc::{AllocError, Global};
 use std::io;
+use std::io::Stderr;
 use std::net::{Net, SocketAddr, TcpListener, TcpStream};
 use std::os::fd::AsRawFd;
 
@@ -168,6 +170,15 @@ fn doors_of(
     Ok(doors)
 }
 
+/// How many calls of these doors have failed.
+fn faults_of(doors: &[RealDoor]) -> u64 {
+    let mut faults = 0u64;
+    for door in doors {
+        faults = faults.saturating_add(door.faults);
+    }
+    faults
+}
+
 /// Closes the sockets of doors.
 fn shut(doors: &mut [RealDoor])
     ensures { map entrance_of doors.new ≡ map entrance_of doors.old }
@@ -177,9 +188,11 @@ fn shut(doors: &mut [RealDoor])
     }
 }
 
-/// The network of the system. Its doors take from one socket on the loopback address.
+/// The network of the system. Its doors take from one socket on the loopback address. It tells on standard error that they
+/// listen, and at the end how many of their calls failed.
 pub struct RealNetwork<'r, R> {
     rt: &'r R,
+    errors: Stderr,
     listened: Told<Listening>,
     doors: Vec<RealDoor>,
     faults: u64,
@@ -189,6 +202,7 @@ impl<'r, R> Drop for RealNetwork<'r, R> {
     fn drop(self) {
         let RealNetwork {
             rt: _,
+            errors: _,
             listened: _,
             doors,
             faults: _,
@@ -199,11 +213,12 @@ impl<'r, R> Drop for RealNetwork<'r, R> {
 
 impl<'r, R: Net<Listener = TcpListener, Stream = TcpStream>> RealNetwork<'r, R> {
     /// The network, with no listen yet and no fault counted.
-    pub fn new(rt: &'r R, alloc: Global) -> Self
+    pub fn new(rt: &'r R, errors: Stderr, alloc: Global) -> Self
         ensures { ⟦<RealNetwork<'r, R> as Network>⟧.net result ≡ record { listened = []; doors = []; faults = 0 } }
     {
         RealNetwork {
             rt,
+            errors,
             listened: Told::new(),
             doors: Vec::new(alloc),
             faults: 0,
@@ -241,8 +256,10 @@ impl<'r, R: Net<Listener = TcpListener, Stream = TcpStream>> Network for RealNet
     ) -> Result<Vec<RealDoor>, MakeError> {
         self.listened = self.listened.and(&Listening { port, count });
         let opened = self.open(alloc, port, count);
-        if matches!(opened, Err(MakeError::Failed)) {
-            self.faults = self.faults.saturating_add(1);
+        match &opened {
+            Ok(_) => notice::listening(self.errors, port),
+            Err(MakeError::Failed) => self.faults = self.faults.saturating_add(1),
+            Err(MakeError::NoMemory) => {}
         }
         opened
     }
@@ -253,6 +270,7 @@ impl<'r, R: Net<Listener = TcpListener, Stream = TcpStream>> Network for RealNet
         ensures faults { self.new.faults ≡ self.old.faults }
     {
         shut(&mut doors);
+        notice::door_faults(self.errors, faults_of(&doors));
         self.doors = doors;
     }
 }

@@ -2,18 +2,63 @@
 
 ghost use Rattle.std.specs.Prelude.{◌≡◌, [], None};
 
+use crate::notice;
 use crate::output::Writing;
 use crate::trying::count;
 use okws_base::told::{Says, Told};
 use okws_outer::error::Fault;
 use okws_outer::sinks::{SinkEnd, SinkStart, Sinks};
-use okws_outer::stream::Sink;
+use okws_outer::stream::{Put, Sink};
 use std::fs::{File, Files, OpenOptions};
+use std::io::Stderr;
+
+/// A file that is written. Where it can't be, that is told on standard error once, when it happens.
+pub struct LogFile {
+    inner: Writing<File>,
+    errors: Stderr,
+    is_told: bool,
+}
+
+impl Drop for LogFile {
+    fn drop(self) {
+        let LogFile {
+            inner,
+            errors: _,
+            is_told: _,
+        } = self;
+        drop(inner);
+    }
+}
+
+impl LogFile {
+    /// How many puts have failed.
+    pub fn faults(&self) -> u64
+        ensures { result ≡ ⟦<LogFile as Sink>⟧.faults self.now }
+    {
+        self.inner.faults()
+    }
+}
+
+impl Sink for LogFile {
+    ghost given = { λ s. ⟦<Writing<File> as Sink>⟧.given s.inner };
+
+    ghost faults = { λ s. ⟦<Writing<File> as Sink>⟧.faults s.inner };
+
+    fn put(&mut self, bytes: &[u8]) -> Put {
+        let put = self.inner.put(bytes);
+        if put != Put::Done && !self.is_told {
+            self.is_told = true;
+            notice::log_stopped(self.errors);
+        }
+        put
+    }
+}
 
 /// The files of the system that are written: each is made where it isn't there, and what is given to
-/// it goes behind what stands there.
+/// it goes behind what stands there. Where one can't be opened, that is told on standard error.
 pub struct RealSinks<'r, R> {
     rt: &'r R,
+    errors: Stderr,
     opened: Told<SinkStart>,
     closed: Told<SinkEnd>,
     faults: u64,
@@ -23,6 +68,7 @@ impl<'r, R> Drop for RealSinks<'r, R> {
     fn drop(self) {
         let RealSinks {
             rt: _,
+            errors: _,
             opened: _,
             closed: _,
             faults: _,
@@ -32,11 +78,12 @@ impl<'r, R> Drop for RealSinks<'r, R> {
 
 impl<'r, R: Files<File = File>> RealSinks<'r, R> {
     /// The sinks, none of them opened yet and no fault counted.
-    pub fn new(rt: &'r R) -> Self
+    pub fn new(rt: &'r R, errors: Stderr) -> Self
         ensures { ⟦<RealSinks<'r, R> as Sinks>⟧.rack result ≡ record { opened = []; closed = []; faults = 0 } }
     {
         RealSinks {
             rt,
+            errors,
             opened: Told::new(),
             closed: Told::new(),
             faults: 0,
@@ -80,11 +127,11 @@ impl<'c> Says for Closing<'c> {
 }
 
 impl<'r, R: Files<File = File>> Sinks for RealSinks<'r, R> {
-    type Sink = Writing<File>;
+    type Sink = LogFile;
 
     ghost rack = { λ s. record { opened = s.opened.past; closed = s.closed.past; faults = s.faults } };
 
-    fn open(&mut self, path: &str) -> Result<Writing<File>, Fault> {
+    fn open(&mut self, path: &str) -> Result<LogFile, Fault> {
         let file = OpenOptions::new()
             .append(true)
             .create(true)
@@ -92,15 +139,20 @@ impl<'r, R: Files<File = File>> Sinks for RealSinks<'r, R> {
         let is_open = file.is_ok();
         self.opened = self.opened.and(&Opening { path, is_open });
         match file {
-            Ok(file) => Ok(Writing::new(file)),
-            Err(_) => {
+            Ok(file) => Ok(LogFile {
+                inner: Writing::new(file),
+                errors: self.errors,
+                is_told: false,
+            }),
+            Err(error) => {
+                notice::no_log(self.errors, &error);
                 count(&mut self.faults);
                 Err(Fault)
             }
         }
     }
 
-    fn close(&mut self, path: &str, sink: Writing<File>) {
+    fn close(&mut self, path: &str, sink: LogFile) {
         let faults = sink.faults();
         self.closed = self.closed.and(&Closing { path, faults });
         self.faults = self.faults.saturating_add(faults);

@@ -1,10 +1,12 @@
-//! All further objects of a server over one system.
+//! All objects of a run over one system.
 
-ghost use Rattle.std.specs.Prelude.{◌≡◌, [], None, IfOk};
+ghost use Rattle.std.specs.Prelude.{◌≡◌, [], None, IfOk, IsSome};
 
 use crate::children::RealChildren;
 use crate::console::RealConsole;
+use crate::files::RealFiles;
 use crate::network::RealNetwork;
+use crate::output::Writing;
 use crate::sinks::RealSinks;
 use crate::stores::RealStores;
 use okws_outer::children::Children;
@@ -13,7 +15,9 @@ use okws_outer::gate::NoGate;
 use okws_outer::network::Network;
 use okws_outer::sinks::Sinks;
 use okws_outer::stores::Stores;
+use okws_outer::world::Outside;
 use okws_world::equipment::Objects;
+use okws_world::equipped::Fitted;
 use std::alloc::{AllocError, Global};
 use std::fs::{File, Files};
 use std::io;
@@ -21,6 +25,7 @@ use std::io::{Read, Write};
 use std::net::{Net, TcpListener, TcpStream};
 use std::process::{Processes, SystemProcess};
 use std::random::RandomSource;
+use std::rt::Env;
 
 /// The further objects of a server of the system, with a console over a reader and a writer.
 pub type RealObjects<'r, R, I, O> = Objects<
@@ -44,7 +49,9 @@ pub fn real_objects<'r, R, I, O>(
 where
     R: Net<Listener = TcpListener, Stream = TcpStream>
         + Processes<Started = SystemProcess>
-        + Files<File = File>,
+        + Files<File = File>
+        + Env
+        + AllocGlobal,
     I: Read + Drop,
     O: Write + Drop,
     ensures network { IfOk result (λ o. ⟦<RealNetwork<'r, R> as Network>⟧.net o.network ≡ record { listened = []; doors = []; faults = 0 }) }
@@ -55,13 +62,60 @@ where
 {
     let console = RealConsole::new(alloc, input, output)?;
     Ok(Objects {
-        network: RealNetwork::new(rt, alloc),
-        children: RealChildren::new(rt),
+        network: RealNetwork::new(rt, host.stderr(), alloc),
+        children: RealChildren::new(rt, host.stderr()),
         console,
         stores: RealStores::new(host),
-        sinks: RealSinks::new(rt),
+        sinks: RealSinks::new(rt, host.stderr()),
         gate: NoGate,
     })
+}
+
+/// A world of the system, with a console over a reader and a writer, which prints at a writer of its own.
+pub type RealWorld<'r, R, I, O> = Fitted<
+    RealFiles<'r, R>,
+    Writing<O>,
+    RealNetwork<'r, R>,
+    RealChildren<'r, R>,
+    RealConsole<I, O>,
+    RealStores<'r>,
+    RealSinks<'r, R>,
+    NoGate,
+>;
+
+/// A world of the system, with all its objects, none of which was used yet. Fails only where memory is refused.
+pub fn real_world<'r, R, I, O>(
+    rt: &'r R,
+    host: &'r HostRuntime,
+    seed: [u8; 32],
+    out: O,
+    input: I,
+    output: O,
+) -> Result<RealWorld<'r, R, I, O>, AllocError>
+where
+    R: Net<Listener = TcpListener, Stream = TcpStream>
+        + Processes<Started = SystemProcess>
+        + Files<File = File>
+        + Env
+        + AllocGlobal,
+    I: Read + Drop,
+    O: Write + Drop,
+    ensures outside { IfOk result (λ w. IsSome w.outside) }
+    ensures further { IfOk result (λ w. IsSome w.further) }
+{
+    let things = real_objects(rt, host, host.alloc(), input, output);
+    let outside = Outside {
+        files: RealFiles::new(rt),
+        out: Writing::new(out),
+        seed,
+    };
+    match things {
+        Ok(things) => Ok(Fitted {
+            outside: Some(outside),
+            further: Some(things),
+        }),
+        Err(refused) => Err(refused),
+    }
 }
 
 /// A seed that nobody can tell beforehand, of the system's random bytes.

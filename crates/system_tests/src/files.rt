@@ -13,7 +13,7 @@ fn sink_goes_on_behind_what_stands_there(rt: HostRuntime) {
     let number = process::id(rt.process());
     let path = format!(in rt.alloc(); "/tmp/okws-sink-{number}");
     let path = path.expect(&rt, MEMORY);
-    let mut sinks = RealSinks::new(&rt);
+    let mut sinks = RealSinks::new(&rt, rt.stderr());
     for bytes in [b"one\n".as_slice(), b"two\n"] {
         let Ok(mut sink) = sinks.open(path.as_str()) else {
             panic!(rt; "not as planned");
@@ -30,6 +30,19 @@ fn sink_goes_on_behind_what_stands_there(rt: HostRuntime) {
         panic!(rt; "not as planned");
     };
     holds(&rt, bytes.as_slice() == b"one\ntwo\n".as_slice(), "read");
+}
+
+#[test]
+fn sink_at_a_full_device_counts_each_put(rt: HostRuntime) {
+    let mut sinks = RealSinks::new(&rt, rt.stderr());
+    let Ok(mut sink) = sinks.open("/dev/full") else {
+        panic!(rt; "not as planned");
+    };
+    holds(&rt, sink.put(b"one\n") == Put::Stopped(0), "one");
+    holds(&rt, sink.put(b"two\n") == Put::Stopped(0), "two");
+    holds(&rt, sink.faults() == 2, "faults of a sink");
+    sinks.close("/dev/full", sink);
+    holds(&rt, sinks.faults() == 2, "faults");
 }
 
 #[test]

@@ -36,7 +36,7 @@ fn serve_one(door: &mut RealDoor, answer: &[u8]) -> Option<(Pull, Put)>
 
 #[test]
 fn doors_share_one_port(rt: HostRuntime) {
-    let mut network = RealNetwork::new(&rt, rt.alloc());
+    let mut network = RealNetwork::new(&rt, rt.stderr(), rt.alloc());
     let Ok(mut doors) = network.listen(rt.alloc(), 0, 2) else {
         panic!(rt; "not as planned");
     };
@@ -75,7 +75,7 @@ fn doors_share_one_port(rt: HostRuntime) {
 
 #[test]
 fn early_answer_is_seen(rt: HostRuntime) {
-    let mut network = RealNetwork::new(&rt, rt.alloc());
+    let mut network = RealNetwork::new(&rt, rt.stderr(), rt.alloc());
     let Ok(mut doors) = network.listen(rt.alloc(), 0, 1) else {
         panic!(rt; "not as planned");
     };
@@ -99,7 +99,7 @@ fn early_answer_is_seen(rt: HostRuntime) {
 
 #[test]
 fn client_that_says_nothing_has_ended(rt: HostRuntime) {
-    let mut network = RealNetwork::new(&rt, rt.alloc());
+    let mut network = RealNetwork::new(&rt, rt.stderr(), rt.alloc());
     let Ok(mut doors) = network.listen(rt.alloc(), 0, 1) else {
         panic!(rt; "not as planned");
     };

@@ -1,0 +1,81 @@
+//! What is told on standard error, where the one who runs the server may see it.
+
+use okws_outer::children::ChildName;
+use std::io::{Eprint, Stderr};
+use std::os::unix::process::ExitStatusExt;
+use std::process::ExitStatus;
+use std::{io, str};
+
+/// Bytes of the text of an error of the system.
+const LONGEST: usize = 64;
+
+/// The system's text for the number of an error.
+fn text_of(code: i32, text: &mut [u8; LONGEST]) -> &str {
+    let count = os::error_text(code, text);
+    match text.get(..count) {
+        Some(told) => str::from_utf8(told).unwrap_or("unknown"),
+        None => "unknown",
+    }
+}
+
+/// Tells that a child could not be started.
+pub(crate) fn not_started(errors: Stderr, whose: ChildName, why: &io::Error) {
+    let ChildName {
+        service,
+        incarnation,
+    } = whose;
+    let mut text = [0u8; LONGEST];
+    let reason = match why.raw_os_error() {
+        Some(code) => text_of(code, &mut text),
+        None => "its words are no command, or memory was refused",
+    };
+    let _ = eprintln!(errors;
+        "okws: service {service} incarnation {incarnation}: could not be started: {reason}"
+    );
+}
+
+/// Tells that a child has ended by itself.
+pub(crate) fn ended(errors: Stderr, whose: ChildName, status: ExitStatus) {
+    let ChildName {
+        service,
+        incarnation,
+    } = whose;
+    let _ = match (status.code(), status.signal()) {
+        (Some(code), _) => eprintln!(errors;
+            "okws: service {service} incarnation {incarnation}: ended with status {code}"
+        ),
+        (None, Some(signal)) => eprintln!(errors;
+            "okws: service {service} incarnation {incarnation}: ended by signal {signal}"
+        ),
+        (None, None) => Ok(()),
+    };
+}
+
+/// Tells on which port connections are accepted.
+pub(crate) fn listening(errors: Stderr, port: u16) {
+    let _ = eprintln!(errors; "okws: listening on 127.0.0.1:{port}");
+}
+
+/// Tells how many calls of doors failed, where some did.
+pub(crate) fn door_faults(errors: Stderr, faults: u64) {
+    if faults > 0 {
+        let _ = eprintln!(errors; "okws: doors: {faults} faults");
+    }
+}
+
+/// Tells that the log could not be opened.
+pub(crate) fn no_log(errors: Stderr, why: &io::Error) {
+    let mut text = [0u8; LONGEST];
+    let reason = match why.raw_os_error() {
+        Some(code) => text_of(code, &mut text),
+        None => "its path is none",
+    };
+    let _ = eprintln!(errors; "okws: log: could not be opened: {reason}");
+}
+
+/// Tells that the log could not be written, by the number of the error that came last.
+pub(crate) fn log_stopped(errors: Stderr) {
+    let mut text = [0u8; LONGEST];
+    let reason = text_of(os::errno(), &mut text);
+    let _ = eprintln!(errors; "okws: log: could not be written: {reason}");
+}

@@ -14,7 +14,7 @@ for name in svc_guest svc_probe; do
 done
 cd "$folder" || exit 1
 python3 - "$program" "$only" <<'P'
-import fcntl, os, signal, socket, struct, subprocess, sys, termios, threading, time
+import fcntl, os, resource, shutil, signal, socket, struct, subprocess, sys, termios, threading, time
 
 PROGRAM, ONLY = sys.argv[1], sys.argv[2]
 
@@ -41,6 +41,11 @@ def write(path, text):
     with open(path, 'w') as f:
         f.write(text)
 
+def program(path, text):
+    """A program of the shell."""
+    write(path, '#!/bin/sh\n' + text)
+    os.chmod(path, 0o755)
+
 def a_port():
     with socket.socket() as s:
         s.bind(('127.0.0.1', 0))
@@ -48,15 +53,20 @@ def a_port():
 
 class Server:
     """A server of a site for so many connections, whose console is a pipe. It and its children are ended at the end of the block."""
-    def __init__(self, site, connections, *options, doors=2, port=None):
+    def __init__(self, site, connections, *options, doors=2, port=None, files=None, without=''):
+        """With at most so many open files, and without some of its standard streams as the shell writes it."""
         write('site', site)
         self.ports = [port] if port else [a_port() for _ in range(5)]
+        self.limit_files = (lambda: resource.setrlimit(resource.RLIMIT_NOFILE, (files, files))) if files else None
+        self.shell = ['/bin/sh', '-c', f'exec "$0" "$@" {without}'] if without else []
         self.words = ['--doors', str(doors), '--serve', str(connections), *options]
 
     def start(self, port):
         """Starts the server at a port, and waits until it listens there or has ended."""
         self.port = port
-        self.process = subprocess.Popen([PROGRAM, 'serve', 'site', '--port', str(port), *self.words], stdin=subprocess.PIPE, stdout=subprocess.PIPE)
+        words = [*self.shell, PROGRAM, 'serve', 'site', '--port', str(port), *self.words]
+        self.errors = open('errors', 'w+')
+        self.process = subprocess.Popen(words, stdin=subprocess.PIPE, stdout=subprocess.PIPE, stderr=self.errors, preexec_fn=self.limit_files)
         self.limit = threading.Timer(120, self.process.kill)
         self.limit.start()
         for _ in range(1500):
@@ -89,6 +99,7 @@ class Server:
                 pass
         self.process.wait()
         self.process.stdout.close()
+        self.errors.close()
 
     def children(self):
         """The children of all of its threads."""
@@ -106,6 +117,11 @@ class Server:
         self.process.stdin.write(line)
         self.process.stdin.flush()
         return self.process.stdout.readline()
+
+    def told(self):
+        """The lines that it told on standard error, in the order of the alphabet: two threads may tell at once."""
+        with open('errors') as f:
+            return sorted(f.read().splitlines())
 
     def ends(self):
         """What it printed, and its status, once its console has ended."""
@@ -382,6 +398,132 @@ def a_port_is_free_at_once_after_a_run():
             same(get(server.port), ANN_AND_BOB)
             same(server.ends(), (counts(1, 1, 2, 0, 0), 0))
 
+def a_service_that_leaves_another_holds_nobody():
+    program('leaves', 'exec 3<&0\nsleep 8 <&3 &\n')
+    with Server(SITE % './leaves', 5) as server:
+        answers = []
+        client = threading.Thread(target=lambda: answers.append(get(server.port, '/other')))
+        client.start()
+        time.sleep(0.3)
+        for _ in range(3):
+            begun = time.monotonic()
+            same(get(server.port), ANN_AND_BOB)
+            assert time.monotonic() - begun < 1, time.monotonic() - begun
+        begun = time.monotonic()
+        assert server.answers(b'relaunch other\n').startswith((b'relaunched', b'dead'))
+        client.join(5)
+        same(answers, [BAD_GATEWAY])
+        assert time.monotonic() - begun < 5, time.monotonic() - begun
+        assert get(server.port, '/other') in (BAD_GATEWAY, UNAVAILABLE)
+        same(server.ends()[1], 0)
+
+def a_server_without_standard_input_has_no_operator():
+    with Server('okws 1\ntemplate page\n', 2, without='<&-') as server:
+        same(exchange(server.port, b'publish page 1\na\n'), own('400 Bad Request'))
+        same(get(server.port), own('404 Not Found'))
+        same(server.ends(), (counts(2, 1, 0, 0, 0), 0))
+
+def a_server_without_standard_output_tells_no_client():
+    with Server('okws 1\ntemplate page\n', 2, without='>&-') as server:
+        with socket.create_connection(('127.0.0.1', server.port), 30) as client:
+            time.sleep(0.3)
+            server.process.stdin.write(b'publish nobody 1\na\n')
+            server.process.stdin.flush()
+            time.sleep(0.3)
+            client.sendall(b'GET / HTTP/1.1\r\nHost: a\r\n\r\n')
+            answer = b''
+            while piece := client.recv(65536):
+                answer += piece
+        same(answer, own('404 Not Found'))
+        same(get(server.port), own('404 Not Found'))
+        server.process.stdin.close()
+        assert server.process.wait(30) in (8, 10)
+
+def connections_wait_where_there_is_no_descriptor_for_them():
+    # 0 to 5: the three standard ones, two doors, and one connection at a time
+    with Server('okws 1\n', 3, files=6) as server:
+        clients = [socket.create_connection(('127.0.0.1', server.port), 30) for _ in range(2)]
+        time.sleep(0.5)
+        for client in clients:
+            client.sendall(b'GET / HTTP/1.1\r\nHost: a\r\n\r\n')
+            answer = b''
+            while piece := client.recv(65536):
+                answer += piece
+            same(answer, own('404 Not Found'))
+            client.close()
+        same(get(server.port), own('404 Not Found'))
+        same(server.ends(), (counts(3, 3, 0, 0, 0), 0))
+        same(server.told(), [f'okws: listening on 127.0.0.1:{server.port}'])
+
+def what_goes_wrong_is_told_on_standard_error():
+    with Server(SITE % './svc_none', 1, '--log', 'nowhere/log') as server:
+        same(get(server.port), ANN_AND_BOB)
+        same(server.ends()[1], 7)
+        same(server.told(), ['okws: listening on 127.0.0.1:%d' % server.port, 'okws: log: could not be opened: No such file or directory']
+             + [f'okws: service 1 incarnation {k}: could not be started: No such file or directory' for k in (1, 2, 3)])
+    program('ends', 'read x\nexit 3\n')
+    with Server(SITE % './ends', 1) as server:
+        same(get(server.port, '/other'), BAD_GATEWAY)
+        same(server.ends()[1], 0)
+        same(server.told(), ['okws: listening on 127.0.0.1:%d' % server.port, 'okws: service 1 incarnation 1: ended with status 3'])
+    with Server(SITE % './svc_probe', 1, '--log', '/dev/full') as server:
+        same(post(server.port, 'id=3&who=cy&note=')[:12], b'HTTP/1.1 303')
+        wait_until(lambda: len(server.told()) == 2)
+        same(server.told(), ['okws: listening on 127.0.0.1:%d' % server.port, 'okws: log: could not be written: No space left on device'])
+        same(server.ends()[1], 7)
+
+def a_child_has_path_alone_and_three_descriptors():
+    with Server(SITE % './svc_probe', 1, '--store', 'bare', '--log', 'bare_log') as server:
+        wait_until(lambda: len(server.children()) == 2)
+        for pid in server.children():
+            wait_until(lambda: b'svc_' in open(f'/proc/{pid}/cmdline', 'rb').read())
+            with open(f'/proc/{pid}/environ', 'rb') as f:
+                same(f.read(), b'PATH=' + os.environ['PATH'].encode() + b'\0')
+            same(sorted(os.listdir(f'/proc/{pid}/fd')), ['0', '1', '2'])
+        same(get(server.port), ANN_AND_BOB)
+        same(server.ends()[1], 0)
+
+def a_file_of_rows_has_all_rows_after_an_orderly_end():
+    with Server(SITE % './svc_probe', 1, '--store', 'whole') as server:
+        same(post(server.port, 'id=3&who=cy&note='), response('303 See Other', '', '/guest'))
+        same(server.ends()[1], 0)
+    shutil.copy('whole.0', 'copied.0')
+    with Server(SITE % './svc_probe', 1, '--store', 'copied') as server:
+        same(get(server.port), response('200 OK', '1 ann\n2 bob\n3 cy\n'))
+        same(server.ends()[1], 0)
+
+def rows_of_tables_or_columns_in_another_order_are_refused():
+    for name, lines in [('tables', ['table main one id INT KEY a TEXT', 'table main two id INT KEY a TEXT']), ('columns', ['table main one id INT KEY a TEXT b TEXT'])]:
+        write('ordered', 'okws 1\nproxy main\n' + '\n'.join(lines) + '\n')
+        same(said('serve', 'ordered', '--port', str(a_port()), '--serve', '0', '--store', name)[1], 0)
+        changed = lines[::-1] if name == 'tables' else ['table main one id INT KEY b TEXT a TEXT']
+        write('changed', 'okws 1\nproxy main\n' + '\n'.join(changed) + '\n')
+        same(said('serve', 'changed', '--port', str(a_port()), '--serve', '0', '--store', name), ('store fault\n', 6))
+        same(said('serve', 'ordered', '--port', str(a_port()), '--serve', '0', '--store', name)[1], 0)
+
+def who_holds_a_file_of_rows_for_a_moment_is_waited_for():
+    write('good', 'okws 1\nproxy main\ntable main one id INT KEY a TEXT\n')
+    same(said('serve', 'good', '--port', str(a_port()), '--serve', '0', '--store', 'held')[1], 0)
+    with Server('okws 1\nproxy main\ntable main one id INT KEY a TEXT\n', 1, '--store', 'held') as server:
+        ends = threading.Timer(1, lambda: get(server.port))
+        ends.start()
+        server.process.stdin.close()
+        same(said('serve', 'good', '--port', str(a_port()), '--serve', '0', '--store', 'held')[1], 0)
+        ends.join()
+        same(server.process.wait(30), 0)
+
+def a_page_of_many_places_is_refused_soon():
+    with Server(SITE % './svc_probe', 42, doors=1) as server:
+        for number in range(3, 43):
+            same(post(server.port, f'id={number}&who={"x" * 5000}&note=')[:12], b'HTTP/1.1 303')
+        page = b'@{rows}' * 37449
+        same(server.answers(b'publish page %d\n%s' % (len(page), page)), b'published 1\n')
+        begun = time.monotonic()
+        same(get(server.port)[:12], b'HTTP/1.1 500')
+        assert time.monotonic() - begun < 5, time.monotonic() - begun
+        get(server.port, '/nowhere')
+        same(server.ends()[1], 0)
+
 CHECKS = [
     the_guestbook_shows_and_takes_entries, a_log_is_appended_to, a_log_that_cannot_be_opened_is_a_fault_at_the_end, requests_are_refused_by_the_standard,
     a_site_of_no_service_is_served, the_console_is_answered, a_published_page_reaches_a_running_service, a_refused_publication_is_dropped,
@@ -390,7 +532,10 @@ CHECKS = [
     rows_in_a_file_are_there_in_the_next_run, a_file_of_rows_is_one_servers, rows_of_other_columns_are_refused_and_kept,
     a_file_of_rows_that_cannot_be_opened_is_a_fault, rows_of_a_file_stay_where_a_port_is_taken,
     two_hundred_clients_are_served_at_once, clients_that_reset_harm_no_other, a_run_ends_after_its_connections_and_leaves_no_child,
-    a_port_is_free_at_once_after_a_run,
+    a_port_is_free_at_once_after_a_run, a_service_that_leaves_another_holds_nobody, a_server_without_standard_input_has_no_operator,
+    a_server_without_standard_output_tells_no_client, connections_wait_where_there_is_no_descriptor_for_them,
+    what_goes_wrong_is_told_on_standard_error, a_child_has_path_alone_and_three_descriptors, a_file_of_rows_has_all_rows_after_an_orderly_end,
+    rows_of_tables_or_columns_in_another_order_are_refused, who_holds_a_file_of_rows_for_a_moment_is_waited_for, a_page_of_many_places_is_refused_soon,
 ]
 passed = failed = 0
 for check in CHECKS:

@@ -44,13 +44,8 @@ impl<N: Numbered, C: CellNames, L: Link> CellEnds<N, C, L> {
         ensures told { (Js : List (List CellEvent)) → GrownRow (by_event N.launcher) result Js → CellsGrow N.launcher seats.number seats.cells Js }
         ensures has { RowHas seats.number result }
     {
-        let CellSeats {
-            number: _,
-            seats,
-            of: _,
-        } = seats;
         CellEnds {
-            seats,
+            seats: seats.into_row(),
             of: PhantomData,
         }
     }
@@ -61,12 +56,7 @@ impl<N: Numbered, C: CellNames, L: Link> CellEnds<N, C, L> {
         ensures has { RowHas other.number self.new }
         ensures still { (k : ℕ) → RowHas k self.old → RowHas k self.new }
     {
-        let CellSeats {
-            number: _,
-            seats,
-            of: _,
-        } = other;
-        join_row(&locks.turns, &mut self.seats, seats);
+        join_row(&locks.turns, &mut self.seats, other.into_row());
     }
 }
 
@@ -104,14 +94,9 @@ pub fn end_cells<N: Numbered, C: CellNames, L: Link>(
     ensures services { Rise 0 (map (λ c. c.standing.service) result.items) }
     ensures count { vec_len result ≡ length locks }
 {
-    let CellLocks {
-        turns,
-        gates: _,
-        of: _,
-    } = locks;
     let CellEnds { seats, of: _ } = ends;
     let mut done = done;
-    end_row(turns, seats, &mut done, count);
+    end_row(locks.into_turns(), seats, &mut done, count);
     keep_all(&done);
     turned(done)
 }

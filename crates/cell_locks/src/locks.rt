@@ -1,5 +1,8 @@
 //! The locks of a site's cells.
 
+ghost use Rattle.std.specs.Prelude.{◌≡◌};
+ghost use Rattle.cell_locks.specs.Row.{AreCells};
+
 use crate::gate::DialogGate;
 use crate::named::CellNames;
 use okws_outer::stream::Link;
@@ -10,11 +13,22 @@ use turn_lock::Turn;
 
 /// A lock round each cell of a site, that of service 0 first. Contracts see the locks, which are those of
 /// the names by their type.
-#[derive(Drop)]
 pub struct CellLocks<N: Numbered, C: CellNames, L: Link> {
     pub(crate) turns: Vec<Turn<SiteCell<N, L>>>,
     pub(crate) gates: Vec<DialogGate>,
     pub(crate) of: PhantomData<C>,
+}
+
+impl<N: Numbered, C: CellNames, L: Link + Drop> Drop for CellLocks<N, C, L> {
+    fn drop(self) {
+        let CellLocks {
+            turns,
+            gates,
+            of: _,
+        } = self;
+        drop(turns);
+        drop(gates);
+    }
 }
 
 impl<N: Numbered, C: CellNames, L: Link> Model for CellLocks<N, C, L> {
@@ -27,4 +41,19 @@ impl<N: Numbered, C: CellNames, L: Link> Model for CellLocks<N, C, L> {
     ghost view = { λ s. s.turns.items };
 
     ghost invariant = { λ s. AreLocks C.cell_turns s.turns.items (vec_len s.gates) };
+}
+
+impl<N: Numbered, C: CellNames, L: Link> CellLocks<N, C, L> {
+    // The locks, without their names and gates.
+    pub(crate) fn into_turns(self) -> Vec<Turn<SiteCell<N, L>>>
+        ensures same { result.items ≡ self }
+        ensures cells { AreCells self }
+    {
+        let CellLocks {
+            turns,
+            gates: _,
+            of: _,
+        } = self;
+        turns
+    }
 }

@@ -2,6 +2,7 @@
 
 ghost use Rattle.std.specs.Prelude.{◌≡◌, ◌<◌, ◌≤◌, map, reverse, length, vec_len, IfOk};
 ghost use Rattle.turn_lock.specs.Rows.{AllNone, AllCount, FreshRows};
+ghost use Rattle.cell_locks.specs.Making.{AreMade};
 ghost use Rattle.cell_locks.specs.Row.{Rise, AreNew};
 
 use crate::gate::DialogGate;
@@ -17,11 +18,19 @@ use turn_lock::{Seat, Turn, make_row};
 
 /// The locks of a site's cells, and the seats of all numbers at them, before they have names. Contracts see
 /// the locks, and how many numbers there are.
-#[derive(Drop)]
 pub struct NewCells<N: Numbered, L: Link> {
     turns: Vec<Turn<SiteCell<N, L>>>,
     gates: Vec<DialogGate>,
     rows: Vec<Vec<Seat<SiteCell<N, L>>>>,
+}
+
+impl<N: Numbered, L: Link + Drop> Drop for NewCells<N, L> {
+    fn drop(self) {
+        let NewCells { turns, gates, rows } = self;
+        drop(turns);
+        drop(gates);
+        drop(rows);
+    }
 }
 
 impl<N: Numbered, L: Link> Model for NewCells<N, L> {
@@ -33,6 +42,24 @@ impl<N: Numbered, L: Link> Model for NewCells<N, L> {
     ghost view = { λ m. record { turns = m.turns.items; numbers = vec_len m.rows } };
 
     ghost invariant = { λ m. AreMade m.turns.items (vec_len m.gates) (map (λ r. r.items) m.rows.items) };
+}
+
+impl<N: Numbered, L: Link> NewCells<N, L> {
+    // The locks, a gate for each, and the seats.
+    fn into_parts(
+        self,
+    ) -> (
+        Vec<Turn<SiteCell<N, L>>>,
+        Vec<DialogGate>,
+        Vec<Vec<Seat<SiteCell<N, L>>>>,
+    )
+        ensures made { AreMade result.0.items (vec_len result.1) (map (λ r. r.items) result.2.items) }
+        ensures turns { result.0.items ≡ self.turns }
+        ensures numbers { vec_len result.2 ≡ self.numbers }
+    {
+        let NewCells { turns, gates, rows } = self;
+        (turns, gates, rows)
+    }
 }
 
 // The same, the last first.
@@ -83,7 +110,7 @@ pub fn name_cells<N: Numbered, C: CellNames, L: Link + Drop>(
     ensures seats { IfOk result (λ r. AreNew (length made.turns) 0 r.1.items) }
     ensures numbers { IfOk result (λ r. vec_len r.1 ≡ made.numbers) }
 {
-    let NewCells { turns, gates, rows } = made;
+    let (turns, gates, rows) = made.into_parts();
     let seats = name_rows(alloc, rows)?;
     let locks = CellLocks {
         turns,

@@ -1,13 +1,14 @@
 //! The seats of one number at a site's cells.
 
-ghost use Rattle.std.specs.Prelude.{◌≡◌, ◌≤◌, ◌<◌, ℕ, ◌+◌, false, length, is_some, option_map, IfSome};
+ghost use Rattle.std.specs.Prelude.{◌≡◌, ◌≤◌, ◌<◌, ℕ, ◌+◌, false, length, is_some, map, option_map, IfSome};
 ghost use Rattle.okws_base.specs.Turns.{GrowsBy, Behind};
 ghost use Rattle.okws_base.specs.declared.limit.TheConstants.{LONGEST_FRAME};
 ghost use Rattle.monitor_model.specs.Cell.{CellLaw, incarnation, last_booted, boot_frame};
 ghost use Rattle.service_cell.specs.Asking.{KeepsBoard};
 ghost use Rattle.okws_outer.specs.Families.{IsNewLink};
-ghost use Rattle.site_cell.specs.Held.{by_event, has_booted, IsLinkOf};
-ghost use Rattle.cell_locks.specs.Row.{seen_at, link_at, OnlyAt};
+ghost use Rattle.site_cell.specs.Held.{by_event, events_in, has_booted, is_booted, IsLinkOf};
+ghost use Rattle.turn_lock.specs.Rows.{RestRow};
+ghost use Rattle.cell_locks.specs.Row.{seen_at, link_at, AllAlone, OnlyAt};
 ghost use Rattle.cell_locks.specs.Turns.{GivesLast, HasTalked, HasLaunched, HasRetired};
 
 use crate::answer::Launched;
@@ -29,11 +30,21 @@ use turn_lock::Seat;
 
 /// The seats of one number at all cells of a site, none of which holds its turn. Contracts see the number,
 /// and what was seen at each cell: its events, the newest first, and whether it had its link.
-#[derive(Drop)]
 pub struct CellSeats<N: Numbered, C: CellNames, L: Link> {
     pub(crate) number: u16,
     pub(crate) seats: Vec<Seat<SiteCell<N, L>>>,
     pub(crate) of: PhantomData<C>,
+}
+
+impl<N: Numbered, C: CellNames, L: Link + Drop> Drop for CellSeats<N, C, L> {
+    fn drop(self) {
+        let CellSeats {
+            number: _,
+            seats,
+            of: _,
+        } = self;
+        drop(seats);
+    }
 }
 
 impl<N: Numbered, C: CellNames, L: Link> Model for CellSeats<N, C, L> {
@@ -62,6 +73,20 @@ impl<N: Numbered, C: CellNames, L: Link> CellSeats<N, C, L> {
         ensures locks { result ≡ length C.cell_turns }
     {
         self.seats.len()
+    }
+
+    // The seats without the names of their locks.
+    pub(crate) fn into_row(self) -> Vec<Seat<SiteCell<N, L>>>
+        ensures rest { RestRow C.cell_turns result.items }
+        ensures alone { AllAlone self.number result.items }
+        ensures seen { self ≡ record { number = self.number; cells = map (λ a. events_in a.seen) result.items; links = map (λ a. is_booted a.seen) result.items } }
+    {
+        let CellSeats {
+            number: _,
+            seats,
+            of: _,
+        } = self;
+        seats
     }
 
     /// What the seats' type tells of what was seen: a cell whose link is out has no incarnation.

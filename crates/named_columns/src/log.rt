@@ -29,12 +29,22 @@ use turn_lock::Journaled;
 
 /// The log column of a run as it stands behind its lock. Each call enters at most one event, under the
 /// holder's number; the launcher alone installs and revokes.
-#[derive(Drop)]
 pub struct SiteLog<N: Backed, S: Sink> {
     daemon: LogDaemon<S>,
     // How many texts were logged.
     written: u64,
     of: PhantomData<N>,
+}
+
+impl<N: Backed, S: Sink + Drop> Drop for SiteLog<N, S> {
+    fn drop(self) {
+        let SiteLog {
+            daemon,
+            written: _,
+            of: _,
+        } = self;
+        drop(daemon);
+    }
 }
 
 impl<N: Backed, S: Sink> Model for SiteLog<N, S> {

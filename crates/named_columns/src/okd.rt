@@ -26,13 +26,24 @@ use turn_lock::Journaled;
 
 /// The column of okd of a run as it stands behind its lock. Each call enters at most one event, under
 /// the holder's number; the launcher alone has incarnations be up or down.
-#[derive(Drop)]
 pub struct SiteOkd<N: Numbered> {
     okd: Okd,
     // How many Accepts and how many Ups were entered.
     accepted: u64,
     raised: u64,
     of: PhantomData<N>,
+}
+
+impl<N: Numbered> Drop for SiteOkd<N> {
+    fn drop(self) {
+        let SiteOkd {
+            okd,
+            accepted: _,
+            raised: _,
+            of: _,
+        } = self;
+        drop(okd);
+    }
 }
 
 impl<N: Numbered> Model for SiteOkd<N> {

@@ -34,10 +34,16 @@ use turn_lock::Journaled;
 
 /// The column of a database proxy of a run as it stands behind its lock. Each call enters at most one
 /// event, under the holder's number; the launcher alone installs and revokes.
-#[derive(Drop)]
 pub struct SiteProxy<N: Backed, K: Keeper> {
     proxy: Proxy<K>,
     of: PhantomData<N>,
+}
+
+impl<N: Backed, K: Keeper + Drop> Drop for SiteProxy<N, K> {
+    fn drop(self) {
+        let SiteProxy { proxy, of: _ } = self;
+        drop(proxy);
+    }
 }
 
 impl<N: Backed, K: Keeper> Model for SiteProxy<N, K> {

@@ -28,12 +28,22 @@ use turn_lock::Journaled;
 
 /// The template column of a run as it stands behind its lock. Each call enters at most one event, under
 /// the holder's number; the launcher alone installs and revokes.
-#[derive(Drop)]
 pub struct SitePubd<N: Numbered> {
     pubd: Pubd,
     // How many editions were published.
     published: u64,
     of: PhantomData<N>,
+}
+
+impl<N: Numbered> Drop for SitePubd<N> {
+    fn drop(self) {
+        let SitePubd {
+            pubd,
+            published: _,
+            of: _,
+        } = self;
+        drop(pubd);
+    }
 }
 
 impl<N: Numbered> Model for SitePubd<N> {

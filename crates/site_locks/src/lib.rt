@@ -15,5 +15,6 @@ pub mod making;
 pub mod named;
 pub mod note;
 mod okd_turn;
+pub mod pairing;
 mod proxy_turn;
 mod pubd_turn;

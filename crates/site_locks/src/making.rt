@@ -10,6 +10,7 @@ ghost use Rattle.site_locks.specs.Sat.{RiseFrom, ids_of};
 
 use crate::locks::{Locks, Seats};
 use crate::named::Site;
+use crate::pairing::pair;
 use live_board::Board;
 use named_columns::log::SiteLog;
 use named_columns::named::Backed;
@@ -33,13 +34,29 @@ pub struct Columned<N: Backed, K: Keeper, S: Sink> {
 }
 
 // The seats that are not given to a number yet, by number, the last first.
-#[derive(Drop)]
 struct Deck<N: Backed, K: Keeper, S: Sink> {
     okd: Vec<Seat<SiteOkd<N>>>,
     rows: Vec<Vec<Seat<SiteProxy<N, K>>>>,
     pubd: Vec<Seat<SitePubd<N>>>,
     oklogd: Vec<Seat<SiteLog<N, S>>>,
     board: Vec<live_board::Seat>,
+}
+
+impl<N: Backed, K: Keeper + Drop, S: Sink + Drop> Drop for Deck<N, K, S> {
+    fn drop(self) {
+        let Deck {
+            okd,
+            rows,
+            pubd,
+            oklogd,
+            board,
+        } = self;
+        drop(okd);
+        drop(rows);
+        drop(pubd);
+        drop(oklogd);
+        drop(board);
+    }
 }
 
 impl<N: Backed, K: Keeper, S: Sink> Model for Deck<N, K, S> {
@@ -95,7 +112,6 @@ impl<N: Backed, K: Keeper, S: Sink> Deck<N, K, S> {
 
 /// Locks round the columns of a run, and a board, with their seats, which have seen nothing. Contracts see
 /// which locks they are.
-#[derive(Drop)]
 pub struct Made<N: Backed, K: Keeper, S: Sink> {
     count: u16,
     okd: Turn<SiteOkd<N>>,
@@ -104,6 +120,26 @@ pub struct Made<N: Backed, K: Keeper, S: Sink> {
     oklogd: Turn<SiteLog<N, S>>,
     board: Board,
     deck: Deck<N, K, S>,
+}
+
+impl<N: Backed, K: Keeper + Drop, S: Sink + Drop> Drop for Made<N, K, S> {
+    fn drop(self) {
+        let Made {
+            count: _,
+            okd,
+            proxies,
+            pubd,
+            oklogd,
+            board,
+            deck,
+        } = self;
+        drop(okd);
+        drop(proxies);
+        drop(pubd);
+        drop(oklogd);
+        drop(board);
+        drop(deck);
+    }
 }
 
 impl<N: Backed, K: Keeper, S: Sink> Model for Made<N, K, S> {
@@ -144,11 +180,18 @@ impl<N: Backed, K: Keeper + Drop, S: Sink + Drop> Made<N, K, S> {
         requires numbered { RiseFrom 0 (map (λ (x : HeldProxy). x.number) columns.proxies.items) }
     {
         let count = workers + 1;
-        let (board, board_seats) = Board::new(alloc, count)?;
-        let (okd, okd_seats) = lock(alloc, columns.okd, count)?;
-        let (pubd, pubd_seats) = lock(alloc, columns.pubd, count)?;
-        let (oklogd, log_seats) = lock(alloc, columns.oklogd, count)?;
-        let (proxies, rows) = make_row(alloc, columns.proxies, count)?;
+        let okd = lock(alloc, columns.okd, count);
+        let pubd = lock(alloc, columns.pubd, count);
+        let oklogd = lock(alloc, columns.oklogd, count);
+        let row = make_row(alloc, columns.proxies, count);
+        let board = Board::new(alloc, count);
+        let made = pair(pair(pair(pair(okd, pubd), oklogd), row), board)?;
+        let ((((okd, pubd), oklogd), row), board) = made;
+        let (okd, okd_seats) = okd;
+        let (pubd, pubd_seats) = pubd;
+        let (oklogd, log_seats) = oklogd;
+        let (proxies, rows) = row;
+        let (board, board_seats) = board;
         let deck = Deck {
             okd: okd_seats,
             rows,
@@ -179,17 +222,25 @@ impl<N: Backed, K: Keeper + Drop, S: Sink + Drop> Made<N, K, S> {
         ensures seats { IfOk result (λ r. AreFreshFrom (length N.site.proxies) 0 r.1.items) }
         ensures many { IfOk result (λ r. vec_len r.1 ≡ N.launcher + 1) }
     {
-        let count = self.count;
-        let mut deck = self.deck;
+        let mut seats = Vec::with_capacity(alloc, self.count as usize)?;
+        let Made {
+            count,
+            okd,
+            proxies,
+            pubd,
+            oklogd,
+            board,
+            deck,
+        } = self;
+        let mut deck = deck;
         let locks = Locks {
-            okd: self.okd,
-            proxies: self.proxies,
-            pubd: self.pubd,
-            oklogd: self.oklogd,
-            board: self.board,
+            okd,
+            proxies,
+            pubd,
+            oklogd,
+            board,
             of: PhantomData,
         };
-        let mut seats = Vec::with_capacity(alloc, count as usize)?;
         for number in 0..count {
             seats.push_reserved(deck.deal(&locks, alloc, number, keeps));
         }

@@ -1,6 +1,6 @@
 //! Making the columns of a run.
 
-ghost use Rattle.std.specs.Prelude.{◌≡◌, ◌≤◌, ◌<◌, [], true, length, map, reverse, IfOk, IfSome, vec_len};
+ghost use Rattle.std.specs.Prelude.{◌≡◌, ◌≤◌, ◌<◌, [], true, false, length, map, reverse, IfOk, IfSome, vec_len};
 ghost use Rattle.std.specs.Arc.{arc_value};
 ghost use Rattle.okws_base.specs.declared.limit.TheConstants.{MOST_SERVICES, MOST_TEMPLATES, MOST_PROXIES};
 ghost use Rattle.site_columns.specs.Site.{KeepsRules};
@@ -23,6 +23,7 @@ use okws_outer::stream::Sink;
 use okws_plan::configuration::Config;
 use site_columns::opening::{okd_column, pubd_column, shared};
 use site_locks::making::Columned;
+use site_locks::pairing::pair;
 use std::alloc::{AllocError, Global};
 use std::sync::Arc;
 use token_core::Seed;
@@ -82,6 +83,24 @@ fn proxies<N: Backed, K: Keeper + Drop>(
     Ok(columns)
 }
 
+// The column of oklogd, at which nothing happened, over its sink.
+fn log_column<S: Sink + Drop>(
+    alloc: Global,
+    site: &Arc<Config, Global>,
+    sink: S,
+    keeps: bool,
+) -> Result<LogDaemon<S>, AllocError>
+    requires services { length (arc_value site.now).services ≤ MOST_SERVICES }
+    requires fresh { IfSome (S.given sink) (λ given. given ≡ []) }
+    ensures { IfOk result (λ d. d ≡ record { config = arc_value site.now; past = []; keeps = keeps; given = S.given sink; faults = S.faults sink; stopped = false; holder = 0 }) }
+{
+    let site = shared(site)?;
+    match LogDaemon::new(alloc, site, sink, keeps) {
+        Ok(daemon) => Ok(daemon),
+        Err(_) => Err(AllocError),
+    }
+}
+
 /// The columns of a run, at which nothing happened, over keepers that tell the first rows of their proxies'
 /// tables, and over a sink that was given nothing. Keepers and sink are let go where memory is refused.
 pub(crate) fn columns<N: Backed, K: Keeper + Drop, S: Sink + Drop>(
@@ -104,12 +123,12 @@ pub(crate) fn columns<N: Backed, K: Keeper + Drop, S: Sink + Drop>(
     requires faults { N.sink_faults ≡ S.faults sink }
     ensures { IfOk result (λ c. AreNewColumns N.site (c.okd.past) (map (λ (x : HeldProxy). x.past) c.proxies.items) (map (λ (x : HeldProxy). x.number) c.proxies.items) (c.pubd.past) (c.oklogd.past)) }
 {
-    let proxies = proxies(alloc, site, seed, turned(keepers), keeps)?;
-    let okd = okd_column(alloc, site, keeps)?;
-    let pubd = pubd_column(alloc, site, keeps)?;
-    let Ok(oklogd) = LogDaemon::new(alloc, shared(site)?, sink, keeps) else {
-        return Err(AllocError);
-    };
+    let proxies = proxies(alloc, site, seed, turned(keepers), keeps);
+    let okd = okd_column(alloc, site, keeps);
+    let pubd = pubd_column(alloc, site, keeps);
+    let oklogd = log_column(alloc, site, sink, keeps);
+    let made = pair(pair(pair(proxies, okd), pubd), oklogd)?;
+    let (((proxies, okd), pubd), oklogd) = made;
     Ok(Columned {
         okd: SiteOkd::new(okd),
         proxies,

@@ -47,11 +47,11 @@ returns-clause-none g c =
 pub returns-clause-services : goal.returns-clause-services
 returns-clause-services g c =
     let done = c.end_row.new.done.items in
-    subst (Rise 0) (sym (ap (map (λ (h : Held). h.standing.service)) c.turned.ensures ∙ (map-reverse (λ (h : Held). h.standing.service) done ∙ c.end_row.ensures.labels))) c.locks.invariant.cells
+    subst (Rise 0) (sym (ap (map (λ (h : Held). h.standing.service)) c.turned.ensures ∙ (map-reverse (λ (h : Held). h.standing.service) done ∙ c.end_row.ensures.labels))) c.into_turns.ensures.cells
 
 pub returns-clause-count : goal.returns-clause-count
 returns-clause-count g c =
     let done = c.end_row.new.done.items in
-    let n : length done ≡ length c.locks.inside.turns.items = as_many (λ (h : Held). h.standing.service) (λ t. t.label) done c.locks.inside.turns.items c.end_row.ensures.labels in
-    let size : length c.turned.result.items ≡ length c.args.locks = ap length c.turned.ensures ∙ (length-reverse done ∙ (n ∙ ap length c.locks.view_is)) in
+    let n : length done ≡ length c.into_turns.result.items = as_many (λ (h : Held). h.standing.service) (λ t. t.label) done c.into_turns.result.items c.end_row.ensures.labels in
+    let size : length c.turned.result.items ≡ length c.args.locks = ap length c.turned.ensures ∙ (length-reverse done ∙ (n ∙ ap length c.into_turns.ensures.same)) in
     search rules

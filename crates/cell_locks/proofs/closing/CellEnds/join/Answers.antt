@@ -1,4 +1,4 @@
-use Rattle.std.proofs.Common.{List, map, subst}
+use Rattle.std.proofs.Common.{List, map, sym, subst}
 use Rattle.monitor_model.specs.declared.record.CellEvent.{CellEvent}
 use Rattle.site_cell.specs.Held.{by_event}
 use Rattle.turn_lock.specs.Seats.{SeatIs}
@@ -11,23 +11,23 @@ use Rattle.cell_locks.proofs.closing.CellEnds.join.Goals as goal
 pub returns-clause-told : goal.returns-clause-told
 returns-clause-told g c =
     let k = g.N.Numbered.launcher in
-    let os = c.other.inside.seats.items in
+    let os = c.into_row.result.items in
     let now = c.join_row.new.into.items in
     let joined = subst (λ (x : List (SeatIs CellEvent)). JoinedRow (by_event k) (map cell_seat os) x (map cell_seat now)) c.self.view_is (joined_seats (by_event k) os c.self.inside.seats.items now c.join_row.ensures.joined) in
-    told_both k c.other.inside.number os c.args.self.now (map cell_seat now) c.args.other c.other.invariant.alone c.other.view_is joined
+    told_both k c.args.other.number os c.args.self.now (map cell_seat now) c.args.other c.into_row.ensures.alone (sym c.into_row.ensures.seen) joined
 
 pub returns-clause-has : goal.returns-clause-has
 returns-clause-has g c =
     let k = g.N.Numbered.launcher in
-    let os = c.other.inside.seats.items in
+    let os = c.into_row.result.items in
     let now = c.join_row.new.into.items in
     let joined = joined_seats (by_event k) os c.self.inside.seats.items now c.join_row.ensures.joined in
-    has_other k c.other.inside.number os (map cell_seat c.self.inside.seats.items) (map cell_seat now) c.args.other c.other.invariant.alone c.other.view_is joined
+    has_other k c.args.other.number os (map cell_seat c.self.inside.seats.items) (map cell_seat now) c.args.other c.into_row.ensures.alone (sym c.into_row.ensures.seen) joined
 
 pub returns-clause-still : goal.returns-clause-still
 returns-clause-still g c =
     let k = g.N.Numbered.launcher in
-    let os = c.other.inside.seats.items in
+    let os = c.into_row.result.items in
     let now = c.join_row.new.into.items in
     let joined = subst (λ (x : List (SeatIs CellEvent)). JoinedRow (by_event k) (map cell_seat os) x (map cell_seat now)) c.self.view_is (joined_seats (by_event k) os c.self.inside.seats.items now c.join_row.ensures.joined) in
-    has_still k c.other.inside.number os c.args.self.now (map cell_seat now) c.args.other c.other.invariant.alone c.other.view_is joined
+    has_still k c.args.other.number os c.args.self.now (map cell_seat now) c.args.other c.into_row.ensures.alone (sym c.into_row.ensures.seen) joined

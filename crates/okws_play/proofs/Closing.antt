@@ -11,18 +11,7 @@ use Rattle.monitor_model.specs.Played.{with_open}
 use Rattle.monitor_model.specs.Sent.{AreSent, IsToldOf}
 use Rattle.monitor_model.specs.Stage.{Stand}
 use Rattle.service_cell.specs.Standing.{Open, Standing, all_sent, with_open as cell_with_open}
-use Rattle.okws_play.specs.Cells.{stand_by, stands_by, opened_by, IsOwn, IsLinked, IsSeat, AreSeats}
-
--- what a cell leaves
-abbrev pub past_of : Stand → List CellEvent
-past_of there = with_open there.open_dialog there.past
-
--- what the cells from that of service s on leave: of each, that its links were given what its incarnations heard, and that they tell it
-abbrev pub AreClosed : Config → List ℕ → ℕ → List (List CellEvent) → List (List Sent) → Type 0
-AreClosed C seed s [] [] = Unit {0}
-AreClosed C seed s [] (sent ∷ sents) = ⊥
-AreClosed C seed s (past ∷ pasts) [] = ⊥
-AreClosed C seed s (past ∷ pasts) (sent ∷ sents) = AreSent C seed s past sent × Each IsToldOf sent × AreClosed C seed (s + 1) pasts sents
+use Rattle.okws_play.specs.Cells.{stand_by, stands_by, opened_by, past_of, IsOwn, IsLinked, IsSeat, AreClosed, AreLeft, AreSeats}
 
 closed_more : (C : Config) (seed : List ℕ) (i s : ℕ) (pasts : List (List CellEvent)) (sents : List (List Sent)) (past : List CellEvent) (sent : List Sent) → AreClosed C seed i pasts sents → s ≡ i + length pasts → AreSent C seed s past sent → Each IsToldOf sent
     → AreClosed C seed i (pasts ++ past ∷ []) (sents ++ sent ∷ [])
@@ -71,6 +60,9 @@ pub record HasClosed (C : Config) (seed : List ℕ) (stands : List Stand) (yield
   pub pasts_are : pasts ≡ map past_of (stands_by yielded)
   pub closed : AreClosed C seed 0 pasts sents
 
+pub has_none : (C : Config) (seed : List ℕ) (cells : List Standing) → AreSeats C seed 0 cells → HasClosed C seed (stands_by cells) [] cells [] []
+has_none C seed cells h = record { seats = h; stands_are = refl; pasts_are = refl; closed = tt }
+
 pub has_more : (C : Config) (seed : List ℕ) (stands : List Stand) (yielded rest more : List Standing) (c : Standing) (pasts : List (List CellEvent)) (sents : List (List Sent)) (past : List CellEvent) (sent : List Sent) → HasClosed C seed stands yielded rest pasts sents → rest ≡ c ∷ more
     → past ≡ cell_with_open c.open_dialog c.past → sent ≡ all_sent (last_booted c.past) c.link c.sent → AreSent c.config c.seed c.service past sent
     → HasClosed C seed stands (yielded ++ c ∷ []) more (pasts ++ past ∷ []) (sents ++ sent ∷ [])
@@ -87,9 +79,11 @@ has_more C seed stands yielded rest more c pasts sents past sent h left is links
       closed = closed_more C seed 0 (length yielded) pasts sents past sent h.closed (omega (arith, count)) mine (rw links (all_told (last_booted c.past) c seat.linked seat.sent));
     }
 
-pub has_all : (C : Config) (seed : List ℕ) (stands : List Stand) (yielded rest : List Standing) (pasts : List (List CellEvent)) (sents : List (List Sent)) → HasClosed C seed stands yielded rest pasts sents → rest ≡ [] → pasts ≡ map past_of stands
-has_all C seed stands yielded rest pasts sents h none =
-    h.pasts_are ∙ ap (map past_of) (ap stands_by (sym (append-nil yielded) ∙ ap (λ t. yielded ++ t) (sym none)) ∙ h.stands_are)
+pub has_all : (C : Config) (seed : List ℕ) (stands : List Stand) (yielded rest : List Standing) (pasts : List (List CellEvent)) (sents : List (List Sent)) → HasClosed C seed stands yielded rest pasts sents → rest ≡ [] → AreLeft C seed stands pasts sents
+has_all C seed stands yielded rest pasts sents h none = record {
+  pasts_are = h.pasts_are ∙ ap (map past_of) (ap stands_by (sym (append-nil yielded) ∙ ap (λ t. yielded ++ t) (sym none)) ∙ h.stands_are);
+  closed = h.closed;
+}
 
 pub nothing_left : {A : Type 0} (xs : List A) → length xs ≡ 0 → xs ≡ []
 nothing_left [] e = refl

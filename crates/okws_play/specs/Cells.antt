@@ -4,10 +4,13 @@ use Rattle.okws_base.specs.Runs.{Each}
 use Rattle.okws_base.specs.declared.limit.TheConstants.{LONGEST_FRAME}
 use Rattle.okws_plan.specs.declared.configuration.Config.{Config}
 use Rattle.okws_outer.specs.Wire.{Wire}
+use Rattle.monitor_model.specs.declared.record.CellEvent.{CellEvent}
 use Rattle.monitor_model.specs.declared.record.CellEvent.TheVariants as cell
+use Rattle.monitor_model.specs.declared.sent.Sent.{Sent}
+use Rattle.monitor_model.specs.Played.{with_open}
 use Rattle.monitor_model.specs.declared.record.End.{End}
 use Rattle.monitor_model.specs.Cell.{incarnation}
-use Rattle.monitor_model.specs.Sent.{IsToldOf}
+use Rattle.monitor_model.specs.Sent.{AreSent, IsToldOf}
 use Rattle.monitor_model.specs.Stage.{Stand, Opened, Asked, empty_stand}
 use Rattle.monitor_model.specs.Script.{settled}
 use Rattle.service_cell.specs.Standing.{Open, Standing, ended_of}
@@ -82,6 +85,22 @@ pub record IsSeat (C : Config) (seed : List ℕ) (s : ℕ) (c : Standing) : Type
 abbrev pub AreSeats : Config → List ℕ → ℕ → List Standing → Type 0
 AreSeats C seed s [] = Unit {0}
 AreSeats C seed s (c ∷ more) = IsSeat C seed s c × AreSeats C seed (s + 1) more
+
+-- What a cell leaves.
+abbrev pub past_of : Stand → List CellEvent
+past_of there = with_open there.open_dialog there.past
+
+-- What the cells from that of service s on leave: of each, that its links were given what its incarnations heard, and that they tell it.
+abbrev pub AreClosed : Config → List ℕ → ℕ → List (List CellEvent) → List (List Sent) → Type 0
+AreClosed C seed s [] [] = Unit {0}
+AreClosed C seed s [] (sent ∷ sents) = ⊥
+AreClosed C seed s (past ∷ pasts) [] = ⊥
+AreClosed C seed s (past ∷ pasts) (sent ∷ sents) = AreSent C seed s past sent × Each IsToldOf sent × AreClosed C seed (s + 1) pasts sents
+
+-- What cells that stand so leave, that of service 0 first.
+pub record AreLeft (C : Config) (seed : List ℕ) (stands : List Stand) (pasts : List (List CellEvent)) (sents : List (List Sent)) : Type 0 where
+  pub pasts_are : pasts ≡ map past_of stands
+  pub closed : AreClosed C seed 0 pasts sents
 
 -- A request's frame is no longer than a frame may be; where it goes to an incarnation, that is one of a declared service.
 pub record FitsRequest (C : Config) (asked : Asked) : Type 0 where

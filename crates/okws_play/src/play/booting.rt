@@ -5,17 +5,18 @@ ghost use Rattle.okws_base.specs.declared.limit.TheConstants.{MOST_INCARNATIONS}
 ghost use Rattle.frame_codec.specs.Spelling.{HasSpelling};
 ghost use Rattle.monitor_model.specs.Cell.{boot_frame, incarnation, last_booted};
 ghost use Rattle.monitor_model.specs.Script.{greatest, retired, superseded, superseded_text, freshly_booted, boot_text, booted, booting_text};
-ghost use Rattle.monitor_model.specs.Stage.{stand};
+ghost use Rattle.monitor_model.specs.Stage.{heard_line, stand};
 ghost use Rattle.okws_outer.specs.Printing.{PrintsAs, printer};
 ghost use Rattle.okws_play.specs.Run.{at_stage, MayLaunch};
 
 use crate::play::cells::boot_cell;
-use crate::play::lines::print_heard;
+use crate::play::lines::line_of_heard;
 use crate::play::run::Play;
 use frame_codec::frame::ServerFrame;
 use frame_codec::making::boot;
 use monitor_model::record::Own;
 use okws_base::items::Items;
+use okws_outer::printing::print;
 use okws_outer::stream::Sink;
 use service_cell::columns::Columns;
 use service_cell::tokens::tokens_of;
@@ -78,6 +79,16 @@ impl Play {
         Ok(boot(service, incarnation, Items::of(tokens)))
     }
 
+    // The line that tells of the Boot frame of an incarnation.
+    fn boot_line(&self, service: u16, incarnation: u32) -> Result<Vec<u8>, AllocError>
+        requires first { 0 < incarnation }
+        requires most { incarnation ≤ MOST_INCARNATIONS }
+        ensures { IfOk result (λ v. v.items ≡ heard_line self.now.config service incarnation (boot_frame self.now.config self.now.seed service incarnation)) }
+    {
+        let frame = self.boot_frame(service, incarnation)?;
+        line_of_heard(self.alloc, &self.config, service, incarnation, &frame)
+    }
+
     /// The cell's fresh link gets Boot of the greatest incarnation begun.
     pub fn boot_freshly<O: Sink>(
         &mut self,
@@ -94,21 +105,14 @@ impl Play {
         ensures there { OnOk result (0 < incarnation (stand self.new.stage service).past) }
     {
         let incarnation = self.columns.greatest(service);
-        let frame = self.boot_frame(service, incarnation)?;
+        let line = self.boot_line(service, incarnation)?;
         boot_cell(self.alloc, &mut self.cells[service as usize], incarnation)?;
         self.columns.note(Own::Boot {
             service,
             incarnation,
         })?;
-        print_heard(
-            out,
-            stopped,
-            self.alloc,
-            &self.config,
-            service,
-            incarnation,
-            &frame,
-        )
+        print(out, stopped, &line);
+        Ok(())
     }
 
     /// `boot`: an open dialog of the service ends as superseded; the cell is retired; a fresh link gets

@@ -1,14 +1,18 @@
 //! The cells of a run, one for each service, over links in memory.
 
-ghost use Rattle.std.specs.Prelude.{◌≡◌, ◌≤◌, ◌<◌, IfOk, OnOk, OnErr, None, length, replicate};
+ghost use Rattle.std.specs.Prelude.{◌≡◌, ◌≤◌, ◌<◌, ℕ, List, IfOk, OnOk, OnErr, None, length, replicate};
 ghost use Rattle.std.specs.Arc.{arc_value};
 ghost use Rattle.okws_base.specs.declared.limit.TheConstants.{MOST_INCARNATIONS, MOST_PROXIES, MOST_SERVICES};
 ghost use Rattle.monitor_model.specs.Cell.{incarnation, last_booted};
 ghost use Rattle.monitor_model.specs.Stage.{empty_stand};
-ghost use Rattle.okws_play.specs.Cells.{AreSeats, IsSeat, booted_stand, stand_by, stands_by};
+ghost use Rattle.okws_plan.specs.declared.configuration.Config.{Config};
+ghost use Rattle.okws_play.specs.Cells.{AreLeft, AreSeats, IsSeat, booted_stand, stand_by, stands_by};
 
 use crate::play::run::KEEPS;
+use monitor_model::record::CellEvent;
+use monitor_model::sent::Sents;
 use okws_base::items::Items;
+use okws_base::journal::Past;
 use okws_outer::memory::passing::PassingLink;
 use okws_plan::configuration::Config;
 use service_cell::answer::Booting;
@@ -33,6 +37,28 @@ pub fn cells_of(
         cells.push(Cell::new(alloc, shared(config)?, seed, i as u16, KEEPS))?;
     }
     Ok(cells)
+}
+
+/// What the cells of a run leave, those of service 0 first: what happened at each, and what the links of its
+/// incarnations were given.
+#[derive(Drop)]
+pub struct CellsLeft {
+    pub pasts: Vec<Past<CellEvent>>,
+    pub sents: Vec<Sents>,
+}
+
+/// Closes the cells of a run.
+pub fn close_cells(alloc: Global, cells: Vec<Cell<PassingLink>>) -> Result<CellsLeft, AllocError>
+    ensures { IfOk result (λ left. (C : Config) (seed : List ℕ) → AreSeats C seed 0 cells.items → AreLeft C seed (stands_by cells.items) left.pasts.items left.sents.items) }
+{
+    let mut pasts = Vec::new(alloc);
+    let mut sents = Vec::new(alloc);
+    for cell in cells {
+        let (past, sent) = cell.close();
+        pasts.push(past)?;
+        sents.push(sent)?;
+    }
+    Ok(CellsLeft { pasts, sents })
 }
 
 /// A fresh link of an empty cell gets Boot of the incarnation, with one token for each proxy where the

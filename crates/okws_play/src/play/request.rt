@@ -7,6 +7,7 @@ ghost use Rattle.monitor_model.specs.Stage.{method_text, length_line, request_he
 use monitor_model::verdict::Way;
 use okws_base::items::Items;
 use okws_plan::script::Method;
+use plain_text::decimals::push_decimal;
 use std::alloc::{AllocError, Global};
 use std::marker::Model;
 
@@ -98,14 +99,32 @@ fn push_length(alloc: Global, head: &mut Vec<u8>, content: &[u8]) -> Result<(), 
         [] => Ok(()),
         [_, ..] => {
             head.extend_from_slice(b"Content-Length: ")?;
-            head.extend_from_slice(content.len().to_string(alloc)?.as_bytes())?;
+            push_decimal(alloc, head, content.len() as u64)?;
             head.extend_from_slice(b"\r\n")
         }
     }
 }
 
-/// The head of a request with this method, target and content (RFC 9112, section 3).
+// Puts the head of a request behind what is there (RFC 9112, section 3).
 #[tactic(auto, unfolding(monitor_model::specs::Stage::request_head))]
+fn put_head(
+    alloc: Global,
+    head: &mut Vec<u8>,
+    method: Method,
+    target: &[u8],
+    content: &[u8],
+) -> Result<(), AllocError>
+    ensures { OnOk result (head.new.items ≡ head.old.items ++ request_head method target.now content.now) }
+{
+    head.extend_from_slice(method_name(method))?;
+    head.push(b' ')?;
+    head.extend_from_slice(target)?;
+    head.extend_from_slice(b" HTTP/1.1\r\nHost: localhost\r\n")?;
+    push_length(alloc, head, content)?;
+    head.extend_from_slice(b"\r\n")
+}
+
+// The head of a request with this method, target and content.
 fn head_of(
     alloc: Global,
     method: Method,
@@ -115,12 +134,7 @@ fn head_of(
     ensures { IfOk result (λ v. v.items ≡ request_head method target.now content.now) }
 {
     let mut head = Vec::new(alloc);
-    head.extend_from_slice(method_name(method))?;
-    head.push(b' ')?;
-    head.extend_from_slice(target)?;
-    head.extend_from_slice(b" HTTP/1.1\r\nHost: localhost\r\n")?;
-    push_length(alloc, &mut head, content)?;
-    head.extend_from_slice(b"\r\n")?;
+    put_head(alloc, &mut head, method, target, content)?;
     Ok(head)
 }
 

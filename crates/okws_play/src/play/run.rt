@@ -12,10 +12,11 @@ ghost use Rattle.monitor_model.specs.Sent.{AreSent, IsToldOf, sents_of};
 ghost use Rattle.monitor_model.specs.Stage.{stand, first_stage};
 ghost use Rattle.okws_play.specs.Cells.{IsSeat, stand_by};
 
-use crate::play::cells::cells_of;
+use crate::play::cells::{cells_of, close_cells};
 use crate::play::request::{Request, method_name};
 use monitor_model::record::Record;
 use okws_base::items::Items;
+use okws_base::pairing::both;
 use okws_outer::memory::passing::PassingLink;
 use okws_plan::configuration::Config;
 use service_cell::cell::Cell;
@@ -29,7 +30,6 @@ use token_core::Seed;
 pub(crate) const KEEPS: bool = false;
 
 /// A run of a script in one thread, as far as it has come.
-#[derive(Drop)]
 pub struct Play {
     pub(crate) alloc: Global,
     pub(crate) config: Arc<Config, Global>,
@@ -37,6 +37,23 @@ pub struct Play {
     pub(crate) columns: SiteColumns,
     pub(crate) cells: Vec<Cell<PassingLink>>,
     pub(crate) requests: Vec<Request>,
+}
+
+impl Drop for Play {
+    fn drop(self) {
+        let Play {
+            alloc: _,
+            config,
+            seed: _,
+            columns,
+            cells,
+            requests,
+        } = self;
+        drop(config);
+        drop(columns);
+        drop(cells);
+        drop(requests);
+    }
 }
 
 impl Model for Play {
@@ -78,17 +95,19 @@ impl Play {
         ensures many { IfOk result (λ r. length r.sents ≡ length self.config.services) }
         ensures faultless { IsFaultless self.stage }
     {
-        let mut record = self.columns.into_record()?;
-        let mut pasts = Vec::new(self.alloc);
-        let mut sents = Vec::new(self.alloc);
-        for cell in self.cells {
-            let (past, sent) = cell.close();
-            pasts.push(past)?;
-            sents.push(sent)?;
-        }
-        record.cells = Items::of(pasts);
-        record.sents = Items::of(sents);
-        Ok(record)
+        let Play {
+            alloc,
+            config: _,
+            seed: _,
+            columns,
+            cells,
+            requests: _,
+        } = self;
+        let record = columns.into_record()?;
+        let (mut whole, left) = both(record, close_cells(alloc, cells))?;
+        whole.cells = Items::of(left.pasts);
+        whole.sents = Items::of(left.sents);
+        Ok(whole)
     }
 
     // The method of a request, as a response is written for it.

@@ -1,7 +1,6 @@
 use Rattle.std.proofs.Common.{◌≡◌, ◌∙◌, ◌<◌, ◌≤◌, ap, arith, length, refl, sym}
 use Rattle.monitor_model.specs.Cell.{incarnation, last_booted}
 use Rattle.monitor_model.specs.Stage.{Stand}
-use Rattle.okws_play.proofs.Cells.{always}
 use Rattle.okws_play.proofs.Changing.{booted_run, booted_state, booted_most, seat_self, seat_from, later_here}
 use Rattle.okws_play.proofs.Running.{at_cell, stand_now, board_config, board_worker}
 use Rattle.okws_play.proofs.play.run.Play.boot_freshly.Goals as goal
@@ -35,10 +34,10 @@ invariant_of-self-2 g c =
 pub returns-clause-state : goal.returns-clause-state
 returns-clause-state g c =
     let at = at_cell _ _ _ _ _ c.args.self.now c.args.service c.index_mut.result.now c.self.invariant c.self.view_is c.requires.service c.index_mut.ensures.value in
-    always c.print_heard.result (booted_state _ _ _ _ _ _ _ c.args.service c.greatest-incarnation.result c.index_mut.result.now c.boot_cell.new.cell at c.in_ok-boot_cell.ensures.ok c.greatest-incarnation.ensures.is c.in_ok-note.ensures.ok)
+    (booted_state _ _ _ _ _ _ _ c.args.service c.greatest-incarnation.result c.index_mut.result.now c.boot_cell.new.cell at c.in_ok-boot_cell.ensures.ok c.greatest-incarnation.ensures.is c.in_ok-note.ensures.ok)
 
 pub returns-clause-there : goal.returns-clause-there
 returns-clause-there g c =
     let at = at_cell _ _ _ _ _ c.args.self.now c.args.service c.index_mut.result.now c.self.invariant c.self.view_is c.requires.service c.index_mut.ensures.value in
     let number = ap (λ (t : Stand). incarnation t.past) (stand_now c.self.inside.cells.items c.args.service c.boot_cell.new.cell at.below ∙ c.in_ok-boot_cell.ensures.ok) in
-    always c.print_heard.result (omega (arith, number, later_here _ _ _ _ _ _ c.args.service c.index_mut.result.now c.greatest-incarnation.result at c.greatest-incarnation.ensures.is c.requires.later))
+    (omega (arith, number, later_here _ _ _ _ _ _ c.args.service c.index_mut.result.now c.greatest-incarnation.result at c.greatest-incarnation.ensures.is c.requires.later))

@@ -218,10 +218,17 @@ impl Counting {
 
 /// Counts the frames of each kind, and the Denied frames of each rule, by the lines that tell of them.
 /// What is printed to it takes no memory, and contracts alone see it.
-#[derive(Drop)]
 pub struct Tally {
     counting: Counting,
     given: Told<Items<u8>>,
+}
+
+impl Drop for Tally {
+    fn drop(self) {
+        let Tally { counting, given } = self;
+        drop(counting);
+        drop(given);
+    }
 }
 
 impl Model for Tally {

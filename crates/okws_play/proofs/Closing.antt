@@ -60,8 +60,8 @@ pub record HasClosed (C : Config) (seed : List ℕ) (stands : List Stand) (yield
   pub pasts_are : pasts ≡ map past_of (stands_by yielded)
   pub closed : AreClosed C seed 0 pasts sents
 
-pub has_none : (C : Config) (seed : List ℕ) (cells : List Standing) → AreSeats C seed 0 cells → HasClosed C seed (stands_by cells) [] cells [] []
-has_none C seed cells h = record { seats = h; stands_are = refl; pasts_are = refl; closed = tt }
+pub has_none : (C : Config) (seed : List ℕ) (cells rest : List Standing) (pasts : List (List CellEvent)) (sents : List (List Sent)) → rest ≡ cells → pasts ≡ [] → sents ≡ [] → AreSeats C seed 0 cells → HasClosed C seed (stands_by cells) [] rest pasts sents
+has_none C seed cells rest pasts sents all none unsent h = rw (all, none, unsent) (record { seats = h; stands_are = refl; pasts_are = refl; closed = tt })
 
 pub has_more : (C : Config) (seed : List ℕ) (stands : List Stand) (yielded rest more : List Standing) (c : Standing) (pasts : List (List CellEvent)) (sents : List (List Sent)) (past : List CellEvent) (sent : List Sent) → HasClosed C seed stands yielded rest pasts sents → rest ≡ c ∷ more
     → past ≡ cell_with_open c.open_dialog c.past → sent ≡ all_sent (last_booted c.past) c.link c.sent → AreSent c.config c.seed c.service past sent

@@ -1,9 +1,9 @@
-use Rattle.std.proofs.Common.{◌≡◌, ◌∙◌, ◌∷◌, [], sym}
+use Rattle.std.proofs.Common.{◌≡◌, ◌∙◌, ◌∷◌, [], rules, sym}
 use Rattle.okws_play.proofs.Closing.{has_none, has_more, has_all, nothing_left}
 use Rattle.okws_play.proofs.play.cells.close_cells.Goals as goal
 
 pub loop-cell-init : goal.loop-cell-init
-loop-cell-init c = λ C seed seats. has_none C seed c.args.cells.items seats
+loop-cell-init c = λ C seed seats. has_none C seed c.args.cells.items c.into_iter-cell-iterator.result.rest.items _ _ (search rules) (search rules) (search rules) seats
 
 pub loop-cell-preserved : goal.loop-cell-preserved
 loop-cell-preserved c = λ C seed seats.

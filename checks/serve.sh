@@ -461,7 +461,7 @@ def what_goes_wrong_is_told_on_standard_error():
         same(server.ends()[1], 7)
         same(server.told(), ['okws: listening on 127.0.0.1:%d' % server.port, 'okws: log: could not be opened: No such file or directory']
              + [f'okws: service 1 incarnation {k}: could not be started: No such file or directory' for k in (1, 2, 3)])
-    program('ends', 'read x\nexit 3\n')
+    program('ends', 'head -c 40 >/dev/null\nexit 3\n')
     with Server(SITE % './ends', 1) as server:
         same(get(server.port, '/other'), BAD_GATEWAY)
         same(server.ends()[1], 0)

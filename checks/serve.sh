@@ -14,7 +14,7 @@ for name in svc_guest svc_probe; do
 done
 cd "$folder" || exit 1
 python3 - "$program" "$only" <<'P'
-import fcntl, os, resource, shutil, signal, socket, struct, subprocess, sys, termios, threading, time
+import fcntl, os, resource, shutil, signal, socket, sqlite3, struct, subprocess, sys, termios, threading, time
 
 PROGRAM, ONLY = sys.argv[1], sys.argv[2]
 
@@ -492,6 +492,15 @@ def a_file_of_rows_has_all_rows_after_an_orderly_end():
         same(get(server.port), response('200 OK', '1 ann\n2 bob\n3 cy\n'))
         same(server.ends()[1], 0)
 
+def a_new_file_of_rows_has_its_tables_when_the_doors_open():
+    with Server(SITE % './svc_probe', 1, '--store', 'begun') as server:
+        shutil.copy('begun.0', 'alone.0')
+        database = sqlite3.connect('alone.0')
+        same(database.execute('SELECT c1 FROM t0 ORDER BY c0').fetchall(), [('ann',), ('bob',)])
+        database.close()
+        same(get(server.port), ANN_AND_BOB)
+        same(server.ends()[1], 0)
+
 def rows_of_tables_or_columns_in_another_order_are_refused():
     for name, lines in [('tables', ['table main one id INT KEY a TEXT', 'table main two id INT KEY a TEXT']), ('columns', ['table main one id INT KEY a TEXT b TEXT'])]:
         write('ordered', 'okws 1\nproxy main\n' + '\n'.join(lines) + '\n')
@@ -535,6 +544,7 @@ CHECKS = [
     a_port_is_free_at_once_after_a_run, a_service_that_leaves_another_holds_nobody, a_server_without_standard_input_has_no_operator,
     a_server_without_standard_output_tells_no_client, connections_wait_where_there_is_no_descriptor_for_them,
     what_goes_wrong_is_told_on_standard_error, a_child_has_path_alone_and_three_descriptors, a_file_of_rows_has_all_rows_after_an_orderly_end,
+    a_new_file_of_rows_has_its_tables_when_the_doors_open,
     rows_of_tables_or_columns_in_another_order_are_refused, who_holds_a_file_of_rows_for_a_moment_is_waited_for, a_page_of_many_places_is_refused_soon,
 ]
 passed = failed = 0
@@ -544,7 +554,7 @@ for check in CHECKS:
     try:
         check()
         passed += 1
-    except (AssertionError, OSError, subprocess.TimeoutExpired) as why:
+    except (AssertionError, OSError, sqlite3.Error, subprocess.TimeoutExpired) as why:
         failed += 1
         print(f'{check.__name__}: {why}', flush=True)
 print(f'{passed} passed, {failed} failed')

@@ -19,6 +19,7 @@ use okws_plan::statement::{Answer, Statement};
 use sqlite::{Connection, Error, ErrorCode, File, FileStore};
 use sqlite_keeper::SqliteKeeper;
 use std::alloc::{AllocError, Global};
+use std::fs;
 
 /// A keeper whose rows stand in a file. It hides of what the keeper is made: a program that holds stores
 /// is proved without comparing the parts of a database.
@@ -157,6 +158,26 @@ fn open(rt: &HostRuntime, name: &str) -> Result<Connection<FileStore<File>>, Mak
     Err(MakeError::Failed)
 }
 
+/// Makes the tables of a file that isn't there yet, and copies them into it, so that it has them also after a run that was
+/// killed.
+fn make_file(
+    rt: &HostRuntime,
+    alloc: Global,
+    name: &str,
+    tables: &[Table],
+) -> Result<(), MakeError> {
+    if fs::metadata(rt, name).is_ok() {
+        return Ok(());
+    }
+    match FileKeeper::new(alloc, open(rt, name)?, tables) {
+        Ok(keeper) => {
+            keeper.close();
+            Ok(())
+        }
+        Err((why, _)) => Err(why),
+    }
+}
+
 /// A keeper for tables over the database of a file.
 fn keeper_over(
     rt: &HostRuntime,
@@ -169,6 +190,7 @@ fn keeper_over(
     ensures filed { IfOk result (λ k. IsFiled tables.now k.keeper.conn) }
     ensures unlimited { IfOk result (λ k. k.keeper.conn.step_limit ≡ None) }
 {
+    make_file(rt, alloc, name, tables)?;
     match FileKeeper::new(alloc, open(rt, name)?, tables) {
         Ok(keeper) => Ok(keeper),
         Err((why, _)) => Err(why),

@@ -1,8 +1,8 @@
 """Makes the checks of this folder: run.py OKWS [CHECK]. See checks/kits.sh."""
 import sys
-import of_confinement, of_kits
+import of_bridges, of_confinement, of_kits
 from serving import run
 
-passed, failed, skipped = run([*of_kits.CHECKS, *of_confinement.CHECKS], ''.join(sys.argv[2:3]))
+passed, failed, skipped = run([*of_kits.CHECKS, *of_confinement.CHECKS, *of_bridges.CHECKS], ''.join(sys.argv[2:3]))
 print(f'{passed} passed, {failed} failed' + (f', {skipped} skipped' if skipped else ''))
 sys.exit(failed != 0)

@@ -10,6 +10,7 @@ browser=${3:-chromium}
 folder=$(mktemp -d)
 trap 'rm -rf "$folder"' EXIT
 cp "$services/svc_guest" "$folder/" 2>/dev/null || cp "$services/svc_guest/out/svc_guest" "$folder/" || exit 1
+cc -O2 -o "$folder/okws-run" "$examples"/../tools/okws-run/*.c || exit 1
 cd "$folder" || exit 1
 python3 - "$program" "$examples" "$browser" <<'P'
 import json, os, socket, subprocess, sys, threading

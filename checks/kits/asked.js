@@ -7,7 +7,12 @@ const okws = require(process.argv[2] + '/okws.js')
 console.log('a stray line before the first frame')
 
 function shown (site, request) {
-  const pairs = { 'query a': request.query.getAll('a'), 'form a': request.form.getAll('a'), 'cookie c': request.cookies.getAll('c'), 'field x-a': request.fields.getAll('X-A') }
+  const pairs = {
+    'query a': request.query.getAll('a'),
+    'form a': request.form.getAll('a'),
+    'cookie c': request.cookies.getAll('c'),
+    'field x-a': request.fields.getAll('X-A')
+  }
   const lines = [`${request.method} ${request.path}`, ...Object.entries(pairs).map(([name, values]) => `${name}: ${values.join('|')}`)]
   return lines.join('\n') + `\ncontent ${request.content.length}\n`
 }

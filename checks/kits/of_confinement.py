@@ -1,5 +1,5 @@
 """What a service reaches on the machine, plain and behind okws-run."""
-import os, re, subprocess, time
+import os, re, shutil, subprocess, time
 from serving import OKWS, PYTHON, TOP, Server, Skipped, ask, children_of, needs, same, tree_of, wait_until, write
 from of_kits import guestbook
 
@@ -79,16 +79,16 @@ def what_is_named_is_given():
     assert 'PermissionError' in run_confined(['--read', 'given'], writes).stderr
     same(run_confined(['--write', 'given'], writes).stderr, '')
     assert 'PermissionError' in run_confined(['--read', 'told'], runs).stderr
-    same(run_confined(['--run', './told', '--run', '/usr/bin/dash', '--run', '/bin/cat'], runs).stdout, 'a b\nreached\n')
+    same(run_confined(['--run', './told', '--run', '/bin/cat'], runs).stdout, 'a b\nreached\n')
     same(run_confined(['--env', 'A=b=c'], python("import os; print(os.environ['A'], sorted(os.environ))")).stdout, "b=c ['A', 'LANG', 'PATH']\n")
     same(run_confined([], ['env'], env={'SECRET': '1'}).stdout, 'PATH=/usr/local/bin:/usr/bin:/bin\nLANG=C.UTF-8\n')
 
 def a_socket_is_of_the_internets_kinds_and_only_with_network():
-    opens = python("import socket, sys; [socket.socket(kind).close() for kind in (socket.AF_INET, socket.AF_INET6)]; socket.socket(socket.AF_UNIX)")
-    assert "socket.AF_INET" in run_confined([], opens).stderr or 'PermissionError' in run_confined([], opens).stderr
-    only = run_confined(['--network'], opens)
-    assert 'PermissionError' in only.stderr and only.returncode == 1, only.stderr
-    same(run_confined(['--network'], python(opens[2].rpartition(';')[0])).stderr, '')
+    opens = python("import socket; [socket.socket(kind).close() for kind in (socket.AF_INET, socket.AF_INET6)]; socket.socket(socket.AF_UNIX)")
+    of_the_internet = python(opens[2].rpartition(';')[0])
+    assert 'PermissionError' in run_confined([], of_the_internet).stderr
+    same(run_confined(['--network'], of_the_internet).stderr, '')
+    assert 'PermissionError' in run_confined(['--network'], opens).stderr
 
 def memory_is_limited():
     fills = python("b = bytearray(300 << 20); print(len(b) >> 20)")
@@ -102,8 +102,8 @@ def descriptors_are_not_inherited():
     assert 'Bad file descriptor' in run.stderr, run.stderr
 
 def words_that_ask_for_nothing_are_refused():
-    for words in ([], ['--read'], ['--read', 'nowhere', '/bin/true'], ['--memory', 'x', '/bin/true'], ['--seconds', '0', '/bin/true'], ['--all', 'x', '/bin/true'],
-                  ['--env', 'A', '/bin/true'], ['nowhere'], ['./nowhere']):
+    for words in ([], ['--read'], ['--read', 'nowhere', '/bin/true'], ['--memory', 'x', '/bin/true'], ['--seconds', '0', '/bin/true'],
+                  ['--all', 'x', '/bin/true'], ['--env', 'A', '/bin/true'], ['nowhere'], ['./nowhere']):
         run = run_confined([], words)
         same((words, run.returncode, run.stdout, run.stderr.startswith('okws-run: ')), (words, 126, '', True))
 
@@ -155,6 +155,59 @@ def the_kits_examples_run_confined():
             with Server(SITE.format(words=f'./okws-run {options}{service}')) as server:
                 same((kit, options, ask(server.port, '/spy?name=a+b').text), (kit, options, 'hello a b\n1 ann\n'))
 
+def a_folder(name, **links):
+    """A folder with links to these."""
+    os.makedirs(name, exist_ok=True)
+    for link, target in links.items():
+        os.symlink(os.path.abspath(target), f'{name}/{link}')
+    return name
+
+def the_site_of_the_examples_is_served():
+    needs('node', '/usr/bin/node')
+    folder = a_folder('repository', kits=f'{TOP}/kits', bin='.')
+    with open(f'{TOP}/examples/hello.okws') as f, Server(f.read(), folder=folder) as server:
+        for path in ('/hello', '/hello-c', '/hello-node'):
+            same((path, ask(server.port, f'{path}?name=%3Cann%3E').text), (path, 'hello <ann>\n1 ann\n2 bob\n'))
+
+def the_guestbook_of_the_examples_is_served():
+    folder = a_folder('bin-folder', **{'okws-run': 'okws-run', 'svc_guest': svc_guest()})
+    with open(f'{TOP}/examples/guestbook.okws') as f, Server(f.read(), folder=folder) as server:
+        same(ask(server.port, '/guest').text, '1 ann\n2 bob\n')
+        server.publishes('page', '<p>@{rows}')
+        same(ask(server.port, '/guest', b'id=3&who=cy&note=').status, 303)
+        same(ask(server.port, '/guest').text, '<p>1 ann\n2 bob\n3 cy\n')
+
+def page_of_the_kits():
+    """The page's first service and its lines of a configuration, and its line of bubblewrap's."""
+    with open(f'{TOP}/docs/KITS.md') as f:
+        page = f.read()
+    program = re.search(r'```python\n(.*?)```', page, re.S)[1]
+    lines = re.search(r'^    service hello .*\n    uri .*\n    grant .*\n', page, re.M)[0].replace('    ', '')
+    bubblewrap = ' '.join(re.search(r'^    service guest (env -i PATH=.* bwrap .*\n .*)\n', page, re.M)[1].split())
+    return program, lines, bubblewrap
+
+SIGNED = "okws 1\nproxy main\ntable main msgs id INT KEY who TEXT\nrow main msgs 1 'ann'\nquery main 1 SELECT id, who FROM msgs\n"
+
+def the_first_service_of_the_page_is_served():
+    program, lines, _ = page_of_the_kits()
+    folder = a_folder('first', **{'okws-run': 'okws-run'})
+    os.makedirs('first/hello')
+    shutil.copy(f'{TOP}/kits/python/okws.py', 'first/hello')
+    write('first/hello/hello.py', program, 0o755)
+    with Server(SIGNED + lines, folder=folder) as server:
+        same(ask(server.port, '/hello?name=%3Cbob%3E').text, '<p>hello &lt;bob&gt;, 1 have signed')
+
+def the_pages_line_of_bubblewrap_confines():
+    needs('bwrap')
+    bubblewrap = page_of_the_kits()[2].replace('--ro-bind guest /guest /guest/guest.py', f'--ro-bind {TOP} {TOP} {SPY}')
+    if subprocess.run(bubblewrap.replace(SPY, 'true').split(), capture_output=True).returncode:
+        raise Skipped('bwrap gets no namespaces here')
+    found = spied('/usr/bin/' + bubblewrap)
+    # It runs in a world of its own, where it is its own neighbour: there it may look, write, open sockets and start processes.
+    reached = [attempt for attempt in ('read the rows of every proxy', 'look at the pipes of another service', 'read the accounts of the machine',
+                                       'change the mode of the rows', 'kill another service', 'call a query that is not granted') if found[attempt] == 'yes']
+    same((reached, os.path.exists('planted')), ([], False))
+
 def svc_guest():
     for path in (f'{os.path.dirname(OKWS)}/svc_guest', f'{TOP}/bin/svc_guest', f'{TOP}/crates/svc_guest/out/svc_guest'):
         if os.path.exists(path):
@@ -166,5 +219,7 @@ CHECKS = [
     a_spy_reaches_nothing_where_the_kernel_is_older, a_kernel_without_landlock_is_told, what_is_named_is_given,
     a_socket_is_of_the_internets_kinds_and_only_with_network, memory_is_limited, descriptors_are_not_inherited, words_that_ask_for_nothing_are_refused,
     a_dialog_that_takes_too_long_is_ended, a_confined_service_ends_with_the_server, the_kits_examples_run_confined,
+    the_site_of_the_examples_is_served, the_guestbook_of_the_examples_is_served, the_first_service_of_the_page_is_served,
+    the_pages_line_of_bubblewrap_confines,
     guestbook('the_confined_svc_guest_passes_the_guestbooks_checks', lambda: f'{os.getcwd()}/okws-run {svc_guest()}'),
 ]

@@ -65,7 +65,7 @@ const char *found(const char *program) {
     return NULL;
 }
 
-/* Allows a program to be run, and what its first line `#!` names; of `#!/usr/bin/env NAME` also NAME. */
+/* Allows a program to be run (or those of a folder), and what its first line `#!` names; of `#!/usr/bin/env NAME` also NAME. */
 static void allow_program(int ruleset, uint64_t known, const char *program) {
     char line[256] = "", interpreter[256], word[256] = "";
     allow(ruleset, known, program, MAY_RUN, 1);
@@ -79,14 +79,12 @@ static void allow_program(int ruleset, uint64_t known, const char *program) {
 }
 
 static const char *const READ_BY_ALL[] = {"/usr", "/lib", "/lib32", "/lib64", "/libx32", "/bin", "/etc/ld.so.cache", "/etc/localtime", "/etc/alternatives",
-    "/etc/ssl/openssl.cnf",
-    "/dev/urandom", "/dev/random", "/dev/zero"};
+    "/etc/ssl/openssl.cnf", "/dev/urandom", "/dev/random", "/dev/zero"};
 static const char *const READ_FOR_NETWORK[] = {"/etc/resolv.conf", "/etc/hosts", "/etc/nsswitch.conf", "/etc/gai.conf", "/etc/host.conf", "/etc/services",
     "/etc/ssl", "/etc/ca-certificates", "/run/systemd/resolve"};
 static const char *const LINKERS[] = {"/lib/ld-*.so*", "/lib64/ld-*.so*"};
 
 void confine_files(const struct asked *a, const char *program) {
-    static const uint64_t accesses[] = {[READS] = MAY_READ, [WRITES] = MAY_WRITE, [RUNS] = MAY_RUN};
     long version = landlock_version();
     if (version < 1) stop("this kernel has no Landlock, so a service can't be confined.", "To start it all the same, leave okws-run and its options out");
     struct rules r = all_rules(version, a->network);
@@ -98,7 +96,10 @@ void confine_files(const struct asked *a, const char *program) {
     for (size_t i = 0; i < sizeof LINKERS / sizeof *LINKERS; i++) allow_pattern(ruleset, r.files, LINKERS[i], MAY_RUN);
     allow(ruleset, r.files, "/dev/null", MAY_READ | LANDLOCK_ACCESS_FS_WRITE_FILE, 0);
     allow_program(ruleset, r.files, program);
-    for (size_t i = 0; i < a->count; i++) allow(ruleset, r.files, a->paths[i].path, accesses[a->paths[i].access], 1);
+    for (size_t i = 0; i < a->count; i++) {
+        if (a->paths[i].access == RUNS) allow_program(ruleset, r.files, a->paths[i].path);
+        else allow(ruleset, r.files, a->paths[i].path, a->paths[i].access == WRITES ? MAY_WRITE : MAY_READ, 1);
+    }
     if (syscall(SYS_landlock_restrict_self, ruleset, 0)) stop("cannot restrict:", strerror(errno));
     close(ruleset);
 }

@@ -3,9 +3,9 @@
  *   service guest okws-run [--read PATH].. [--write PATH].. [--run PATH].. [--env NAME=VALUE].. [--network] [--memory MIB] [--seconds N] PROGRAM WORD..
  *
  * PROGRAM has its two pipes, standard error, and what it needs to start: /usr, /lib* and /bin to read, itself to run, an environment of PATH, LANG and what
- * --env names. It reads and writes no other file, starts no other program, opens no socket, has no capability, sees and reaches no other process.
+ * --env names. It reads and writes no other file, starts no other process, opens no socket, has no capability, sees and reaches no other process.
  *   --read, --write  a file, or a folder with all below it; --write has --read in it
- *   --run            likewise, and PROGRAM may start what stands there: it is confined as PROGRAM is
+ *   --run            likewise, and PROGRAM may start what stands there, which is confined as PROGRAM is
  *   --network        sockets of the internet's kinds, and the files by which names and certificates are found
  *   --memory         at most so many mebibytes of data; each process for itself
  *   --seconds        PROGRAM is killed where one dialog takes longer, so that okws answers 502 and launches it again. Frames are relayed then

@@ -1,6 +1,6 @@
 # The gate; the proofs alone; the program; the programs that are services; a server to look at, and one of three requests; the example of a script, proved and
-# unproved; the manual pages; and the index of the definitions and the table of the crates.
-.PHONY: test check bin services run demo play try man docs
+# unproved; the manual pages; the index of the definitions and the table of the crates; and what confines services.
+.PHONY: test check bin services run demo play try man docs okws-run
 PORT ?= 8080
 test:
 	rt ci
@@ -16,9 +16,9 @@ services:
 	cd crates/svc_guest && rt run </dev/null
 	mkdir -p bin
 	cp crates/svc_probe/out/svc_probe crates/svc_guest/out/svc_guest bin
-run: bin services
+run: okws-run bin services
 	examples/serve.sh $(PORT)
-demo: bin services
+demo: okws-run bin services
 	examples/demo.sh $(PORT)
 play: bin
 	bin/okws play examples/site.okws examples/one_dialog.script
@@ -31,3 +31,7 @@ docs/%: docs/%.md
 docs:
 	docs/definitions.py
 	docs/crates.py
+okws-run: bin/okws-run
+bin/okws-run: $(wildcard tools/okws-run/*)
+	mkdir -p bin
+	$(CC) -O2 -o $@ tools/okws-run/*.c

@@ -1,5 +1,5 @@
 #!/usr/bin/env bash
-# Serves the guestbook of examples/guestbook.okws with the page of examples/page.html, by the programs that `make bin services` left in bin.
+# Serves the guestbook of examples/guestbook.okws with the page of examples/page.html, by the programs that `make okws-run bin services` left in bin.
 #   examples/serve.sh PORT [COUNT]     COUNT is the number of connections after which the server ends
 # The page is published on the server's console; the lines that come on standard input go there too. The server's process is this one's.
 # It has eight doors, so that a browser which keeps spare connections open holds up nobody.

@@ -1,4 +1,4 @@
-/* okws.h: services of okws in C: this one header, over C99 and POSIX. docs/KITS.md says more, docs/FRAMES.md what goes over the pipes.
+/* okws.h: services of okws in C: this one header, over C99 and POSIX. docs/KITS.md says more, docs/okws-frames.7.md what goes over the pipes.
  *
  *   #include "okws.h"
  *
@@ -383,7 +383,7 @@ static inline int okws_is_reply(int status, const char *type, const char *locati
     return !*type && !*location;
 }
 
-/* Answers the request. A reply that no frame says (docs/FRAMES.md) is one of 500 instead, and a sentence on standard error. */
+/* Answers the request. A reply that no frame says (docs/okws-frames.7.md) is one of 500 instead, and a sentence on standard error. */
 static inline void okws_reply(okws *s, int status, const char *type, const char *location, const void *content, size_t length) {
     static const char refused[] = "500 Internal Server Error\n";
     okws_begin(s, 0x45);

@@ -1,4 +1,4 @@
-// Services of okws in Node (18 or later): this one file, over Node's own library alone. docs/KITS.md says more, docs/FRAMES.md what goes over the pipes.
+// Services of okws in Node (18 or later): this one file, over Node's own library alone. docs/KITS.md says more, docs/okws-frames.7.md what goes over the pipes.
 //
 //   const okws = require('./okws')
 //   okws.serve(async (site, request) => 'hello ' + okws.escape(request.query.get('name') ?? 'world'))

@@ -1,4 +1,4 @@
-"""Services of okws in Python: this one file, over the standard library alone. docs/KITS.md says more, docs/FRAMES.md what goes over the pipes.
+"""Services of okws in Python: this one file, over the standard library alone. docs/KITS.md says more, docs/okws-frames.7.md what goes over the pipes.
 
     import okws
 

@@ -53,35 +53,24 @@ pub struct Closed<N: Backed, S: Sink> {
     pub drawn: u64,
 }
 
-impl<N: Backed, J: Site, K: Keeper, S: Sink> Seats<N, J, K, S> {
-    // The seats, apart from the names of their locks, and the own list.
-    fn part(self, locks: &Locks<N, J, K, S>) -> (Ends<N, K, S>, Past<Own>)
-        ensures ends { AreOf locks.now self result.0 }
-        ensures rest { RestAt locks.now result.0 }
-        ensures own { result.1 ≡ self.own }
-    {
-        let _okd = &locks.okd;
-        let Seats {
-            alloc: _,
-            number: _,
-            okd,
-            proxies,
-            pubd,
-            oklogd,
-            board,
-            own,
-            spare: _,
-            of: _,
-        } = self;
-        let ends = Ends {
-            okd,
-            proxies,
-            pubd,
-            oklogd,
-            board,
-        };
-        (ends, own.into_past())
-    }
+// A number's seats, apart from the names of their locks, and its own list.
+fn parted<N: Backed, J: Site, K: Keeper, S: Sink>(
+    locks: &Locks<N, J, K, S>,
+    seats: Seats<N, J, K, S>,
+) -> (Ends<N, K, S>, Past<Own>)
+    ensures ends { AreOf locks.now seats result.0 }
+    ensures rest { RestAt locks.now result.0 }
+    ensures own { result.1 ≡ seats.own }
+{
+    let _okd = &locks.okd;
+    let ends = Ends {
+        okd: seats.okd,
+        proxies: seats.proxies,
+        pubd: seats.pubd,
+        oklogd: seats.oklogd,
+        board: seats.board,
+    };
+    (ends, seats.own.into_past())
 }
 
 // Joins a number's seats into these, and gives its own list.
@@ -95,7 +84,7 @@ fn take_in<N: Backed, J: Site, K: Keeper, S: Sink>(
     ensures rest { RestAt locks.now ends.new }
     ensures own { result ≡ seats.own }
 {
-    let (more, own) = seats.part(locks);
+    let (more, own) = parted(locks, seats);
     locks.okd.join(&mut ends.okd, more.okd);
     join_row(&locks.proxies, &mut ends.proxies, more.proxies);
     locks.pubd.join(&mut ends.pubd, more.pubd);
@@ -104,37 +93,32 @@ fn take_in<N: Backed, J: Site, K: Keeper, S: Sink>(
     own
 }
 
-impl<N: Backed, J: Site, K: Keeper, S: Sink> Locks<N, J, K, S> {
-    // Ends all locks by seats into which those of all numbers were joined.
-    fn end(self, ends: Ends<N, K, S>, done: &mut Vec<SiteProxy<N, K>>, count: u16) -> Closed<N, S>
-        requires rest { RestAt self ends }
-        requires count { count ≡ N.launcher + 1 }
-        requires all { (k : ℕ) → k < count → HasAll k ends }
-        requires room { (done.old.items ≡ []) × (length N.site.proxies ≤ vec_capacity done.old) }
-        ensures okd { AllGrow by_entry (sights ends.okd) result.okd.past × ((k : ℕ) → count ≤ k → of by_entry k result.okd.past ≡ []) }
-        ensures proxies { GrownRow by_entry ends.proxies (reverse (map (λ (x : HeldProxy). x.past) done.new.items)) × NoneFrom by_entry count (reverse (map (λ (x : HeldProxy). x.past) done.new.items)) }
-        ensures numbers { RiseFrom 0 (reverse (map (λ (x : HeldProxy). x.number) done.new.items)) }
-        ensures many { vec_len done.new ≡ length N.site.proxies }
-        ensures pubd { AllGrow by_entry (sights ends.pubd) result.pubd.past × ((k : ℕ) → count ≤ k → of by_entry k result.pubd.past ≡ []) }
-        ensures oklogd { AllGrow by_entry (sights ends.oklogd) result.oklogd.past × ((k : ℕ) → count ≤ k → of by_entry k result.oklogd.past ≡ []) }
-        ensures saw { (greatest : List ℕ) × PartsSaw count greatest (parts ends.board) }
-        ensures drew { (hand : ℕ → ℕ) × PartsDrew hand result.drawn (parts ends.board) × ((k : ℕ) → k < result.drawn → hand k < count) }
-    {
-        let Locks {
-            okd,
-            proxies,
-            pubd,
-            oklogd,
-            board,
-            of: _,
-        } = self;
-        end_row(proxies, ends.proxies, done, count);
-        Closed {
-            okd: okd.end(ends.okd),
-            pubd: pubd.end(ends.pubd),
-            oklogd: oklogd.end(ends.oklogd),
-            drawn: board.end(ends.board),
-        }
+// Ends all locks by seats into which those of all numbers were joined.
+fn end<N: Backed, J: Site, K: Keeper, S: Sink>(
+    locks: Locks<N, J, K, S>,
+    ends: Ends<N, K, S>,
+    done: &mut Vec<SiteProxy<N, K>>,
+    count: u16,
+) -> Closed<N, S>
+    requires rest { RestAt locks ends }
+    requires count { count ≡ N.launcher + 1 }
+    requires all { (k : ℕ) → k < count → HasAll k ends }
+    requires room { (done.old.items ≡ []) × (length N.site.proxies ≤ vec_capacity done.old) }
+    ensures okd { AllGrow by_entry (sights ends.okd) result.okd.past × ((k : ℕ) → count ≤ k → of by_entry k result.okd.past ≡ []) }
+    ensures proxies { GrownRow by_entry ends.proxies (reverse (map (λ (x : HeldProxy). x.past) done.new.items)) × NoneFrom by_entry count (reverse (map (λ (x : HeldProxy). x.past) done.new.items)) }
+    ensures numbers { RiseFrom 0 (reverse (map (λ (x : HeldProxy). x.number) done.new.items)) }
+    ensures many { vec_len done.new ≡ length N.site.proxies }
+    ensures pubd { AllGrow by_entry (sights ends.pubd) result.pubd.past × ((k : ℕ) → count ≤ k → of by_entry k result.pubd.past ≡ []) }
+    ensures oklogd { AllGrow by_entry (sights ends.oklogd) result.oklogd.past × ((k : ℕ) → count ≤ k → of by_entry k result.oklogd.past ≡ []) }
+    ensures saw { (greatest : List ℕ) × PartsSaw count greatest (parts ends.board) }
+    ensures drew { (hand : ℕ → ℕ) × PartsDrew hand result.drawn (parts ends.board) × ((k : ℕ) → k < result.drawn → hand k < count) }
+{
+    end_row(locks.proxies, ends.proxies, done, count);
+    Closed {
+        okd: locks.okd.end(ends.okd),
+        pubd: locks.pubd.end(ends.pubd),
+        oklogd: locks.oklogd.end(ends.oklogd),
+        drawn: locks.board.end(ends.board),
     }
 }
 
@@ -167,11 +151,11 @@ pub fn close<N: Backed, J: Site, K: Keeper, S: Sink>(
     let Some(first) = seats.pop() else {
         unreachable!()
     };
-    let (mut ends, own) = first.part(&locks);
+    let (mut ends, own) = parted(&locks, first);
     owns.push_reserved(own);
     while let Some(more) = seats.pop() {
         owns.push_reserved(take_in(&locks, &mut ends, more));
     }
     seats.destroy_empty();
-    locks.end(ends, done, count)
+    end(locks, ends, done, count)
 }

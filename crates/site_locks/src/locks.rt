@@ -21,6 +21,7 @@ use turn_lock::{Seat, Turn};
 
 /// The locks round the columns of a run, and its board. They were made for the workers' numbers and the
 /// launcher's, which is the last.
+#[derive(Drop)]
 pub struct Locks<N: Backed, J: Site, K: Keeper, S: Sink> {
     pub(crate) okd: Turn<SiteOkd<N>>,
     pub(crate) proxies: Vec<Turn<SiteProxy<N, K>>>,
@@ -28,24 +29,6 @@ pub struct Locks<N: Backed, J: Site, K: Keeper, S: Sink> {
     pub(crate) oklogd: Turn<SiteLog<N, S>>,
     pub(crate) board: Board,
     pub(crate) of: PhantomData<J>,
-}
-
-impl<N: Backed, J: Site, K: Keeper + Drop, S: Sink + Drop> Drop for Locks<N, J, K, S> {
-    fn drop(self) {
-        let Locks {
-            okd,
-            proxies,
-            pubd,
-            oklogd,
-            board,
-            of: _,
-        } = self;
-        drop(okd);
-        drop(proxies);
-        drop(pubd);
-        drop(oklogd);
-        drop(board);
-    }
 }
 
 impl<N: Backed, J: Site, K: Keeper, S: Sink> Model for Locks<N, J, K, S> {
@@ -69,6 +52,7 @@ impl<N: Backed, J: Site, K: Keeper, S: Sink> Locks<N, J, K, S> {
 
 /// The seats of one number at the locks and at the board, and its own list. Of the places that its list has
 /// ahead some are spare: each call leaves so many, and an item noted in one takes no memory.
+#[derive(Drop)]
 pub struct Seats<N: Backed, J: Site, K: Keeper, S: Sink> {
     pub(crate) alloc: Global,
     pub(crate) number: u16,
@@ -80,29 +64,6 @@ pub struct Seats<N: Backed, J: Site, K: Keeper, S: Sink> {
     pub(crate) own: Journal<Own>,
     pub(crate) spare: u32,
     pub(crate) of: PhantomData<J>,
-}
-
-impl<N: Backed, J: Site, K: Keeper + Drop, S: Sink + Drop> Drop for Seats<N, J, K, S> {
-    fn drop(self) {
-        let Seats {
-            alloc: _,
-            number: _,
-            okd,
-            proxies,
-            pubd,
-            oklogd,
-            board,
-            own,
-            spare: _,
-            of: _,
-        } = self;
-        drop(okd);
-        drop(proxies);
-        drop(pubd);
-        drop(oklogd);
-        drop(board);
-        drop(own);
-    }
 }
 
 impl<N: Backed, J: Site, K: Keeper, S: Sink> Model for Seats<N, J, K, S> {

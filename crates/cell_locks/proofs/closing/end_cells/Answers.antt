@@ -5,7 +5,7 @@ use Rattle.site_cell.specs.Held.{Held, by_event, events_in}
 use Rattle.turn_lock.specs.Seats.{SeatIs}
 use Rattle.turn_lock.specs.Rows.{RowHas, GrownRow, NoneFrom}
 use Rattle.turn_lock.proofs.Dealt.{map-reverse}
-use Rattle.cell_locks.specs.Row.{Rise}
+use Rattle.cell_locks.specs.Row.{AreCells, Rise}
 use Rattle.cell_locks.specs.Closing.{cell_seat}
 use Rattle.cell_locks.proofs.Joins.{as_many}
 use Rattle.cell_locks.proofs.Seated.{grown_seats, has_seats, none_seats}
@@ -47,7 +47,7 @@ returns-clause-none g c =
 pub returns-clause-services : goal.returns-clause-services
 returns-clause-services g c =
     let done = c.end_row.new.done.items in
-    subst (Rise 0) (sym (ap (map (λ (h : Held). h.standing.service)) c.turned.ensures ∙ (map-reverse (λ (h : Held). h.standing.service) done ∙ c.end_row.ensures.labels))) c.into_turns.ensures.cells
+    subst (Rise 0) (sym (ap (map (λ (h : Held). h.standing.service)) c.turned.ensures ∙ (map-reverse (λ (h : Held). h.standing.service) done ∙ c.end_row.ensures.labels))) (subst AreCells (sym c.into_turns.ensures.same) c.into_turns.ensures.cells)
 
 pub returns-clause-count : goal.returns-clause-count
 returns-clause-count g c =

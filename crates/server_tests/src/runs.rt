@@ -2,6 +2,7 @@
 //! here: the other worked scripts, which are run by the program, and want of memory.
 
 use crate::holding::{MEMORY, holds, same};
+use crate::outside::owned;
 use okws_outer::memory::files::{Entry, MemoryFiles};
 use okws_outer::memory::sink::MemorySink;
 use okws_outer::world::Outside;
@@ -94,15 +95,6 @@ fn run<R: Abort + Wait + Threads + Sync>(
         },
         None => panic!(rt; "the objects are out"),
     }
-}
-
-fn owned(rt: &impl Abort, alloc: Global, words: &[&str]) -> Vec<String> {
-    let mut all = Vec::new(alloc);
-    for word in words {
-        let word = String::from_str(alloc, word).expect(rt, MEMORY);
-        all.push(word).expect(rt, MEMORY);
-    }
-    all
 }
 
 /// A site and a script as files.

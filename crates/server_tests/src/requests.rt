@@ -1,6 +1,6 @@
 //! What clients are answered.
 
-use crate::holding::{holds, same};
+use crate::holding::{MEMORY, holds, same};
 use crate::outside::{Plan, REPLIED, REPLY, child, client, get, own, plain, serve};
 use okws_outer::gate::NoGate;
 use okws_server::status::Status;
@@ -10,7 +10,7 @@ use std::thread::Threads;
 
 /// What a server of one door gives one client, whose service replies `ok` to each request.
 fn answer<R: Abort + AllocGlobal + Wait + Threads + Sync>(rt: &R, bytes: &[u8]) -> Vec<u8> {
-    let bytes = Vec::from_slice(rt.alloc(), bytes).expect(rt, "memory was refused");
+    let bytes = Vec::from_slice(rt.alloc(), bytes).expect(rt, MEMORY);
     let plan = Plan {
         words: &[
             "serve", "site", "--port", "8080", "--doors", "1", "--serve", "1",

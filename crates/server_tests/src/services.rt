@@ -1,6 +1,6 @@
 //! What becomes of services and of the operator's commands.
 
-use crate::holding::{holds, same};
+use crate::holding::{MEMORY, holds, same};
 use crate::outside::{Ended as Run, Plan, REPLIED, REPLY, child, client, get, own, plain, serve};
 use okws_outer::child::Ended;
 use okws_outer::gate::NoGate;
@@ -115,7 +115,7 @@ const LOGS: &[u8] = b"\0\0\0\x07\x44\0\0\0\x02hi\0\0\0\x15\x45\0\xc8\x0atext/pla
 fn logged<R: Abort + AllocGlobal + Wait + Threads + Sync>(rt: &R, openings: &[u64]) -> Run {
     let alloc = rt.alloc();
     let request = get(rt, alloc, "/guest");
-    let openings = Vec::from_slice(alloc, openings).expect(rt, "memory was refused");
+    let openings = Vec::from_slice(alloc, openings).expect(rt, MEMORY);
     let plan = Plan {
         words: &[
             "serve", "site", "--port", "8080", "--serve", "1", "--log", "log",

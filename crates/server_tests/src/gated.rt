@@ -1,7 +1,7 @@
 //! Dialogs and turns that stand open at once.
 
 use crate::gate::{Coming, Held, Hold};
-use crate::holding::{holds, same};
+use crate::holding::{MEMORY, holds, same};
 use crate::outside::{Ended, Plan, REPLIED, bytes, child, client, get, own, plain, serve};
 use okws_outer::gate::Point;
 use std::alloc::Global;
@@ -95,7 +95,7 @@ struct Two {
 fn answer_to(rt: &impl Abort, alloc: Global, ended: &Ended, request: &str) -> Vec<u8> {
     for (asked, answer) in ended.asked.iter().zip(ended.answers.iter()) {
         if asked.as_slice() == request.as_bytes() {
-            return Vec::from_slice(alloc, answer).expect(rt, "memory was refused");
+            return Vec::from_slice(alloc, answer).expect(rt, MEMORY);
         }
     }
     panic!(rt; "nobody asked so")
@@ -110,7 +110,7 @@ fn both<'x, R: Abort + AllocGlobal + Wait + Threads + Sync>(
     let alloc = rt.alloc();
     let (guest, other) = (get(rt, alloc, "/guest"), get(rt, alloc, "/other"));
     let (guest_says, other_says) = (bytes(rt, alloc, GUEST), bytes(rt, alloc, OTHER));
-    let console = Vec::from_slice(alloc, console).expect(rt, "memory was refused");
+    let console = Vec::from_slice(alloc, console).expect(rt, MEMORY);
     let plan = Plan {
         site: SITE,
         words: &[

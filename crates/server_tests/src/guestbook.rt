@@ -1,6 +1,6 @@
 //! The guestbook's requests, frame by frame.
 
-use crate::holding::{holds, same};
+use crate::holding::{MEMORY, holds, same};
 use crate::outside::{Ended, Plan, bytes, child, client, plain, serve};
 use okws_outer::gate::NoGate;
 use std::alloc::Global;
@@ -86,9 +86,7 @@ fn push_request(rt: &impl Abort, heard: &mut Vec<u8>, request: &[u8]) {
         b"\0\0\0\x12",
         content,
     ] {
-        heard
-            .extend_from_slice(part)
-            .expect(rt, "memory was refused");
+        heard.extend_from_slice(part).expect(rt, MEMORY);
     }
 }
 
@@ -98,7 +96,7 @@ fn wanted(rt: &impl Abort, alloc: Global) -> Vec<u8> {
         push_request(rt, &mut heard, request);
         heard
             .extend_from_slice(&bytes(rt, alloc, answer))
-            .expect(rt, "memory was refused");
+            .expect(rt, MEMORY);
     }
     heard
 }

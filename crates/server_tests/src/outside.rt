@@ -1,5 +1,6 @@
 //! A server's outside in memory, what is planned of it, and what a run left.
 
+use crate::holding::MEMORY;
 use crate::shaky::Shaking;
 use okws_base::items::Items;
 use okws_outer::gate::Gate;
@@ -48,7 +49,7 @@ pub const REPLIED: &str =
 /// A request for a path.
 pub fn get(rt: &impl Abort, alloc: Global, path: &str) -> String {
     let request = format!(in alloc; "GET {path} HTTP/1.1\r\nHost: localhost\r\n\r\n");
-    request.expect(rt, "memory was refused")
+    request.expect(rt, MEMORY)
 }
 
 /// The server's own response.
@@ -57,7 +58,7 @@ pub fn own(rt: &impl Abort, alloc: Global, status: &str) -> String {
     let response = format!(in alloc;
         "HTTP/1.1 {status}\r\nContent-Type: text/plain\r\nContent-Length: {length}\r\nConnection: close\r\n\r\n{status}\n"
     );
-    response.expect(rt, "memory was refused")
+    response.expect(rt, MEMORY)
 }
 
 /// The bytes of these hexadecimal digits.
@@ -187,7 +188,7 @@ fn objects<'a, R: Abort, G: Drop>(
     Objects {
         network: MemoryNetwork::new(alloc, plan.clients, &[], plan.listens),
         children: MemoryChildren::new(alloc, plan.children, plan.starts),
-        console: console.expect(rt, "memory was refused"),
+        console: console.expect(rt, MEMORY),
         stores: MemoryStores::new(Shaking { calls: plan.calls }, plan.makings),
         sinks: MemorySinks::new(alloc, 65_536, &[], plan.openings),
         gate,
@@ -195,7 +196,7 @@ fn objects<'a, R: Abort, G: Drop>(
 }
 
 fn copy_of(rt: &impl Abort, alloc: Global, bytes: &[u8]) -> Vec<u8> {
-    Vec::from_slice(alloc, bytes).expect(rt, "memory was refused")
+    Vec::from_slice(alloc, bytes).expect(rt, MEMORY)
 }
 
 fn told_of(rt: &impl Abort, alloc: Global, told: &Option<Items<u8>>) -> Vec<u8> {
@@ -209,10 +210,10 @@ fn told_of(rt: &impl Abort, alloc: Global, told: &Option<Items<u8>>) -> Vec<u8> 
 fn asked_of(rt: &impl Abort, alloc: Global, network: &MemoryNetwork<'_>) -> Vec<Vec<u8>> {
     let mut asked = Vec::new(alloc);
     for door in network.doors() {
-        for served in door.finished().expect(rt, "memory was refused") {
+        for served in door.finished().expect(rt, MEMORY) {
             asked
                 .push(told_of(rt, alloc, &served.came))
-                .expect(rt, "memory was refused");
+                .expect(rt, MEMORY);
         }
     }
     asked
@@ -222,10 +223,10 @@ fn asked_of(rt: &impl Abort, alloc: Global, network: &MemoryNetwork<'_>) -> Vec<
 fn answers_of(rt: &impl Abort, alloc: Global, network: &MemoryNetwork<'_>) -> Vec<Vec<u8>> {
     let mut answers = Vec::new(alloc);
     for door in network.doors() {
-        for served in door.finished().expect(rt, "memory was refused") {
+        for served in door.finished().expect(rt, MEMORY) {
             answers
                 .push(told_of(rt, alloc, &served.given))
-                .expect(rt, "memory was refused");
+                .expect(rt, MEMORY);
         }
     }
     answers
@@ -241,10 +242,10 @@ fn log_of(rt: &impl Abort, alloc: Global, sinks: &MemorySinks<'_>) -> Option<Vec
 
 fn heard_of(rt: &impl Abort, alloc: Global, children: &MemoryChildren<'_>) -> Vec<Vec<u8>> {
     let mut heard = Vec::new(alloc);
-    for end in children.finished().expect(rt, "memory was refused") {
+    for end in children.finished().expect(rt, MEMORY) {
         heard
             .push(told_of(rt, alloc, &end.given))
-            .expect(rt, "memory was refused");
+            .expect(rt, MEMORY);
     }
     heard
 }
@@ -264,16 +265,17 @@ fn ending<R: Abort, G>(
         answers: answers_of(rt, alloc, &things.network),
         console: copy_of(rt, alloc, things.console.given()),
         log: log_of(rt, alloc, &things.sinks),
-        started: started.expect(rt, "memory was refused").len(),
+        started: started.expect(rt, MEMORY).len(),
         heard: heard_of(rt, alloc, &things.children),
     }
 }
 
-fn owned(rt: &impl Abort, alloc: Global, words: &[&str]) -> Vec<String> {
+/// The words, each owned.
+pub fn owned(rt: &impl Abort, alloc: Global, words: &[&str]) -> Vec<String> {
     let mut all = Vec::new(alloc);
     for word in words {
-        let word = String::from_str(alloc, word).expect(rt, "memory was refused");
-        all.push(word).expect(rt, "memory was refused");
+        let word = String::from_str(alloc, word).expect(rt, MEMORY);
+        all.push(word).expect(rt, MEMORY);
     }
     all
 }
@@ -290,7 +292,7 @@ pub fn serve<R: Abort + Wait + Threads + Sync, G: Gate + Sync + Drop>(
         path: "site",
         bytes: plan.site.as_bytes(),
     }];
-    let out = MemorySink::new(alloc, plan.room, &[]).expect(rt, "memory was refused");
+    let out = MemorySink::new(alloc, plan.room, &[]).expect(rt, MEMORY);
     let mut world = Fitted {
         outside: Some(Outside {
             files: MemoryFiles::new(&entries, 4_096, plan.reads),

@@ -1,4 +1,0 @@
-pub mod Makes
-pub mod Rounds
-pub mod Draws
-pub mod Frees

@@ -1,6 +1,0 @@
-use Rattle.std.proofs.Common.{◌≡◌, reverse}
-use Rattle.live_board.specs.Seats.{MayDraw}
-use Rattle.turn_callers.proofs.drawing.Drawer.draw.Given as goal
-
-abbrev pub invariant-loop : goal.invariant-loop
-invariant-loop l = (l.self-inside.seat.board ≡ l.board.id) × (l.self-inside.seat.drawn ≡ reverse l.self-inside.numbers.items) × MayDraw l.self-inside.seat.drawn

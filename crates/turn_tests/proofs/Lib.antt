@@ -1,0 +1,4 @@
+pub mod Adds
+pub mod Rounds
+pub mod Draws
+pub mod Frees

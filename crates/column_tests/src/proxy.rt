@@ -59,7 +59,7 @@ enum Said {
 }
 
 // What is answered to an Open.
-fn said(verdict: &Verdict) -> Said {
+fn open_said(verdict: &Verdict) -> Said {
     match verdict {
         Verdict::Opened(number) => Said::Opened(*number),
         Verdict::Rows { .. } => Said::Rows,
@@ -71,7 +71,7 @@ fn said(verdict: &Verdict) -> Said {
 }
 
 // What is answered to a Call.
-fn said_of<P>(started: &Started<P>) -> Said {
+fn call_said<P>(started: &Started<P>) -> Said {
     match started {
         Started::Ready(_) => Said::Rows,
         Started::Changed(count) => Said::Changed(*count),
@@ -134,13 +134,13 @@ impl<'a> Column<'a> {
     // A session of guest.
     fn open(&mut self, rt: &impl Abort, incarnation: u32, shown: Token) -> Said {
         let verdict = self.proxy.open_session(GUEST, incarnation, shown);
-        said(&verdict.expect(rt, MEMORY))
+        open_said(&verdict.expect(rt, MEMORY))
     }
 
     // A session of other's first incarnation.
     fn open_other(&mut self, rt: &impl Abort) {
         let verdict = self.proxy.open_session(OTHER, 1, first(OTHER));
-        said(&verdict.expect(rt, MEMORY));
+        open_said(&verdict.expect(rt, MEMORY));
     }
 
     // As many sessions of guest's first incarnation.
@@ -165,7 +165,7 @@ impl<'a> Column<'a> {
             args,
         };
         let started = self.proxy.start(call);
-        said_of(&started.expect(rt, MEMORY))
+        call_said(&started.expect(rt, MEMORY))
     }
 
     // A call of guest's first incarnation without arguments.

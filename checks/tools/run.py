@@ -1,16 +1,16 @@
 """Runs the checks of the tools: run.py PROGRAM [CHECK]. The last line is 'N passed, N failed, N skipped'."""
-import os, shutil, subprocess, sys, tempfile, time
+import inspect, os, shutil, subprocess, sys, tempfile, time
 import common
-import seeing, up
+import rows, seeing, up
 
-MODULES = [up, seeing]
+MODULES = [up, seeing, rows]
 
 
 def checks():
-    """The public functions of the modules of checks, in their order."""
+    """The functions without arguments of the modules of checks, in their order."""
     for module in MODULES:
-        for name, found in vars(module).items():
-            if callable(found) and getattr(found, '__module__', '') == module.__name__ and found.__code__.co_argcount == 0:
+        for name, found in list(vars(module).items()):
+            if inspect.isfunction(found) and found.__module__ == module.__name__ and found.__code__.co_argcount == 0:
                 yield name, found
 
 

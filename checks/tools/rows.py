@@ -1,0 +1,92 @@
+"""Checks of okws-backup and okws-migrate."""
+import os, shutil, threading, time
+from common import SITE, Up, ask, has, run, same, write
+
+
+def entries(port):
+    """The numbers of the rows that a site shows."""
+    return [int(line.split()[0]) for line in ask(port)[1].splitlines()]
+
+
+def serves(folder, store, site=SITE):
+    """What a second site shows over a store."""
+    with Up(folder, '--store', store, '--run', 'second', site=site) as up:
+        return entries(up.port)
+
+
+def a_copy_under_writes_has_what_was_answered():
+    written, is_over = [], threading.Event()
+
+    def write_on(port):
+        number = 2
+        while not is_over.is_set():
+            if ask(port, content=f'{number} bob')[0] == 303:
+                written.append(number)
+            number += 1
+
+    with Up('backup', '--store', 'rows') as up:
+        client = threading.Thread(target=write_on, args=(up.port,))
+        client.start()
+        for copy in range(3):
+            time.sleep(0.2)
+            before = list(written)
+            told = run('okws-backup', 'rows', f'copy{copy}', cwd='backup')
+            has(told, 'rows.0 t0 ', 'the server was stopped for')
+            copied = serves('backup', f'copy{copy}/rows')
+            assert set(before) <= set(copied) and copied == list(range(1, len(copied) + 1)), (before, copied)
+        is_over.set()
+        client.join(30)
+        same(len(entries(up.port)), len(written) + 1)
+
+
+def a_copy_of_a_store_that_nobody_has_is_made_too():
+    with Up('cold', '--store', 'the rows') as up:
+        ask(up.port, content='2 bob')
+    has(run('okws-backup', 'the rows', 'a copy', cwd='cold'), 'the rows.0 t0 2 rows')
+    same(oct(os.stat('cold/a copy/the rows.0').st_mode & 0o777), '0o600')
+    same(serves('cold', 'a copy/the rows'), [1, 2])
+    has(run('okws-backup', 'nothing', 'a copy', status=1, cwd='cold'), 'there is no nothing.0')
+    same(sorted(os.listdir('cold/a copy'))[:1], ['the rows.0'])
+
+
+def a_damaged_store_is_no_copy():
+    with Up('damaged', '--store', 'rows') as up:
+        for number in range(2, 60):
+            ask(up.port, content=f'{number} bob')
+    run('okws-backup', 'rows', 'good', cwd='damaged')
+    shutil.copy('damaged/good/rows.0', 'damaged/bad.0')
+    with open('damaged/bad.0', 'r+b') as f:
+        f.seek(4096)
+        f.write(b'\xff' * 4096)
+    run('okws-backup', 'bad', 'copy', status=1, cwd='damaged')
+    same(os.listdir('damaged/copy'), [])
+
+
+NEW = (SITE.replace('note TEXT', 'stars INT note TEXT more BYTES').replace("1 'ann' 'hi'", "1 'ann' 5 'hi' x''")
+       .replace('who, note) VALUES (?1, ?2, ?3)', "who, stars, note, more) VALUES (?1, ?2, 0, ?3, x'')"))
+NEW = NEW.replace('query main 1', "table main extra a INT\nrow main extra 7\nquery main 1", 1)
+
+
+def rows_are_taken_over_to_other_columns():
+    with Up('migrate', '--store', 'rows') as up:
+        same([ask(up.port, content=f'{n} bob')[0] for n in (3, 2)], [303, 303])
+        write('migrate/new.okws', NEW)
+        has(run('okws-migrate', 'site.okws', 'rows', 'new.okws', 'moved', status=1, cwd='migrate'), 'a server has rows')
+    told = run('okws-migrate', 'site.okws', 'rows', 'new.okws', 'moved', cwd='migrate')
+    same(told, 'main.msgs: 3 rows; stars INT is new; more BYTES is new\nmain.extra is new\n')
+    has(run('okws-migrate', 'site.okws', 'rows', 'new.okws', 'moved', status=1, cwd='migrate'), 'is there already')
+    with Up('migrate', '--store', 'moved', site=NEW.replace('SELECT id, who FROM msgs ORDER BY id', 'SELECT stars, note FROM msgs')) as up:
+        same(ask(up.port), (200, '0 hi\n0 \n0 \n'))
+    has(run('okws-backup', 'moved', 'copy', cwd='migrate'), 'moved.0 t0 3 rows', 'moved.0 t1 1 rows')
+    same(serves('migrate', 'rows'), [1, 2, 3])
+
+
+def rows_that_do_not_fit_leave_no_store():
+    with Up('unfit', '--store', 'rows') as up:
+        ask(up.port, content='2 ann')
+    site = SITE.replace('id INT KEY who TEXT', 'id INT who TEXT KEY')
+    write('unfit/new.okws', site)
+    has(run('okws-migrate', 'site.okws', 'rows', 'new.okws', 'moved', status=1, cwd='unfit'), 'UNIQUE')
+    same([name for name in os.listdir('unfit') if name.startswith('moved')], [])
+    write('unfit/new.okws', SITE.replace(' note TEXT', '').replace(" 'hi'", '').replace(', note) VALUES (?1, ?2, ?3)', ') VALUES (?1, ?2)'))
+    same(run('okws-migrate', 'site.okws', 'rows', 'new.okws', 'moved', cwd='unfit'), 'main.msgs: 2 rows; note TEXT has gone\n')

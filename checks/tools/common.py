@@ -69,12 +69,12 @@ def run(tool, *words, status=0, more='', **options):
     return done.stdout + done.stderr
 
 
-def ask(port, path='/notes', content=None, wait=30):
+def ask(port, path='/notes', content=None, wait=30, tls=None):
     """The status and the content that a server answers."""
     method = 'GET' if content is None else 'POST'
     body = (content or '').encode()
-    with socket.create_connection(('127.0.0.1', port), wait) as s:
-        s.sendall(f'{method} {path} HTTP/1.1\r\nHost: localhost\r\nContent-Length: {len(body)}\r\n\r\n'.encode() + body)
+    with socket.create_connection(('127.0.0.1', port), wait) as plain, tls.wrap_socket(plain, server_hostname='localhost') if tls else plain as s:
+        s.sendall(f'{method} {path} HTTP/1.1\r\nHost: localhost\r\nConnection: close\r\nContent-Length: {len(body)}\r\n\r\n'.encode() + body)
         answer = b''
         while piece := s.recv(65536):
             answer += piece

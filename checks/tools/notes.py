@@ -1,7 +1,8 @@
-"""A service for the checks: a GET shows the rows in the page, a POST enters one and logs it; below /slow it waits first. Its argument is its path."""
+"""A service for the checks: a GET shows the rows in the page, a POST enters one and logs it; below /slow/N it waits N seconds first.
+Its argument is its path; with a second one it has no rows, and shows that word."""
 import os, struct, sys, time
 
-OWN = sys.argv[1]
+OWN, WORD = sys.argv[1], sys.argv[2:]
 tokens, sessions, pages = {}, {}, {}
 
 
@@ -59,6 +60,8 @@ def answer(head, content):
     method, target = head.split(b' ')[:2]
     if b'/slow' in target:
         time.sleep(float(target.rpartition(b'/')[2]))
+    if WORD:
+        return 200, b'', WORD[0].encode()
     if method != b'POST':
         return 200, b'', pages.get(b'page', b'@{rows}').replace(b'@{rows}', rows(call(1)[1]))
     number, _, who = content.partition(b' ')

@@ -1,9 +1,9 @@
 """Runs the checks of the tools: run.py PROGRAM [CHECK]. The last line is 'N passed, N failed, N skipped'."""
 import inspect, os, shutil, subprocess, sys, tempfile, time
 import common
-import rows, seeing, up
+import front, rows, seeing, up
 
-MODULES = [up, seeing, rows]
+MODULES = [up, seeing, front, rows]
 
 
 def checks():

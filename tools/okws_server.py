@@ -3,7 +3,7 @@ import dataclasses, os, re, shutil, signal, subprocess, threading, time
 
 PATIENCE = 2.0      # seconds for a child to end by itself, and again once it was told to
 ANSWERS = re.compile(r'published \d+|relaunched \d+|dead \d+|refused \d+ \d+|no memory')
-LISTENS, IS_CONNECTED = '0A', '01'
+IS_CONNECTED = '01'      # the state of a socket of TCP
 
 
 @dataclasses.dataclass(frozen=True)
@@ -59,9 +59,12 @@ def children_of(pid):
 
 
 def sockets_at(port, state):
-    """How many sockets of 127.0.0.1:PORT are in a state of TCP."""
-    with open('/proc/net/tcp') as f:
-        return sum(words[1] == f'0100007F:{port:04X}' and words[3] == state for words in map(str.split, f))
+    """How many sockets of 127.0.0.1:PORT are in a state of TCP, as far as can be seen."""
+    try:
+        with open('/proc/net/tcp') as f:
+            return sum(words[1] == f'0100007F:{port:04X}' and words[3] == state for words in map(str.split, f))
+    except OSError:
+        return 0
 
 
 def wait_for(processes, seconds):
@@ -82,9 +85,9 @@ def end_processes(processes):
 
 class Server:
     """A run of a server, with the words behind `okws`. It ends with this process, however that ends, where the system has setpriv."""
-    def __init__(self, okws, words, environment):
+    def __init__(self, okws, words):
         outlived_by_none = ['setpriv', '--pdeathsig', 'KILL', '--'] if shutil.which('setpriv') else []
-        self.process = subprocess.Popen([*outlived_by_none, okws, *words], stdin=subprocess.PIPE, stdout=subprocess.PIPE, env=environment, process_group=0)
+        self.process = subprocess.Popen([*outlived_by_none, okws, *words], stdin=subprocess.PIPE, stdout=subprocess.PIPE, process_group=0)
         self.turn = threading.Lock()
         self.last = []
 
@@ -110,11 +113,11 @@ class Server:
         return self.process.poll() is None
 
     def has_doors(self):
-        """Whether a door serves yet: each has a thread beside the console's."""
+        """Whether a door serves yet, as far as can be seen: each has a thread beside the console's."""
         try:
             return len(os.listdir(f'/proc/{self.process.pid}/task')) > 1
         except OSError:
-            return False
+            return self.is_there()
 
     def children(self):
         return children_of(self.process.pid) if self.is_there() else {}

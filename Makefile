@@ -1,7 +1,9 @@
 # The gate; the proofs alone; the program; the programs that are services; a server to look at, and one of three requests; the example of a script, proved and
-# unproved; the manual pages; the index of the definitions and the table of the crates; and what confines services.
-.PHONY: test check bin services run demo play try man docs okws-run
+# unproved; the manual pages; the index of the definitions and the table of the crates; what confines services; and what `make bin services` built, installed (DESTDIR,
+# PREFIX) and as a package in dist.
+.PHONY: test check bin services run demo play try man docs okws-run install dist
 PORT ?= 8080
+PREFIX ?= /usr/local
 test:
 	rt ci
 check:
@@ -35,3 +37,7 @@ okws-run: bin/okws-run
 bin/okws-run: $(wildcard tools/okws-run/*)
 	mkdir -p bin
 	$(CC) -O2 -o $@ tools/okws-run/*.c
+install:
+	tools/install.sh $(PREFIX)
+dist:
+	tools/dist.sh dist

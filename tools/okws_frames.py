@@ -1,4 +1,4 @@
-"""Frames between okws and its services, taken apart as docs/FRAMES.md spells them."""
+"""Frames between okws and its services, taken apart as docs/okws-frames.7.md spells them."""
 import dataclasses, struct
 import okws_rules
 

@@ -52,7 +52,7 @@ def a_port():
         return s.getsockname()[1]
 
 
-def wait_until(holds, seconds=30):
+def wait_until(holds, seconds=90):
     until = time.monotonic() + seconds
     while not holds():
         if time.monotonic() > until:
@@ -62,7 +62,7 @@ def wait_until(holds, seconds=30):
 
 def run(tool, *words, status=0, more='', **options):
     """What a tool prints, its standard error behind it, once it has ended with this status."""
-    settings = {'stdin': subprocess.DEVNULL, 'timeout': 60, **options}
+    settings = {'stdin': subprocess.DEVNULL, 'timeout': 120, **options}
     done = subprocess.run([sys.executable, os.path.join(TOOLS, tool), *words], capture_output=True, text=True, **settings)
     if done.returncode != status:
         raise AssertionError(f'{tool} {" ".join(words)} ended with {done.returncode}: {done.stdout}{done.stderr}')
@@ -94,7 +94,7 @@ class Up:
         self.told = os.path.join(self.folder, 'told')
         with open(self.told, 'w') as out:
             self.process = subprocess.Popen(self.words, cwd=self.folder, stdin=subprocess.DEVNULL, stdout=out, stderr=out, env=self.environment)
-        self.limit = threading.Timer(120, self.process.kill)
+        self.limit = threading.Timer(300, self.process.kill)
         self.limit.start()
         if self.wait:
             wait_until(lambda: 'serves' in self.events() or self.process.poll() is not None)
@@ -103,7 +103,7 @@ class Up:
     def __exit__(self, *_):
         self.process.terminate()
         try:
-            self.process.wait(30)
+            self.process.wait(90)
         finally:
             self.limit.cancel()
             self.process.kill()
@@ -113,7 +113,7 @@ class Up:
 
     def ends(self):
         """The status with which it ends by itself."""
-        return self.process.wait(30)
+        return self.process.wait(90)
 
     def ctl(self, *words, status=0):
         return run('okws-ctl', *words, status=status, cwd=self.folder)

@@ -24,7 +24,7 @@ class Front:
     def __enter__(self):
         same(subprocess.run([*self.words, '-c'], capture_output=True, text=True, timeout=30).returncode, 0)
         self.process = subprocess.Popen(self.words, stdin=subprocess.DEVNULL, stdout=subprocess.DEVNULL, stderr=subprocess.DEVNULL)
-        self.limit = threading.Timer(120, self.process.kill)
+        self.limit = threading.Timer(300, self.process.kill)
         self.limit.start()
         wait_until(self.listens)
         return self

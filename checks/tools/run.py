@@ -1,9 +1,9 @@
 """Runs the checks of the tools: run.py PROGRAM [CHECK]. The last line is 'N passed, N failed, N skipped'."""
 import inspect, os, shutil, subprocess, sys, tempfile, time
 import common
-import front, rows, seeing, up
+import front, package, rows, seeing, up
 
-MODULES = [up, seeing, front, rows]
+MODULES = [up, seeing, front, rows, package]
 
 
 def checks():

@@ -1,6 +1,6 @@
 """Checks of okws-show, okws-explain, okws-draw and of completion."""
 import os, re, shutil, subprocess
-import okws_rules
+import okws_frames, okws_rules
 from common import ROOT, TOOLS, Skipped, has, read, run, same, write
 
 EXAMPLES = os.path.join(ROOT, 'examples')
@@ -125,11 +125,16 @@ FRAMES = [
 
 
 def frames_are_taken_apart():
-    """The worked bytes of docs/FRAMES.md."""
+    """The worked bytes of docs/okws-frames.7.md."""
     for digits, words in FRAMES:
-        has(run('okws-explain', 'frame', *digits.split()), words)
-    for digits in ('00000001', '00000001 0d', '00000002 0c 00', '0000000a 42 0000 00000000 0001 01', 'xy'):
-        run('okws-explain', 'frame', *digits.split(), status=2)
+        has(str(okws_frames.read(bytes.fromhex(digits))), words)
+    for digits in ('00000001', '00000001 0d', '00000002 0c 00', '0000000a 42 0000 00000000 0001 01'):
+        try:
+            raise AssertionError(f'{digits}: {okws_frames.read(bytes.fromhex(digits))}')
+        except okws_frames.NoFrame:
+            pass
+    same(run('okws-explain', 'frame', '00000005', '04', '00000000'), 'Opened session 0\n')
+    run('okws-explain', 'frame', 'xy', status=2)
 
 
 def a_run_is_drawn():

@@ -1,0 +1,88 @@
+#!/usr/bin/env bash
+# Makes a tarball and a Debian package of what tools/install.sh installs, in a folder.
+#   tools/dist.sh FOLDER
+# They need glibc, and Python 3.11 for the tools and the kit; no prover and no toolchain. Both name the commit, and the last line of the gate's run over it where
+# $BIN/gate has it (bin/gate without $BIN): `commit HASH`, and below it that line. What Debian's strip, dpkg-deb and pandoc do is left out without them, by name.
+set -euo pipefail
+repository=$(realpath "$(dirname "$0")/..")
+mkdir -p "$1"
+folder=$(realpath "$1")
+work=$(mktemp -d)
+trap 'rm -rf "$work"' EXIT
+cd "$repository"
+commit=$(git rev-parse HEAD)
+version=0.$(git log -1 --format=%cd --date=format:%Y%m%d.%H%M)+git${commit:0:8}
+maintainer=$(git log -1 --format='%an <%ae>')
+gate=${BIN:-bin}/gate
+
+# What the programs were built of, in two lines.
+built() {
+    if [ -n "$(git status --porcelain)" ]; then
+        printf "Built of commit %s, with changes that aren't committed.\nWhat the gate says of it isn't known.\n" "$commit"
+    elif [ -f "$gate" ] && [ "$(sed -n 1p "$gate")" = "commit $commit" ]; then
+        printf 'Built of commit %s.\nThe gate over it ended with: %s\n' "$commit" "$(sed -n 2p "$gate")"
+    else
+        printf "Built of commit %s.\nWhat the gate says of it isn't known.\n" "$commit"
+    fi
+}
+
+strip_programs() {
+    command -v strip >/dev/null || { echo "dist: there is no strip, so the programs keep their symbols"; return; }
+    for program in "$work"/usr/bin/okws "$work"/usr/bin/okws-run "$work"/usr/lib/okws/*; do
+        [ ! -f "$program" ] || strip --strip-unneeded "$program"
+    done
+}
+
+make_tarball() {
+    local tarball=$folder/okws-$version-linux-$(uname -m).tar.gz
+    tar -C "$work/usr" --owner=0 --group=0 --sort=name --mtime="@$(git log -1 --format=%ct)" --transform "flags=r;s,^\.,okws-$version," -czf "$tarball" .
+    echo "$tarball"
+}
+
+# What a package of Debian has beside the tarball's files.
+add_documents() {
+    local doc=$work/usr/share/doc/okws
+    install -D -m 644 "$work/usr/share/okws/tools/okws.logrotate" "$work/etc/logrotate.d/okws"
+    mkdir -p "$doc" "$work/DEBIAN"
+    echo /etc/logrotate.d/okws >"$work/DEBIAN/conffiles"
+    for name in BUILT README.md docs examples; do ln -s "../../okws/$name" "$doc/$name"; done
+    printf 'Copyright %s %s\nThe repository of which this was built states no licence.\n' "$(git log -1 --format=%cd --date=format:%Y)" "$maintainer" >"$doc/copyright"
+    {
+        printf 'okws (%s) unstable; urgency=medium\n\n  * ' "$version"
+        built | sed '2s/^/    /'
+        printf '\n -- %s  %s\n' "$maintainer" "$(git log -1 --format=%cD)"
+    } | gzip -n9 >"$doc/changelog.gz"
+}
+
+make_package() {
+    local package
+    command -v dpkg-deb >/dev/null || { echo "dist: there is no dpkg-deb, so no package of Debian"; return; }
+    add_documents
+    cat >"$work/DEBIAN/control" <<C
+Package: okws
+Version: $version
+Architecture: $(dpkg --print-architecture)
+Maintainer: $maintainer
+Installed-Size: $(du -ks "$work/usr" | cut -f1)
+Depends: libc6 (>= 2.34), python3:any (>= 3.11)
+Suggests: haproxy, nodejs
+Section: web
+Priority: optional
+Description: web server of least-privilege compartments, proved
+ A launcher, a dispatcher, a template publisher, a log daemon, a proxy for
+ each database, and one child program for each web service, which gets from
+ the others what the site's configuration gives it, and nothing else.
+ .
+$(built | fold -sw 76 | sed 's/^/ /; s/ *$//')
+C
+    package=$folder/okws_${version}_$(dpkg --print-architecture).deb
+    chmod -R u=rwX,go=rX "$work"
+    dpkg-deb --root-owner-group -Zxz --build "$work" "$package" >/dev/null
+    echo "$package"
+}
+
+DESTDIR=$work tools/install.sh /usr
+built >"$work/usr/share/okws/BUILT"
+strip_programs
+make_tarball
+make_package

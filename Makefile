@@ -27,7 +27,7 @@ play: bin
 try:
 	@echo "-- nothing of this is proved: make run proves it"
 	cd crates/okws_program && rt try -- play data/site.okws data/one_dialog.script
-man: docs/okws.1 docs/okws-config.5 docs/okws-frames.7
+man: docs/okws.1 docs/okws-tools.1 docs/okws-config.5 docs/okws-frames.7
 docs/%: docs/%.md
 	pandoc --standalone --from markdown-smart --columns 66 --to man --output $@ $<
 docs:

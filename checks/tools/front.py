@@ -1,5 +1,5 @@
 """Checks of okws-front, with HAProxy itself in front of servers on the loopback address."""
-import os, shutil, ssl, subprocess, threading, time
+import os, shutil, ssl, subprocess, threading, time, urllib.error, urllib.request
 from common import SERVICE, SITE, Skipped, Up, a_port, ask, has, run, same, wait_until, write
 
 SLOW = f"""okws 1
@@ -115,6 +115,18 @@ def a_service_without_rows_goes_on_at_the_other_server():
             one.process.kill()
             clients.have(60)
         same(set(clients.answers), {(200, 'hello')})
+
+
+def what_a_bridge_says_in_a_type_comes_as_fields():
+    site = f'okws 1\nservice bridged {SERVICE} /bridged hello text/plain;+okws-status=401;+okws-cookie=a=b\nuri /bridged bridged\n'
+    with Up('bridged', site=site) as up, Front('--bridges', f'bridged/site.okws@{up.port}') as front:
+        with urllib.request.urlopen(f'http://127.0.0.1:{up.port}/bridged', timeout=30) as plain:
+            same((plain.status, plain.headers['Set-Cookie']), (200, None))
+        try:
+            urllib.request.urlopen(f'http://127.0.0.1:{front.port}/bridged', timeout=30)
+            raise AssertionError('the status is no other')
+        except urllib.error.HTTPError as why:
+            same((why.code, why.headers['Set-Cookie'], why.headers['Content-Type'], why.read()), (401, 'a=b', 'text/plain', b'hello'))
 
 
 def no_request_is_lost_between_two_runs():

@@ -1,8 +1,9 @@
 """A service for the checks: a GET shows the rows in the page, a POST enters one and logs it; below /slow/N it waits N seconds first.
-Its argument is its path; with a second one it has no rows, and shows that word."""
+Its argument is its path; with a second one it has no rows, and shows that word, with a third one as its type, in which `+` is a blank."""
 import os, struct, sys, time
 
-OWN, WORD = sys.argv[1], sys.argv[2:]
+OWN, WORD = sys.argv[1], sys.argv[2:3]
+TYPE = ''.join(sys.argv[3:4]).replace('+', ' ') or 'text/plain'
 tokens, sessions, pages = {}, {}, {}
 
 
@@ -82,4 +83,4 @@ while True:
     elif kind == 2:
         size = struct.unpack('>I', payload[:4])[0]
         status, where, said = answer(payload[4:4 + size], payload[8 + size:])
-        put(0x45, struct.pack('>HB', status, 10) + b'text/plain' + bytes([len(where)]) + where + text(said))
+        put(0x45, struct.pack('>HB', status, len(TYPE)) + TYPE.encode() + bytes([len(where)]) + where + text(said))

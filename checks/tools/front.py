@@ -169,3 +169,10 @@ def what_is_no_front_is_refused():
     for words in ([], ['good.okws'], ['good.okws@x'], ['good.okws@80,'], ['--doors', 'x', 'good.okws@80']):
         run('okws-front', *words, status=2)
     has(run('okws-front', '--doors', '9', 'good.okws@80,host:81'), 'server 0 127.0.0.1:80 maxconn 4', 'server 1 host:81 check')
+
+
+CHECKS = [
+    requests_go_by_their_paths, a_service_that_hangs_keeps_its_own_clients_waiting_alone,
+    where_one_of_two_machines_is_killed_no_request_of_the_others_services_is_lost, a_service_without_rows_goes_on_at_the_other_server,
+    what_a_bridge_says_in_a_type_comes_as_fields, no_request_is_lost_between_two_runs, clients_come_by_tls, what_is_no_front_is_refused,
+]

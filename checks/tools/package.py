@@ -121,3 +121,9 @@ def a_package_has_no_error_by_lintian():
         raise Skipped('there is no lintian')
     found = subprocess.run(['lintian', packages()['deb']], capture_output=True, text=True, timeout=120).stdout
     same([line for line in found.splitlines() if line.startswith('E:')], [])
+
+
+CHECKS = [
+    a_new_site_serves_a_page_with_a_form_from_the_tarball, a_new_site_serves_a_page_from_the_repository, a_folder_that_is_there_is_left_alone,
+    an_installed_tree_is_whole, the_unit_is_well_formed, packages_name_the_commit_and_the_gate, a_package_has_no_error_by_lintian,
+]

@@ -90,3 +90,9 @@ def rows_that_do_not_fit_leave_no_store():
     same([name for name in os.listdir('unfit') if name.startswith('moved')], [])
     write('unfit/new.okws', SITE.replace(' note TEXT', '').replace(" 'hi'", '').replace(', note) VALUES (?1, ?2, ?3)', ') VALUES (?1, ?2)'))
     same(run('okws-migrate', 'site.okws', 'rows', 'new.okws', 'moved', cwd='unfit'), 'main.msgs: 2 rows; note TEXT has gone\n')
+
+
+CHECKS = [
+    a_copy_under_writes_has_what_was_answered, a_copy_of_a_store_that_nobody_has_is_made_too, a_damaged_store_is_no_copy,
+    rows_are_taken_over_to_other_columns, rows_that_do_not_fit_leave_no_store,
+]

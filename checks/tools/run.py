@@ -1,17 +1,9 @@
 """Runs the checks of the tools: run.py PROGRAM [CHECK]. The last line is 'N passed, N failed, N skipped'."""
-import inspect, os, shutil, subprocess, sys, tempfile, time
+import os, shutil, subprocess, sys, tempfile, time
 import common
 import front, package, rows, seeing, up
 
-MODULES = [up, seeing, front, rows, package]
-
-
-def checks():
-    """The functions without arguments of the modules of checks, in their order."""
-    for module in MODULES:
-        for name, found in list(vars(module).items()):
-            if inspect.isfunction(found) and found.__module__ == module.__name__ and found.__code__.co_argcount == 0:
-                yield name, found
+CHECKS = [*up.CHECKS, *seeing.CHECKS, *front.CHECKS, *rows.CHECKS, *package.CHECKS]
 
 
 def main():
@@ -20,7 +12,8 @@ def main():
     folder = tempfile.mkdtemp()
     os.chdir(folder)
     try:
-        for name, check in checks():
+        for check in CHECKS:
+            name = check.__name__
             if only and name not in only:
                 continue
             begun = time.monotonic()

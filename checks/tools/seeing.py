@@ -206,3 +206,10 @@ def words_are_completed():
     for words, wanted in COMPLETED:
         found = subprocess.run(['bash', '-c', complete, 'bash', *words], cwd='complete', capture_output=True, text=True, timeout=20).stdout
         same(sorted(found.split()), sorted(wanted.split()))
+
+
+CHECKS = [
+    a_compartment_is_on_one_screen, tables_tell_who_uses_which_column, what_is_odd_is_told, a_refused_configuration_is_shown_in_words,
+    refusals_are_explained_with_a_guess, a_script_is_explained_frame_by_frame, each_rule_of_the_page_has_words, frames_are_taken_apart,
+    a_run_is_drawn, a_refused_script_is_drawn_to_its_line, each_answer_of_a_run_is_drawn, the_page_shows_in_a_browser, words_are_completed,
+]

@@ -27,7 +27,7 @@ const ROWS: &str =
     "000000280502000000020100000000000000010200000003616e6e0100000000000000020200000003626f62";
 
 /// The bytes of these hexadecimal digits.
-fn decoded(rt: &impl Abort, alloc: Global, digits: &str) -> Vec<u8> {
+pub(crate) fn decoded(rt: &impl Abort, alloc: Global, digits: &str) -> Vec<u8> {
     match hex::decode(alloc, digits) {
         Ok(bytes) => bytes,
         Err(_) => panic!(rt; "no hexadecimal digits"),
@@ -35,7 +35,7 @@ fn decoded(rt: &impl Abort, alloc: Global, digits: &str) -> Vec<u8> {
 }
 
 /// The hexadecimal digits of these bytes.
-fn encoded(rt: &impl Abort, alloc: Global, bytes: &[u8]) -> String {
+pub(crate) fn encoded(rt: &impl Abort, alloc: Global, bytes: &[u8]) -> String {
     hex::encode(alloc, bytes).expect(rt, MEMORY)
 }
 

@@ -1,8 +1,10 @@
-//! Tests of the service's end of a link. Not tested here: standard input and output.
+//! Tests of the service's end of a link, and of the guestbook over one. Not tested here: standard input and output.
 #![tactic(auto)]
 
 #[cfg(test)]
 mod fill;
+#[cfg(test)]
+mod guest;
 #[cfg(test)]
 mod holding;
 #[cfg(test)]

@@ -1,15 +1,7 @@
 //! The guestbook: a service that shows entries and takes new ones. It speaks frames over its standard input and output.
 #![tactic(auto)]
 
-mod book;
-mod frames;
-mod guest;
-mod listing;
-mod request;
-#[cfg(test)]
-mod tests;
-
-use guest::guest;
+use guestbook::guest::guest;
 use std::io;
 use std::os::fd::AsRawFd;
 use std::process::ExitCode;

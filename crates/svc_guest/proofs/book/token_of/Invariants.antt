@@ -1,6 +1,0 @@
-use Rattle.std.proofs.Common.{◌≡◌, drop}
-use Rattle.svc_guest.specs.Book.{token_in}
-use Rattle.svc_guest.proofs.book.token_of.Given as goal
-
-abbrev pub invariant-loop-issued : goal.invariant-loop-issued
-invariant-loop-issued l = token_in (drop l.issued-index l.tokens) ≡ token_in l.tokens

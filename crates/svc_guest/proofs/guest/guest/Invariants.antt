@@ -1,5 +1,0 @@
-use Rattle.svc_guest.proofs.Guesting.{Runs}
-use Rattle.svc_guest.proofs.guest.guest.Given as goal
-
-abbrev pub invariant-loop : goal.invariant-loop
-invariant-loop g l = Runs (g.L.Link.wire l.fn.link) l.book (g.L.Link.wire l.link)

@@ -18,6 +18,14 @@ const REQUEST: &str =
 /// The token of that Boot.
 const TOKEN: &str = "0000000000000001ade0b876903df1a0e56a5d40";
 
+/// Why a test stops that was refused memory.
+const MEMORY: &str = "memory was refused";
+
+/// Stops the test, and says where, unless this holds.
+fn holds(rt: &impl Abort, is: bool, at: &str) {
+    assert!(rt; is, "{at}");
+}
+
 /// One letter for each end.
 fn letter_of(end: &Result<(), Early>) -> char {
     match end {
@@ -41,36 +49,31 @@ fn decoded(rt: &impl Abort, alloc: Global, digits: &str) -> Vec<u8> {
 
 /// The hexadecimal digits of these bytes.
 fn encoded(rt: &impl Abort, alloc: Global, bytes: &[u8]) -> String {
-    match hex::encode(alloc, bytes) {
-        Ok(digits) => digits,
-        Err(_) => panic!(rt; "memory was refused"),
-    }
+    hex::encode(alloc, bytes).expect(rt, MEMORY)
 }
 
 /// The probe with these words, which are parted by spaces, hears these frames and says these digits.
 fn says(rt: &impl Abort, alloc: Global, words: &str, frames: &[&str], end: char, digits: &[&str]) {
     let mut link = MemoryLink::new(alloc, 7, &[]);
-    link.make_room(100).expect(rt, "memory was refused");
+    link.make_room(100).expect(rt, MEMORY);
     for frame in frames {
         let bytes = decoded(rt, alloc, frame);
-        link.feed(&bytes).expect(rt, "memory was refused");
+        link.feed(&bytes).expect(rt, MEMORY);
     }
     link.feed_end();
     let mut texts = Vec::new(alloc);
     for word in words.split_whitespace() {
-        let text = String::from_str(alloc, word).expect(rt, "memory was refused");
-        texts.push(text).expect(rt, "memory was refused");
+        let text = String::from_str(alloc, word).expect(rt, MEMORY);
+        texts.push(text).expect(rt, MEMORY);
     }
-    assert!(rt;
-        letter_of(&probe(alloc, &mut link, &texts)) == end,
-        "{words}"
-    );
+    let found = letter_of(&probe(alloc, &mut link, &texts));
+    holds(rt, found == end, words);
     let mut want = String::new(alloc);
     for part in digits {
-        want.push_str(part).expect(rt, "memory was refused");
+        want.push_str(part).expect(rt, MEMORY);
     }
     let said = encoded(rt, alloc, link.given());
-    assert!(rt; said.as_str() == want.as_str(), "{words}");
+    holds(rt, said.as_str() == want.as_str(), words);
 }
 
 #[test]

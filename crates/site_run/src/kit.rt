@@ -35,49 +35,21 @@ use token_core::Seed;
 
 /// Memory that a run takes before it begins: its columns and its cells, whose locks have no names yet, and
 /// what is needed beside them.
+#[derive(Drop)]
 pub struct Kit<N: Backed, K: Keeper, S: Sink, L: Link> {
     pub columns: Made<N, K, S>,
     pub cells: NewCells<N, L>,
     pub stock: Stock<N, K, L>,
 }
 
-impl<N: Backed, K: Keeper + Drop, S: Sink + Drop, L: Link + Drop> Drop for Kit<N, K, S, L> {
-    fn drop(self) {
-        let Kit {
-            columns,
-            cells,
-            stock,
-        } = self;
-        drop(columns);
-        drop(cells);
-        drop(stock);
-    }
-}
-
 /// What is needed beside the locks.
+#[derive(Drop)]
 pub struct Stock<N: Backed, K: Keeper, L: Link> {
     site: Arc<Config, Global>,
     papers: Papers,
     office: Office,
     reader: Reader,
     room: Room<N, K, L>,
-}
-
-impl<N: Backed, K: Keeper + Drop, L: Link + Drop> Drop for Stock<N, K, L> {
-    fn drop(self) {
-        let Stock {
-            site,
-            papers,
-            office,
-            reader,
-            room,
-        } = self;
-        drop(site);
-        drop(papers);
-        drop(office);
-        drop(reader);
-        drop(room);
-    }
 }
 
 impl<N: Backed, K: Keeper, L: Link> Model for Stock<N, K, L> {

@@ -1,6 +1,6 @@
 //! The rows of a site's stores.
 
-ghost use Rattle.std.specs.Prelude.{◌≡◌, Some, true, map, IfOk, IfErr, IsErrOf, IsSome, OnErr};
+ghost use Rattle.std.specs.Prelude.{◌≡◌, [], Some, true, map, IfOk, IfErr, IsErrOf, IsSome, OnErr};
 ghost use Rattle.okws_plan.specs.Sound.{IsSound, is_sound_plan};
 ghost use Rattle.okws_outer.specs.Depots.{IsNewKeeper, with_made};
 ghost use Rattle.okws_outer.specs.Streams.{Rose};
@@ -102,6 +102,14 @@ fn open_proxy<S: Stores>(
     }
 }
 
+// The plans of a site's proxies, which it has no longer.
+fn take_plans(alloc: Global, config: &mut Config) -> Vec<ProxyPlan>
+    ensures plans { result.items ≡ config.old.proxies }
+    ensures rest { config.new ≡ record config.old { proxies = [] } }
+{
+    mem::replace(&mut config.proxies, Items::of(Vec::new(alloc))).into_vec()
+}
+
 /// Makes the keepers of a site's rows over stores in a file, by the proxies' numbers. Where one can't be made,
 /// those that were are given back. The stores keep the rows that they have.
 pub fn open_site<S: Stores>(
@@ -120,7 +128,7 @@ pub fn open_site<S: Stores>(
     ensures failed { IsErrOf result MakeError.Failed → HasFailed (S.depot stores.old) (S.depot stores.new) }
     ensures spared { IsErrOf result MakeError.NoMemory → (S.depot stores.new).faults ≡ (S.depot stores.old).faults }
 {
-    let mut plans = mem::replace(&mut config.proxies, Items::of(Vec::new(alloc))).into_vec();
+    let mut plans = take_plans(alloc, &mut config);
     let count = plans.len();
     let mut keepers = Vec::with_capacity(alloc, count)?;
     for proxy in 0..count {

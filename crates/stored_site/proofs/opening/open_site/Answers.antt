@@ -1,6 +1,7 @@
 use Rattle.std.proofs.Common.{◌≡◌, ◌∙◌, ◌<◌, ℕ, List, Err, Some, ap, arith, length, map, refl, subst, sym, take}
 use Rattle.okws_outer.specs.Depots.{Depot, with_made}
 use Rattle.okws_outer.specs.declared.error.MakeError.TheVariants.{Failed}
+use Rattle.okws_plan.specs.declared.configuration.Config.{Config}
 use Rattle.okws_plan.specs.declared.configuration.ProxyPlan.{ProxyPlan}
 use Rattle.okws_plan.specs.declared.configuration.Table.{Table}
 use Rattle.store_keeper.specs.Alike.{AreAlike}
@@ -14,7 +15,7 @@ use Rattle.stored_site.proofs.opening.open_site.Goals as goal
 pub open_proxy-requires-clause-sound : goal.open_proxy-requires-clause-sound
 open_proxy-requires-clause-sound g c κs within =
     let below : c.loop-proxy.proxy < length c.args.config.proxies =
-    omega (arith, c.loop-proxy-test.true, c.len-count.ensures, c.into_vec-plans.result.ok.0, ap (λ (ps : List ProxyPlan). length ps) c.into_vec-plans.ensures) in
+    omega (arith, c.loop-proxy-test.true, c.len-count.ensures, c.take_plans-plans.result.ok.0, ap (λ (ps : List ProxyPlan). length ps) c.take_plans-plans.ensures.plans) in
     opened_sound (stored.tables-value g.row.S-Keeper g.row.S-Keeper-Pin g.S.Keeper.Keeper g.S.Keeper.Keeper-dict g.S.Keeper.Pin.Pinned g.S.Keeper.Pin.Pinned-dict g.S.Keeper.Pin.Destruct-dict).it (stored.told-value g.row.S-Keeper g.row.S-Keeper-Pin g.S.Keeper.Keeper g.S.Keeper.Keeper-dict g.S.Keeper.Pin.Pinned g.S.Keeper.Pin.Pinned-dict g.S.Keeper.Pin.Destruct-dict).it (AllTell g.S.Keeper.Keeper.told) c.args.config.proxies c.loop-proxy.plans.items c.loop-proxy.proxy c.loop-proxy.keepers.items c.index.result.now c.requires.plans below c.index.ensures c.loop-proxy.invariant.opened
 
 pub returns-in-Err-clause-failed : goal.returns-in-Err-clause-failed
@@ -32,7 +33,7 @@ returns-in_err-keepers-clause-asked g c = on_err c.from_residual.result _ (asked
 pub returns-in-Err-clause-asked : goal.returns-in-Err-clause-asked
 returns-in-Err-clause-asked g c =
     let below : c.loop-proxy.proxy < length c.args.config.proxies =
-    omega (arith, c.loop-proxy-test.true, c.len-count.ensures, c.into_vec-plans.result.ok.0, ap (λ (ps : List ProxyPlan). length ps) c.into_vec-plans.ensures) in
+    omega (arith, c.loop-proxy-test.true, c.len-count.ensures, c.take_plans-plans.result.ok.0, ap (λ (ps : List ProxyPlan). length ps) c.take_plans-plans.ensures.plans) in
     asked_back c.args.file.now c.args.config.proxies c.loop-proxy.proxy c.index.result.now (g.S.Stores.depot c.args.stores.now) (g.S.Stores.depot c.loop-proxy.stores) (g.S.Stores.depot c.open_proxy.new.stores) (g.S.Stores.depot c.give_back.new.stores)
     c.loop-proxy.invariant.depot below (opened_here (stored.tables-value g.row.S-Keeper g.row.S-Keeper-Pin g.S.Keeper.Keeper g.S.Keeper.Keeper-dict g.S.Keeper.Pin.Pinned g.S.Keeper.Pin.Pinned-dict g.S.Keeper.Pin.Destruct-dict).it (stored.told-value g.row.S-Keeper g.row.S-Keeper-Pin g.S.Keeper.Keeper g.S.Keeper.Keeper-dict g.S.Keeper.Pin.Pinned g.S.Keeper.Pin.Pinned-dict g.S.Keeper.Pin.Destruct-dict).it (AllTell g.S.Keeper.Keeper.told) c.args.config.proxies c.loop-proxy.plans.items c.loop-proxy.proxy c.loop-proxy.keepers.items c.index.result.now below c.index.ensures c.loop-proxy.invariant.opened)
     c.in-Err.ensures.tried
@@ -42,7 +43,7 @@ returns-in-Err-clause-asked g c =
 pub loop-proxy-preserved : goal.loop-proxy-preserved
 loop-proxy-preserved g c =
     let below : c.loop-proxy.proxy < length c.args.config.proxies =
-    omega (arith, c.loop-proxy-test.true, c.len-count.ensures, c.into_vec-plans.result.ok.0, ap (λ (ps : List ProxyPlan). length ps) c.into_vec-plans.ensures) in
+    omega (arith, c.loop-proxy-test.true, c.len-count.ensures, c.take_plans-plans.result.ok.0, ap (λ (ps : List ProxyPlan). length ps) c.take_plans-plans.ensures.plans) in
     record {
       opened = opened_next (stored.tables-value g.row.S-Keeper g.row.S-Keeper-Pin g.S.Keeper.Keeper g.S.Keeper.Keeper-dict g.S.Keeper.Pin.Pinned g.S.Keeper.Pin.Pinned-dict g.S.Keeper.Pin.Destruct-dict).it (stored.told-value g.row.S-Keeper g.row.S-Keeper-Pin g.S.Keeper.Keeper g.S.Keeper.Keeper-dict g.S.Keeper.Pin.Pinned g.S.Keeper.Pin.Pinned-dict g.S.Keeper.Pin.Destruct-dict).it (AllTell g.S.Keeper.Keeper.told) c.args.config.proxies c.loop-proxy.plans.items _ c.loop-proxy.proxy c.index.result.now c.index_mut.result.now c.of.result c.loop-proxy.keepers.items _ c.in-Ok.opened.keeper
           below c.index.ensures c.index_mut.ensures.value (subst (λ (ts : List Table). AreAlike ts c.index.result.now.tables) (sym c.of.ensures) c.in-Ok.ensures.alike) (λ tells. c.of.ensures ∙ c.in-Ok.ensures.same tells) refl
@@ -59,33 +60,35 @@ loop-proxy-preserved g c =
 pub returns-clause-alike : goal.returns-clause-alike
 returns-clause-alike g c =
     let end : c.loop-proxy.proxy ≡ length c.args.config.proxies =
-    omega (arith, c.loop-proxy-test.false, c.loop-proxy.auto.proxy-end, c.len-count.ensures, c.into_vec-plans.result.ok.0, ap (λ (ps : List ProxyPlan). length ps) c.into_vec-plans.ensures) in
-    subst (λ (ps : List ProxyPlan). SitesAreAlike (record c.args.config { proxies = ps }) c.args.config) (sym c.of-2.ensures)
-    (site_alike (stored.tables-value g.row.S-Keeper g.row.S-Keeper-Pin g.S.Keeper.Keeper g.S.Keeper.Keeper-dict g.S.Keeper.Pin.Pinned g.S.Keeper.Pin.Pinned-dict g.S.Keeper.Pin.Destruct-dict).it (stored.told-value g.row.S-Keeper g.row.S-Keeper-Pin g.S.Keeper.Keeper g.S.Keeper.Keeper-dict g.S.Keeper.Pin.Pinned g.S.Keeper.Pin.Pinned-dict g.S.Keeper.Pin.Destruct-dict).it (AllTell g.S.Keeper.Keeper.told) c.args.config c.loop-proxy.plans.items c.loop-proxy.proxy c.loop-proxy.keepers.items end c.loop-proxy.invariant.opened)
+    omega (arith, c.loop-proxy-test.false, c.loop-proxy.auto.proxy-end, c.len-count.ensures, c.take_plans-plans.result.ok.0, ap (λ (ps : List ProxyPlan). length ps) c.take_plans-plans.ensures.plans) in
+    subst (λ (C : Config). SitesAreAlike (record C { proxies = c.of-2.result }) c.args.config) (sym c.take_plans-plans.ensures.rest)
+    (subst (λ (ps : List ProxyPlan). SitesAreAlike (record c.args.config { proxies = ps }) c.args.config) (sym c.of-2.ensures)
+    (site_alike (stored.tables-value g.row.S-Keeper g.row.S-Keeper-Pin g.S.Keeper.Keeper g.S.Keeper.Keeper-dict g.S.Keeper.Pin.Pinned g.S.Keeper.Pin.Pinned-dict g.S.Keeper.Pin.Destruct-dict).it (stored.told-value g.row.S-Keeper g.row.S-Keeper-Pin g.S.Keeper.Keeper g.S.Keeper.Keeper-dict g.S.Keeper.Pin.Pinned g.S.Keeper.Pin.Pinned-dict g.S.Keeper.Pin.Destruct-dict).it (AllTell g.S.Keeper.Keeper.told) c.args.config c.loop-proxy.plans.items c.loop-proxy.proxy c.loop-proxy.keepers.items end c.loop-proxy.invariant.opened))
 
 pub returns-clause-same : goal.returns-clause-same
 returns-clause-same g c =
     let end : c.loop-proxy.proxy ≡ length c.args.config.proxies =
-    omega (arith, c.loop-proxy-test.false, c.loop-proxy.auto.proxy-end, c.len-count.ensures, c.into_vec-plans.result.ok.0, ap (λ (ps : List ProxyPlan). length ps) c.into_vec-plans.ensures) in
-    λ tells. ap (λ (ps : List ProxyPlan). record c.args.config { proxies = ps }) c.of-2.ensures
+    omega (arith, c.loop-proxy-test.false, c.loop-proxy.auto.proxy-end, c.len-count.ensures, c.take_plans-plans.result.ok.0, ap (λ (ps : List ProxyPlan). length ps) c.take_plans-plans.ensures.plans) in
+    λ tells. ap (λ (C : Config). record C { proxies = c.of-2.result }) c.take_plans-plans.ensures.rest
+    ∙ ap (λ (ps : List ProxyPlan). record c.args.config { proxies = ps }) c.of-2.ensures
     ∙ site_same (stored.tables-value g.row.S-Keeper g.row.S-Keeper-Pin g.S.Keeper.Keeper g.S.Keeper.Keeper-dict g.S.Keeper.Pin.Pinned g.S.Keeper.Pin.Pinned-dict g.S.Keeper.Pin.Destruct-dict).it (stored.told-value g.row.S-Keeper g.row.S-Keeper-Pin g.S.Keeper.Keeper g.S.Keeper.Keeper-dict g.S.Keeper.Pin.Pinned g.S.Keeper.Pin.Pinned-dict g.S.Keeper.Pin.Destruct-dict).it (AllTell g.S.Keeper.Keeper.told) c.args.config c.loop-proxy.plans.items c.loop-proxy.proxy c.loop-proxy.keepers.items end c.loop-proxy.invariant.opened tells
 
 pub returns-clause-keepers : goal.returns-clause-keepers
 returns-clause-keepers g c =
     let end : c.loop-proxy.proxy ≡ length c.args.config.proxies =
-    omega (arith, c.loop-proxy-test.false, c.loop-proxy.auto.proxy-end, c.len-count.ensures, c.into_vec-plans.result.ok.0, ap (λ (ps : List ProxyPlan). length ps) c.into_vec-plans.ensures) in
+    omega (arith, c.loop-proxy-test.false, c.loop-proxy.auto.proxy-end, c.len-count.ensures, c.take_plans-plans.result.ok.0, ap (λ (ps : List ProxyPlan). length ps) c.take_plans-plans.ensures.plans) in
     subst (λ (ps : List ProxyPlan). AreOf ps (map (stored.tables-value g.row.S-Keeper g.row.S-Keeper-Pin g.S.Keeper.Keeper g.S.Keeper.Keeper-dict g.S.Keeper.Pin.Pinned g.S.Keeper.Pin.Pinned-dict g.S.Keeper.Pin.Destruct-dict).it c.loop-proxy.keepers.items) (map (stored.told-value g.row.S-Keeper g.row.S-Keeper-Pin g.S.Keeper.Keeper g.S.Keeper.Keeper-dict g.S.Keeper.Pin.Pinned g.S.Keeper.Pin.Pinned-dict g.S.Keeper.Pin.Destruct-dict).it c.loop-proxy.keepers.items)) (sym c.of-2.ensures)
     (opened_all (stored.tables-value g.row.S-Keeper g.row.S-Keeper-Pin g.S.Keeper.Keeper g.S.Keeper.Keeper-dict g.S.Keeper.Pin.Pinned g.S.Keeper.Pin.Pinned-dict g.S.Keeper.Pin.Destruct-dict).it (stored.told-value g.row.S-Keeper g.row.S-Keeper-Pin g.S.Keeper.Keeper g.S.Keeper.Keeper-dict g.S.Keeper.Pin.Pinned g.S.Keeper.Pin.Pinned-dict g.S.Keeper.Pin.Destruct-dict).it (AllTell g.S.Keeper.Keeper.told) c.args.config.proxies c.loop-proxy.plans.items c.loop-proxy.proxy c.loop-proxy.keepers.items end c.loop-proxy.invariant.opened)
 
 pub returns-clause-held : goal.returns-clause-held
 returns-clause-held g c =
     let end : c.loop-proxy.proxy ≡ length c.args.config.proxies =
-    omega (arith, c.loop-proxy-test.false, c.loop-proxy.auto.proxy-end, c.len-count.ensures, c.into_vec-plans.result.ok.0, ap (λ (ps : List ProxyPlan). length ps) c.into_vec-plans.ensures) in
+    omega (arith, c.loop-proxy-test.false, c.loop-proxy.auto.proxy-end, c.len-count.ensures, c.take_plans-plans.result.ok.0, ap (λ (ps : List ProxyPlan). length ps) c.take_plans-plans.ensures.plans) in
     first_all c.args.config.proxies c.loop-proxy.proxy (map (λ k. g.S.Keeper.Keeper.told k.store) c.loop-proxy.keepers.items) end c.loop-proxy.invariant.first
 
 pub returns-clause-made : goal.returns-clause-made
 returns-clause-made g c =
     let end : c.loop-proxy.proxy ≡ length c.args.config.proxies =
-    omega (arith, c.loop-proxy-test.false, c.loop-proxy.auto.proxy-end, c.len-count.ensures, c.into_vec-plans.result.ok.0, ap (λ (ps : List ProxyPlan). length ps) c.into_vec-plans.ensures) in
+    omega (arith, c.loop-proxy-test.false, c.loop-proxy.auto.proxy-end, c.len-count.ensures, c.take_plans-plans.result.ok.0, ap (λ (ps : List ProxyPlan). length ps) c.take_plans-plans.ensures.plans) in
     c.loop-proxy.invariant.depot
     ∙ ap (λ (ps : List ProxyPlan). with_starts c.args.file.now ps (g.S.Stores.depot c.args.stores.now)) (ap (λ (n : ℕ). take n c.args.config.proxies) end ∙ take_all c.args.config.proxies)

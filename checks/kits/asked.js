@@ -38,6 +38,8 @@ const ASKED = {
   stray,
   keep: kept,
   throw: () => { throw new Error('a fault of the page') },
+  escape: (site, request) => okws.escape(request.query.get('a')),
+  fill: (site, request) => okws.fill(request.query.get('a'), { a: '<b>', 'x-1._': 7 }),
   reject: async () => { throw new Error('a fault of the page') },
   'not-awaited': (site) => { site.log('not awaited'); return 'said\n' },
   denied: (site) => site.call(0, 9),

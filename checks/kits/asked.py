@@ -1,5 +1,6 @@
 """A service for the checks, over the kit for Python: it does what the last part of the path names, and says what came of it."""
 import os, subprocess, sys
+from concurrent.futures import ThreadPoolExecutor
 sys.path.insert(0, sys.argv[1])
 import okws
 
@@ -22,6 +23,11 @@ def kept(site, request):
     site.call(1, 1, number, b'\0\xff\n')
     return f'{site.call(0, 4, number)} {site.call(1, 2, number)} {site.call(0, 3, number)}\n'
 
+def called_elsewhere(site, request):
+    """What a call of another thread raises."""
+    with ThreadPoolExecutor() as others:
+        return f'{others.submit(site.log, "elsewhere").exception()}\n'
+
 def thrown(site, request):
     raise LookupError('a fault of the page')
 
@@ -30,6 +36,9 @@ ASKED = {
     'stray': stray,
     'keep': kept,
     'throw': thrown,
+    'elsewhere': called_elsewhere,
+    'escape': lambda site, request: okws.escape(request.query['a']),
+    'fill': lambda site, request: okws.fill(request.query['a'], {'a': '<b>', 'x-1._': 7}),
     'denied': lambda site, request: str(site.call(0, 9)),
     'no-token': lambda site, request: str(site.call(2, 1)),
     'arguments': lambda site, request: str(site.call(0, 1, 7)),

@@ -1,5 +1,6 @@
 """Each kit against the real server, through services that do what they are asked (asked.py, asked.c, asked.js); and alone over two pipes."""
 import os, re, subprocess
+from urllib.parse import quote
 from serving import OKWS, PYTHON, TOP, Server, ask, needs, same, wait_until, write
 
 SITE = f"""okws 1
@@ -115,6 +116,13 @@ def templates_and_the_log(server, service):
         server.publishes('page', text)
         same(ask(server.port, f'/{service}/template').text, text)
     same(ask(server.port, f'/{service}/log').status, 200)
+    same(ask(server.port, f'/{service}/escape?a=%3C%26%3E%22%27').text, '&lt;&amp;&gt;&quot;&#39;')
+    if service == 'c':
+        return
+    for template, filled in [('@{a} @{raw:a}@{x-1._}', '&lt;b&gt; <b>7'), ('@ @@{a} @x{a} a@', '@ @&lt;b&gt; @x{a} a@'), ('', '')]:
+        same(ask(server.port, f'/{service}/fill?a={quote(template)}').text, filled)
+    for template in ('@{}', '@{a', '@{b}', '@{raw:}', '@{raw:b}', '@{a b}', '@{' + 65 * 'a' + '}'):
+        same(ask(server.port, f'/{service}/fill?a={quote(template)}').status, 500)
     if service == 'node':
         same(ask(server.port, '/node/not-awaited').text, 'said\n')
 
@@ -126,6 +134,8 @@ def a_page_that_throws_is_answered_500(server, service):
         answer = ask(server.port, f'/{service}/{asked}')
         same((answer.status, answer.text), (500, '500 Internal Server Error\n'))
     same(ask(server.port, f'/{service}/duplicate').text, 'Duplicate\n')
+    if service == 'py':
+        same(ask(server.port, '/py/elsewhere').text, 'a call is for the thread that answers a request, until it is answered\n')
     same(server.process_ids, first)
     assert 'a fault of the page' in server.says(), server.says()
 
@@ -180,6 +190,31 @@ def says_so_where_nobody_started_it(kit):
     same((run.stdout, run.returncode), (b'', 1))
     assert b'a service is started by okws' in run.stderr, run.stderr
 
+BROKEN_OFF = """
+import signal, sys
+sys.path.insert(0, sys.argv[1])
+import okws
+
+def late(number, frame):
+    raise TimeoutError
+
+def page(site, request):
+    signal.signal(signal.SIGALRM, late)
+    signal.setitimer(signal.ITIMER_REAL, 0.2)
+    site.call(0, 1)
+
+okws.serve(page)
+"""
+
+def a_call_that_is_broken_off_ends_a_python_program():
+    """Its answer, which comes later, would be taken for another one's."""
+    program = subprocess.Popen([PYTHON, '-c', BROKEN_OFF, f'{TOP}/kits/python'], stdin=subprocess.PIPE, stdout=subprocess.PIPE, stderr=subprocess.PIPE)
+    program.stdin.write(BOOT + REQUEST)
+    program.stdin.flush()
+    same(program.wait(60), 1)
+    _, errors = program.communicate()
+    assert b'okws: a call was broken off' in errors, errors
+
 def the_python_guestbook_speaks_the_frames_of_the_page():
     form, head = b'id=3&who=cy&note=x', b'POST /guest HTTP/1.1\r\nHost: localhost\r\n\r\n'
     request = b'\2' + len(head).to_bytes(4, 'big') + head + len(form).to_bytes(4, 'big') + form
@@ -210,5 +245,6 @@ CHECKS = [
     *alone('speaks_the_frames_of_the_page', speaks_the_frames_of_the_page), *alone('ends_quietly_with_its_input', ends_quietly_with_its_input),
     *alone('ends_with_a_word_inside_a_frame', ends_with_a_word_inside_a_frame), *alone('ends_quietly_where_nobody_hears', ends_quietly_where_nobody_hears),
     *alone('says_so_where_nobody_started_it', says_so_where_nobody_started_it), the_python_guestbook_speaks_the_frames_of_the_page,
+    a_call_that_is_broken_off_ends_a_python_program,
     guestbook('the_python_guestbook_passes_the_guestbooks_checks', lambda: f'{PYTHON} {TOP}/kits/python/guestbook.py'),
 ]

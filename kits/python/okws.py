@@ -12,7 +12,7 @@ whatever is printed, by the program, by a library or by a child, goes to standar
 """
 import fcntl, os, re, stat, struct, sys, threading, traceback
 from collections.abc import Mapping
-from html import escape
+from html import escape as escape_html
 from typing import NamedTuple
 from urllib.parse import quote, unquote_to_bytes
 
@@ -112,6 +112,10 @@ class Request:
         self.content = content
         kind = self.fields.get('content-type', '').partition(';')[0].strip().lower()
         self.form = form_pairs(content if kind in ('', 'application/x-www-form-urlencoded') else b'')
+
+def escape(text):
+    """The text as it stands in HTML."""
+    return escape_html(text).replace('&#x27;', '&#39;')
 
 def fill(template, values):
     """The template with a value for each `@{NAME}`, escaped for HTML, and for each `@{raw:NAME}`, as it is. An `@` that no `{` follows is itself.

@@ -74,8 +74,8 @@ def a_wsgi_application_gets_its_environment():
                   'X-HTTP-Method-Override: PUT\r\nX-Forwarded-For: 9.9.9.9\r\nX-Forwarded-Proto: https\r\n')
         told = json.loads(ask(server.port, '/app/a%20b/%C3%A4?x=y', b'one\xff', fields=fields).text)
     same(told, {'REQUEST_METHOD': 'POST', 'SCRIPT_NAME': '/app', 'PATH_INFO': '/a b/\u00c3\u00a4', 'QUERY_STRING': 'x=y', 'SERVER_NAME': 'localhost',
-                'SERVER_PORT': '80', 'REMOTE_ADDR': '127.0.0.1', 'CONTENT_TYPE': 'text/x', 'HTTP_COOKIE': 'a=b; c=d', 'HTTP_X_A': '1, 2', 'HTTP_X_B': '', 'HTTP_PROXY': '',
-                'HTTP_RANGE': '', 'HTTP_X_HTTP_METHOD_OVERRIDE': '', 'wsgi.url_scheme': 'http', 'content': 'one\u00ff'})
+                'SERVER_PORT': '80', 'REMOTE_ADDR': '127.0.0.1', 'CONTENT_TYPE': 'text/x', 'HTTP_COOKIE': 'a=b; c=d', 'HTTP_X_A': '1, 2',
+                'HTTP_X_B': '', 'HTTP_PROXY': '', 'HTTP_RANGE': '', 'HTTP_X_HTTP_METHOD_OVERRIDE': '', 'wsgi.url_scheme': 'http', 'content': 'one\u00ff'})
 
 def what_a_wsgi_application_answers_is_a_reply():
     with Server(wsgi(PLAIN)) as server:

@@ -56,6 +56,32 @@ def a_spy_reaches_nothing_where_the_kernel_is_older():
     for version in (1, 2, 4):
         same((version, refused(spied(f'./okws-run-{version} {READS} {SPY}'))), (version, TRIED))
 
+def tried_ways(*confined):
+    """What came of each way around files and processes, of a program that may read one file."""
+    shutil.rmtree('ways', ignore_errors=True)
+    os.makedirs('ways')
+    write('ways/text', 'kept')
+    other = subprocess.Popen(['/bin/sleep', '600'], stdin=subprocess.DEVNULL, stdout=subprocess.DEVNULL, stderr=subprocess.DEVNULL)
+    try:
+        run = subprocess.run([*confined, PYTHON, f'{TOP}/checks/kits/ways.py', 'ways/text', str(other.pid)], stdout=subprocess.PIPE, stderr=subprocess.PIPE,
+                             text=True, timeout=60)
+        same((other.poll(), run.stderr), (None, ''))
+    finally:
+        other.kill()
+        other.wait()
+    return dict(line.split(': ') for line in run.stdout.splitlines())
+
+def ways_around_are_refused():
+    plain = tried_ways()
+    # Without a terminal two of them fail plain too, and some where the kernel or the file system doesn't know them.
+    others = ('attributes', 'mode by a new call', 'a ring of calls', 'a key of the terminal', 'a signal for input otherwise')
+    same({way: fault for way, fault in plain.items() if fault != 'done' and way not in others}, {})
+    for program in ('./okws-run', './okws-run-1', './okws-run-2', './okws-run-4'):
+        confined = tried_ways(program, '--read', f'{TOP}/checks/kits/ways.py', '--read', 'ways')
+        same((program, {way: fault for way, fault in confined.items() if fault not in ('EPERM', 'EACCES', 'ENOSYS')}), (program, {}))
+        with open('ways/text') as f:
+            same(f.read(), 'kept')
+
 def a_kernel_without_landlock_is_told():
     run = subprocess.run(['./okws-run-0', '/bin/true'], capture_output=True, text=True)
     same((run.returncode, run.stdout), (126, ''))
@@ -216,7 +242,7 @@ def svc_guest():
 
 CHECKS = [
     a_plain_spy_reaches_all_but_what_the_monitor_refuses, a_confined_spy_reaches_nothing, a_spy_behind_a_relay_reaches_nothing,
-    a_spy_reaches_nothing_where_the_kernel_is_older, a_kernel_without_landlock_is_told, what_is_named_is_given,
+    a_spy_reaches_nothing_where_the_kernel_is_older, ways_around_are_refused, a_kernel_without_landlock_is_told, what_is_named_is_given,
     a_socket_is_of_the_internets_kinds_and_only_with_network, memory_is_limited, descriptors_are_not_inherited, words_that_ask_for_nothing_are_refused,
     a_dialog_that_takes_too_long_is_ended, a_confined_service_ends_with_the_server, the_kits_examples_run_confined,
     the_site_of_the_examples_is_served, the_guestbook_of_the_examples_is_served, the_first_service_of_the_page_is_served,

@@ -3,6 +3,7 @@ import os, re, subprocess
 from urllib.parse import quote
 from serving import OKWS, PYTHON, TOP, Server, ask, needs, same, wait_until, write
 
+LONG = 'n' * 64
 SITE = f"""okws 1
 proxy main
 table main msgs id INT KEY who TEXT note TEXT
@@ -22,10 +23,12 @@ table other t n INT
 query other 1 SELECT n FROM t
 template page
 template secret
+template a
+template {LONG}
 service py {PYTHON} {TOP}/checks/kits/asked.py {TOP}/kits/python
 service c ./asked
 service node /usr/bin/node {TOP}/checks/kits/asked.js {TOP}/kits/node
-""" + ''.join(f'uri /{s} {s}\ngrant {s} main 1 2 3 4\ngrant {s} side 1 2\nread {s} page\nlog {s}\n' for s in ('py', 'c', 'node'))
+""" + ''.join(f'uri /{s} {s}\ngrant {s} main 1 2 3 4\ngrant {s} side 1 2\nread {s} page\nread {s} a\nread {s} {LONG}\nlog {s}\n' for s in ('py', 'c', 'node'))
 
 # What a request shows, for each kit the same: its target behind the service's path, its content, its fields, and the lines behind the path.
 SHOWN = [
@@ -112,6 +115,9 @@ def templates_and_the_log(server, service):
     same(ask(server.port, f'/{service}/template').text, 'none\n' if service == 'c' else 'Denied 22\n')
     if service != 'c':
         same(ask(server.port, f'/{service}/secret').text, 'Denied 21\n')
+    for name in ('a', LONG, 'a'):
+        server.publishes(name, '')
+        same(ask(server.port, f'/{service}/template').text, 'none\n' if service == 'c' else 'Denied 22\n')
     for text in ('one \u00e4', 'two'):
         server.publishes('page', text)
         same(ask(server.port, f'/{service}/template').text, text)

@@ -246,7 +246,8 @@ static inline void okws_parse(okws *s, okws_request *r) {
 }
 static inline void okws_keep_page(okws *s) {
     int i = 0;
-    while (i < OKWS_PAGES - 1 && s->page[i] && memcmp(s->page[i], s->taken + 1, 1u + s->taken[1])) i++;
+    uint8_t size = s->taken[1];
+    while (i < OKWS_PAGES - 1 && s->page[i] && (s->page[i][0] != size || memcmp(s->page[i] + 1, s->taken + 2, size))) i++;
     s->page[i] = (uint8_t *)okws_checked(realloc(s->page[i], s->size));
     memcpy(s->page[i], s->taken + 1, s->size - 1);
     s->page[i][s->size - 1] = 0;

@@ -61,12 +61,12 @@ def a_cgi_program_gets_its_variables_alone():
 
 def a_cgi_program_that_takes_too_long_is_ended():
     write('slow.cgi', '#!/bin/sh\nsleep 600\n', 0o755)
-    site = cgi(os.path.abspath('slow.cgi'), '--seconds 0.5', RUN + ' --run /usr/bin/sleep')
-    with Server(site) as server:
-        begun = time.time()
-        same(ask(server.port, '/app').status, 500)
-        assert time.time() - begun < 30
-        same(ask(server.port, '/app').status, 500)
+    # Where a service can't signal what it started, as on older kernels, it ends with it.
+    for run, status in ((RUN, 500), (RUN.replace('okws-run', 'okws-run-2'), 502)):
+        with Server(cgi(os.path.abspath('slow.cgi'), '--seconds 0.5', run + ' --run /usr/bin/sleep')) as server:
+            begun = time.time()
+            same([ask(server.port, '/app').status for _ in range(2)], [status] * 2)
+            assert time.time() - begun < 60
 
 def a_wsgi_application_gets_its_environment():
     with Server(wsgi(PLAIN)) as server:

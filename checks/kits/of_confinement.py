@@ -1,5 +1,5 @@
 """What a service reaches on the machine, plain and behind okws-run."""
-import os, re, shutil, subprocess, time
+import os, re, shutil, socket, subprocess, time
 from serving import OKWS, PYTHON, TOP, Server, Skipped, ask, children_of, needs, same, tree_of, wait_until, write
 from of_kits import guestbook
 
@@ -62,13 +62,18 @@ def tried_ways(*confined):
     os.makedirs('ways')
     write('ways/text', 'kept')
     other = subprocess.Popen(['/bin/sleep', '600'], stdin=subprocess.DEVNULL, stdout=subprocess.DEVNULL, stderr=subprocess.DEVNULL)
+    heard = [socket.socket(socket.AF_UNIX, socket.SOCK_DGRAM) for _ in range(2)]
     try:
+        for one, name in zip(heard, ('ways/socket', f'\0okws-ways-{os.getpid()}')):
+            one.bind(name)
         run = subprocess.run([*confined, PYTHON, f'{TOP}/checks/kits/ways.py', 'ways/text', str(other.pid)], stdout=subprocess.PIPE, stderr=subprocess.PIPE,
                              text=True, timeout=60)
         same((other.poll(), run.stderr), (None, ''))
     finally:
         other.kill()
         other.wait()
+        for one in heard:
+            one.close()
     return dict(line.split(': ') for line in run.stdout.splitlines())
 
 def ways_around_are_refused():
@@ -120,6 +125,24 @@ def memory_is_limited():
     fills = python("b = bytearray(300 << 20); print(len(b) >> 20)")
     same(run_confined(['--memory', '500'], fills).stdout, '300\n')
     assert 'MemoryError' in run_confined(['--memory', '100'], fills).stderr
+    for shared in ("import mmap; mmap.mmap(-1, 300 << 20)", "import os; os.memfd_create('a')", "import mmap; mmap.mmap(os.open('/dev/zero', 2), 300 << 20)"):
+        assert 'PermissionError' in run_confined(['--memory', '100'], python('import os; ' + shared)).stderr, shared
+
+def standard_error_is_not_the_servers():
+    tries = python("import os\nfor do in (lambda: os.ftruncate(2, 0), lambda: os.pwrite(2, b'x', 0), lambda: os.read(2, 9)):\n"
+                   "    try: do()\n    except OSError: os.write(2, b'refused ')\nos.write(2, b'said')")
+    with open('said', 'w+b') as said:
+        said.write(b'before ')
+        said.flush()
+        subprocess.run(['./okws-run', *tries], stderr=said, timeout=60)
+        wait_until(lambda: open('said', 'rb').read() == b'before refused refused refused said', 'what was said is passed on')
+    ours, theirs = os.openpty()
+    os.write(ours, b'typed\n')
+    subprocess.run(['./okws-run', *tries], stderr=theirs, stdin=subprocess.DEVNULL, timeout=60)
+    wait_until(lambda: b'said' in os.read(ours, 999), 'what was said is passed on')
+    same(os.read(theirs, 99), b'typed\n')
+    os.close(ours)
+    os.close(theirs)
 
 def descriptors_are_not_inherited():
     with open('/etc/passwd') as held:
@@ -144,6 +167,15 @@ def a_dialog_that_takes_too_long_is_ended():
         same(ask(server.port, '/spy?seconds=0').text, 'slept 0.0\n')
         time.sleep(8.5) # no dialog is open meanwhile
         same(ask(server.port, '/spy?seconds=0&size=1000000').content, b'a' * 1000000)
+
+def what_a_service_started_ends_with_its_dialog():
+    write('lazy', '#!/bin/sh\nsleep 601 &\nexec sleep 602\n', 0o755)
+    site = SITE.replace('grant spy main 1\n', '').format(words='./okws-run --seconds 3 --run /usr/bin/sleep ./lazy')
+    with Server(site) as server:
+        started = []
+        wait_until(lambda: started.extend(pid for pid in tree_of(server.process.pid) if '601' in words_of(pid)) or started, 'the service starts another')
+        same(ask(server.port, '/spy').status, 502)
+        wait_until(lambda: not is_alive(started[0]), 'what it started ends')
 
 def a_confined_service_ends_with_the_server():
     for seconds in ('', '--seconds 20 '):
@@ -242,8 +274,9 @@ def svc_guest():
 CHECKS = [
     a_plain_spy_reaches_all_but_what_the_monitor_refuses, a_confined_spy_reaches_nothing, a_spy_behind_a_relay_reaches_nothing,
     a_spy_reaches_nothing_where_the_kernel_is_older, ways_around_are_refused, a_kernel_without_landlock_is_told, what_is_named_is_given,
-    a_socket_is_of_the_internets_kinds_and_only_with_network, memory_is_limited, descriptors_are_not_inherited, words_that_ask_for_nothing_are_refused,
-    a_dialog_that_takes_too_long_is_ended, a_confined_service_ends_with_the_server, the_kits_examples_run_confined,
+    a_socket_is_of_the_internets_kinds_and_only_with_network, memory_is_limited, standard_error_is_not_the_servers, descriptors_are_not_inherited,
+    words_that_ask_for_nothing_are_refused,
+    a_dialog_that_takes_too_long_is_ended, what_a_service_started_ends_with_its_dialog, a_confined_service_ends_with_the_server, the_kits_examples_run_confined,
     the_site_of_the_examples_is_served, the_guestbook_of_the_examples_is_served, the_first_service_of_the_page_is_served,
     the_pages_line_of_bubblewrap_confines,
     guestbook('the_confined_svc_guest_passes_the_guestbooks_checks', lambda: f'{os.getcwd()}/okws-run {svc_guest()}'),

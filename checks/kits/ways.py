@@ -1,10 +1,11 @@
-"""Tries ways around the files and processes that a program may reach: ways.py FILE PID. FILE is one that it may only read, PID another's process.
+"""Tries ways around the files and processes that a program may reach: ways.py FILE PID. FILE is one that it may only read, PID another's process. Sockets
+that take datagrams have the name `socket` beside the file, and `okws-ways-` with the number of this one's parent.
 It prints a line for each: `done`, or the fault's name."""
 import ctypes, errno, fcntl, os, socket, sys, termios
 
 FILE, PID = sys.argv[1], int(sys.argv[2])
 LIBC = ctypes.CDLL(None, use_errno=True)
-F_SETOWN, FIOSETOWN, PTRACE_SEIZE, PRIO_PROCESS = 8, 0x8901, 0x4206, 0
+F_SETOWN, FIOSETOWN, PTRACE_SEIZE, PRIO_PROCESS, F_SETLEASE, PR_SET_PDEATHSIG = 8, 0x8901, 0x4206, 0, 1024, 1
 IO_URING_SETUP, FCHMODAT2 = 425, 452
 
 def c(name, *words):
@@ -15,9 +16,15 @@ def c(name, *words):
 def path():
     return os.fsencode(FILE)
 
+def datagram(name):
+    """Sends a datagram to another's socket."""
+    with socket.socketpair(socket.AF_UNIX, socket.SOCK_DGRAM)[0] as one:
+        one.sendto(b'x', name)
+
 WAYS = {
     'cut by its path': lambda: c('truncate', path(), 0),
     'cut as it is opened to be read': lambda: os.close(os.open(FILE, os.O_RDONLY | os.O_TRUNC)),
+    'cut in a mode of no right': lambda: os.close(os.open(FILE, os.O_ACCMODE | os.O_TRUNC)),
     'opened to be written': lambda: os.close(os.open(FILE, os.O_WRONLY)),
     'renamed': lambda: os.rename(FILE, FILE),
     'linked': lambda: os.link(FILE, FILE + '.linked'),
@@ -27,6 +34,7 @@ WAYS = {
     'owner': lambda: os.chown(FILE, os.getuid(), os.getgid()),
     'times': lambda: os.utime(FILE, (0, 0)),
     'attributes': lambda: os.setxattr(FILE, 'user.a', b'b'),
+    'leased': lambda: fcntl.fcntl(os.open(FILE, os.O_RDONLY), F_SETLEASE, fcntl.F_RDLCK),
     'watched': lambda: c('inotify_init1', 0),
     'its limits': lambda: c('prlimit', PID, 0, None, ctypes.create_string_buffer(16)),
     'its priority': lambda: c('setpriority', PRIO_PROCESS, PID, os.getpriority(PRIO_PROCESS, PID)),
@@ -42,6 +50,10 @@ WAYS = {
     'a ring of calls': lambda: c('syscall', IO_URING_SETUP, 1, ctypes.create_string_buffer(120)),
     'another namespace': lambda: c('unshare', 0),
     'a socket of this machine': lambda: socket.socket(socket.AF_UNIX).close(),
+    'a datagram to a path': lambda: datagram(os.path.join(os.path.dirname(FILE), 'socket')),
+    'a datagram to a name': lambda: datagram(f'\0okws-ways-{os.getppid()}'),
+    'a pair of raw sockets': lambda: [one.close() for one in socket.socketpair(socket.AF_UNIX, socket.SOCK_RAW)],
+    'an end with nobody': lambda: c('prctl', PR_SET_PDEATHSIG, 0, 0, 0, 0),
     'a key of the terminal': lambda: fcntl.ioctl(2, termios.TIOCSTI, b'x'),
     'a process': lambda: os._exit(0) if os.fork() == 0 else None,
     'a program': lambda: os.waitpid(os.posix_spawn('/bin/true', ['true'], {}), 0),

@@ -5,7 +5,9 @@
 #include <linux/filter.h>
 #include <linux/seccomp.h>
 #include <sched.h>
+#include <signal.h>
 #include <sys/ioctl.h>
+#include <sys/mman.h>
 #include <sys/prctl.h>
 #include <sys/socket.h>
 #include <sys/syscall.h>
@@ -63,7 +65,7 @@ static const int REFUSED[] = {
 #endif
 };
 enum { OTHER_NAMESPACES = CLONE_NEWUSER | CLONE_NEWNS | CLONE_NEWPID | CLONE_NEWNET | CLONE_NEWIPC | CLONE_NEWUTS | CLONE_NEWCGROUP };
-enum { NEWEST_CALL = 451 /* cachestat, of Linux 6.5 */, TRUNCATES = O_TRUNC | O_ACCMODE };
+enum { NEWEST_CALL = 451 /* cachestat, of Linux 6.5 */, KIND_OF_SOCKET = 0xf, KIND_OF_MAP = 0xf | MAP_ANONYMOUS };
 #ifdef __x86_64__
 static const unsigned PROCESSOR = AUDIT_ARCH_X86_64;
 #else
@@ -82,6 +84,17 @@ static void put_front(struct filter *f) {
     refuse(f, SYS_openat2, ENOSYS);
 }
 
+/* Who is to end with another process stays so: the signal for it may be set to SIGKILL, and to nothing else. */
+static void keep_the_end(struct filter *f) {
+    put_if(f, SYS_prctl, 0, 6);
+    put_load(f, low_half(0));
+    put_if(f, PR_SET_PDEATHSIG, 0, 3);
+    put_load(f, low_half(1));
+    put_if(f, SIGKILL, 1, 0);
+    put_answer(f, SECCOMP_RET_ERRNO | EPERM);
+    put_load(f, NUMBER);
+}
+
 /* Other processes, as far as a call names one. Since its version 6 Landlock keeps signals in. */
 static void refuse_processes(struct filter *f, int runs) {
     unsigned self = (unsigned)getpid();
@@ -92,6 +105,7 @@ static void refuse_processes(struct filter *f, int runs) {
     if (landlock_version() < 6) refuse(f, SYS_tkill, EPERM);
     refuse_bits(f, SYS_fcntl, 1, ~0U, F_SETOWN, 1);
     refuse_bits(f, SYS_fcntl, 1, ~0U, F_SETOWN_EX, 1);
+    keep_the_end(f);
     if (runs) {
         refuse_bits(f, SYS_clone, 0, OTHER_NAMESPACES, 0, 0);
         return;
@@ -104,6 +118,35 @@ static void refuse_processes(struct filter *f, int runs) {
 #endif
 }
 
+/* A file that may be read alone could be cut as it is opened, or opened in the mode 3, for which older versions of Landlock ask no right. Leases and notices
+ * would hold others up, or tell of them. */
+static void refuse_openings(struct filter *f) {
+    refuse_bits(f, SYS_openat, 2, O_ACCMODE | O_TRUNC, O_TRUNC, 1);
+    refuse_bits(f, SYS_openat, 2, O_ACCMODE, O_ACCMODE, 1);
+#ifdef __x86_64__
+    refuse_bits(f, SYS_open, 1, O_ACCMODE | O_TRUNC, O_TRUNC, 1);
+    refuse_bits(f, SYS_open, 1, O_ACCMODE, O_ACCMODE, 1);
+#endif
+    refuse_bits(f, SYS_fcntl, 1, ~0U, F_SETLEASE, 1);
+    refuse_bits(f, SYS_fcntl, 1, ~0U, F_NOTIFY, 1);
+}
+
+/* A pair of streams reaches nobody else; one of datagrams may be sent to any socket of the machine. */
+static void refuse_sockets(struct filter *f, int network) {
+    static const int others[] = {SYS_socket, SYS_connect, SYS_bind, SYS_listen};
+    refuse_unless(f, SYS_socketpair, 0, AF_UNIX, AF_UNIX);
+    refuse_bits(f, SYS_socketpair, 1, KIND_OF_SOCKET, SOCK_STREAM, 0);
+    if (network) refuse_unless(f, SYS_socket, 0, AF_INET, AF_INET6);
+    for (size_t i = 0; !network && i < sizeof others / sizeof *others; i++) refuse(f, others[i], EPERM);
+}
+
+/* Memory that no limit of data counts. */
+static void refuse_shared_memory(struct filter *f) {
+    refuse(f, SYS_memfd_create, EPERM);
+    refuse_bits(f, SYS_mmap, 3, KIND_OF_MAP, MAP_SHARED | MAP_ANONYMOUS, 1);
+    refuse_bits(f, SYS_mmap, 3, KIND_OF_MAP, 8 /* MAP_DROPPABLE */ | MAP_ANONYMOUS, 1);
+}
+
 void confine_calls(const struct asked *a) {
     static struct filter f;
     static const unsigned long terminals[] = {TIOCSTI, TIOCLINUX, TIOCSCTTY, FIOSETOWN, SIOCSPGRP};
@@ -111,14 +154,9 @@ void confine_calls(const struct asked *a) {
     for (size_t i = 0; i < sizeof REFUSED / sizeof *REFUSED; i++) refuse(&f, REFUSED[i], EPERM);
     refuse_processes(&f, a->runs);
     for (size_t i = 0; i < sizeof terminals / sizeof *terminals; i++) refuse_bits(&f, SYS_ioctl, 1, ~0U, (unsigned)terminals[i], 1);
-    refuse_bits(&f, SYS_openat, 2, TRUNCATES, O_TRUNC, 1); /* a file that is opened to be read may be cut so */
-#ifdef __x86_64__
-    refuse_bits(&f, SYS_open, 1, TRUNCATES, O_TRUNC, 1);
-#endif
-    if (a->network)
-        refuse_unless(&f, SYS_socket, 0, AF_INET, AF_INET6);
-    else
-        refuse(&f, SYS_socket, EPERM);
+    refuse_openings(&f);
+    refuse_sockets(&f, a->network);
+    if (a->memory) refuse_shared_memory(&f);
     put_answer(&f, SECCOMP_RET_ALLOW);
     struct sock_fprog program = {f.size, f.code};
     if (prctl(PR_SET_SECCOMP, SECCOMP_MODE_FILTER, &program)) stop("cannot filter system calls:", strerror(errno));

@@ -79,7 +79,7 @@ static void allow_program(int ruleset, uint64_t known, const char *program) {
 }
 
 static const char *const READ_BY_ALL[] = {"/usr", "/lib", "/lib32", "/lib64", "/libx32", "/bin", "/etc/ld.so.cache", "/etc/localtime", "/etc/alternatives",
-    "/etc/ssl/openssl.cnf", "/dev/urandom", "/dev/random", "/dev/zero"};
+    "/etc/ssl/openssl.cnf", "/dev/urandom", "/dev/random"};
 static const char *const READ_FOR_NETWORK[] = {"/etc/resolv.conf", "/etc/hosts", "/etc/nsswitch.conf", "/etc/gai.conf", "/etc/host.conf", "/etc/services",
     "/etc/ssl", "/etc/ca-certificates", "/run/systemd/resolve"};
 static const char *const LINKERS[] = {"/lib/ld-*.so*", "/lib64/ld-*.so*"};

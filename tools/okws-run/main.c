@@ -2,20 +2,22 @@
  *
  *   service guest okws-run [--read PATH].. [--write PATH].. [--run PATH].. [--env NAME=VALUE].. [--network] [--memory MIB] [--seconds N] PROGRAM WORD..
  *
- * PROGRAM has its two pipes, standard error, and what it needs to start: /usr, /lib* and /bin to read, itself to run, an environment of PATH, LANG and what
- * --env names. It reads and writes no other file, starts no other process, opens no socket, has no capability, sees and reaches no other process.
+ * PROGRAM has its two pipes, a third one for standard error, and what it needs to start: /usr, /lib* and /bin to read, itself to run, an environment of
+ * PATH, LANG and what --env names. It reads and writes no other file, starts no other process, opens no socket, has no capability, reaches no other process.
  *   --read, --write  a file, or a folder with all below it; --write has --read in it
  *   --run            likewise, and PROGRAM may start what stands there, which is confined as PROGRAM is
  *   --network        sockets of the internet's kinds, and the files by which names and certificates are found
- *   --memory         at most so many mebibytes of data; each process for itself
+ *   --memory         at most so many mebibytes of data, and no shared memory; each process for itself
  *   --seconds        PROGRAM is killed where one dialog takes longer, so that okws answers 502 and launches it again. Frames are relayed then
  * Where the kernel can't confine it, PROGRAM isn't started: a sentence on standard error, and status 126.       cc -O2 -o okws-run *.c
  */
 #include "okws-run.h"
+#include <fcntl.h>
 #include <linux/capability.h>
 #include <sys/prctl.h>
 #include <sys/resource.h>
 #include <sys/syscall.h>
+#include <sys/wait.h>
 
 void stop(const char *what, const char *which) {
     fprintf(stderr, "okws-run: %s %s\n", what, which);
@@ -33,9 +35,36 @@ static void limit(int which, rlim_t most) {
     if (setrlimit(which, &both)) stop("cannot limit:", strerror(errno));
 }
 
+/* Passes on what comes from a pipe to standard error, and holds nothing else. */
+static void pass_on(int from) {
+    char bytes[4096];
+    ssize_t n;
+    setsid();
+    if (dup2(from, 0) < 0 || dup2(2, 1) < 0 || syscall(SYS_close_range, 3, ~0U, 0)) _exit(CANNOT);
+    while ((n = read(0, bytes, sizeof bytes)) > 0)
+        for (ssize_t put = 0, m; put < n; put += m)
+            if ((m = write(2, bytes + put, (size_t)(n - put))) <= 0) break;
+    _exit(0);
+}
+
+/* Gives the program a standard error of its own, a pipe, and leaves a process that passes on what comes there until all who may write to it have ended. By
+ * the server's own the program could cut a file, read a terminal, or shut a socket for the server and all services. */
+static void own_errors(void) {
+    int ends[2];
+    if (fcntl(2, F_GETFD) < 0 && open("/dev/null", O_RDWR) != 2) stop("no standard error", "");
+    if (pipe2(ends, O_CLOEXEC)) stop("no pipe:", strerror(errno));
+    pid_t first = fork();
+    if (first == 0) {
+        if (fork() == 0) pass_on(ends[0]);
+        _exit(0); /* so that the program has no child that it didn't start */
+    }
+    if (first < 0 || waitpid(first, NULL, 0) < 0 || dup2(ends[1], 2) < 0) stop("cannot pass on standard error:", strerror(errno));
+}
+
 void become(const struct asked *a) {
     const char *program = found(a->program[0]);
     setsid(); /* no terminal of the server's */
+    own_errors();
     limit(RLIMIT_CORE, 0);
     if (a->memory) limit(RLIMIT_DATA, a->memory);
     if (syscall(SYS_close_range, 3, ~0U, 0)) stop("cannot close descriptors:", strerror(errno));

@@ -85,17 +85,19 @@ static void relay(struct way *in, struct way *out, double seconds) {
     }
 }
 
-/* How a service has ended. One that has closed its output has half a second for it. */
+/* Ends a service, with what it started in its group, and tells its status. One that has closed its output has half a second to end by itself. */
 static int ended(pid_t child, int is_over) {
     int status = 0;
+    siginfo_t told = {0};
     struct timespec pause = {0, 10000000};
-    for (int i = 0; is_over && i < 50; i++) {
-        if (waitpid(child, &status, WNOHANG) == child) return WIFEXITED(status) ? WEXITSTATUS(status) : 1;
+    for (int i = 0; is_over && i < 50 && told.si_pid == 0; i++) {
         nanosleep(&pause, NULL);
+        waitid(P_PID, (id_t)child, &told, WEXITED | WNOHANG | WNOWAIT);
     }
+    kill(-child, SIGKILL);
     kill(child, SIGKILL);
     waitpid(child, &status, 0);
-    return 1;
+    return WIFEXITED(status) ? WEXITSTATUS(status) : 1;
 }
 
 int watch(const struct asked *a) {

@@ -79,7 +79,7 @@ def tried_ways(*confined):
 def ways_around_are_refused():
     plain = tried_ways()
     # Without a terminal two of them fail plain too, and some where the kernel or the file system doesn't know them.
-    others = ('attributes', 'mode by a new call', 'a ring of calls', 'a key of the terminal', 'a signal for input otherwise')
+    others = ('attributes', 'flags', 'mode by a new call', 'a ring of calls', 'a key of the terminal', 'a signal for input otherwise')
     same({way: fault for way, fault in plain.items() if fault != 'done' and way not in others}, {})
     for program in ('./okws-run', './okws-run-1', './okws-run-2', './okws-run-4'):
         confined = tried_ways(program, '--read', f'{TOP}/checks/kits/ways.py', '--read', 'ways')

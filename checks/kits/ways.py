@@ -6,7 +6,7 @@ import ctypes, errno, fcntl, os, socket, sys, termios
 FILE, PID = sys.argv[1], int(sys.argv[2])
 LIBC = ctypes.CDLL(None, use_errno=True)
 F_SETOWN, FIOSETOWN, PTRACE_SEIZE, PRIO_PROCESS, F_SETLEASE, PR_SET_PDEATHSIG = 8, 0x8901, 0x4206, 0, 1024, 1
-IO_URING_SETUP, FCHMODAT2 = 425, 452
+IO_URING_SETUP, FCHMODAT2, FS_IOC_SETFLAGS = 425, 452, 0x40086602
 
 def c(name, *words):
     """Calls a function of the C library, whose -1 is a fault."""
@@ -34,6 +34,7 @@ WAYS = {
     'owner': lambda: os.chown(FILE, os.getuid(), os.getgid()),
     'times': lambda: os.utime(FILE, (0, 0)),
     'attributes': lambda: os.setxattr(FILE, 'user.a', b'b'),
+    'flags': lambda: fcntl.ioctl(os.open(FILE, os.O_RDONLY), FS_IOC_SETFLAGS, bytes(8)),
     'leased': lambda: fcntl.fcntl(os.open(FILE, os.O_RDONLY), F_SETLEASE, fcntl.F_RDLCK),
     'watched': lambda: c('inotify_init1', 0),
     'its limits': lambda: c('prlimit', PID, 0, None, ctypes.create_string_buffer(16)),

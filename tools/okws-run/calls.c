@@ -3,6 +3,8 @@
 #include <fcntl.h>
 #include <linux/audit.h>
 #include <linux/filter.h>
+#include <linux/fs.h>
+#include <linux/fsverity.h>
 #include <linux/seccomp.h>
 #include <sched.h>
 #include <signal.h>
@@ -64,7 +66,8 @@ static const int REFUSED[] = {
     SYS_chmod, SYS_chown, SYS_lchown, SYS_utime, SYS_utimes, SYS_futimesat, SYS_inotify_init,
 #endif
 };
-enum { OTHER_NAMESPACES = CLONE_NEWUSER | CLONE_NEWNS | CLONE_NEWPID | CLONE_NEWNET | CLONE_NEWIPC | CLONE_NEWUTS | CLONE_NEWCGROUP };
+/* Of processes that are started: in namespaces of their own, or as children of the server. */
+enum { ELSEWHERE = CLONE_NEWUSER | CLONE_NEWNS | CLONE_NEWPID | CLONE_NEWNET | CLONE_NEWIPC | CLONE_NEWUTS | CLONE_NEWCGROUP | CLONE_PARENT };
 enum { NEWEST_CALL = 451 /* cachestat, of Linux 6.5 */, KIND_OF_SOCKET = 0xf, KIND_OF_MAP = 0xf | MAP_ANONYMOUS };
 #ifdef __x86_64__
 static const unsigned PROCESSOR = AUDIT_ARCH_X86_64;
@@ -107,7 +110,7 @@ static void refuse_processes(struct filter *f, int runs) {
     refuse_bits(f, SYS_fcntl, 1, ~0U, F_SETOWN_EX, 1);
     keep_the_end(f);
     if (runs) {
-        refuse_bits(f, SYS_clone, 0, OTHER_NAMESPACES, 0, 0);
+        refuse_bits(f, SYS_clone, 0, ELSEWHERE, 0, 0);
         return;
     }
     refuse_bits(f, SYS_clone, 0, CLONE_THREAD, CLONE_THREAD, 0);
@@ -149,11 +152,11 @@ static void refuse_shared_memory(struct filter *f) {
 
 void confine_calls(const struct asked *a) {
     static struct filter f;
-    static const unsigned long terminals[] = {TIOCSTI, TIOCLINUX, TIOCSCTTY, FIOSETOWN, SIOCSPGRP};
+    static const unsigned long controls[] = {TIOCSTI, TIOCLINUX, TIOCSCTTY, FIOSETOWN, SIOCSPGRP, FS_IOC_SETFLAGS, FS_IOC_FSSETXATTR, FS_IOC_ENABLE_VERITY};
     put_front(&f);
     for (size_t i = 0; i < sizeof REFUSED / sizeof *REFUSED; i++) refuse(&f, REFUSED[i], EPERM);
     refuse_processes(&f, a->runs);
-    for (size_t i = 0; i < sizeof terminals / sizeof *terminals; i++) refuse_bits(&f, SYS_ioctl, 1, ~0U, (unsigned)terminals[i], 1);
+    for (size_t i = 0; i < sizeof controls / sizeof *controls; i++) refuse_bits(&f, SYS_ioctl, 1, ~0U, (unsigned)controls[i], 1);
     refuse_openings(&f);
     refuse_sockets(&f, a->network);
     if (a->memory) refuse_shared_memory(&f);

@@ -60,7 +60,7 @@ def a_cgi_program_gets_its_variables_alone():
                 'HTTP_HOST': 'localhost', 'HTTP_CONNECTION': 'close', 'HTTP_X_FORWARDED_FOR': '9.9.9.9'})
 
 def a_cgi_program_that_takes_too_long_is_ended():
-    write('slow.cgi', '#!/bin/sh\nsleep 600\n', 0o755)
+    write('slow.cgi', '#!/bin/sh\nexec sleep 600\n', 0o755)
     # Where a service can't signal what it started, as on older kernels, it ends with it.
     for run, status in ((RUN, 500), (RUN.replace('okws-run', 'okws-run-2'), 502)):
         with Server(cgi(os.path.abspath('slow.cgi'), '--seconds 0.5', run + ' --run /usr/bin/sleep')) as server:

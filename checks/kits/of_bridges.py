@@ -151,7 +151,7 @@ def statuses_cookies_and_methods_pass_through_a_front():
              (['a=b=c; Path=/; HttpOnly'], ['no-store, private'], ['text/plain']))
         answer = ask(front.port, '/app/cookies')
         same((answer.status, answer.field('Set-Cookie')), (200, ['c=d']))
-        assert server.says().count('okws-wsgi: dropped okws-cookie=') == 2, server.says()
+        wait_until(lambda: server.says().count('okws-wsgi: dropped okws-cookie=') == 2, 'what is dropped is told')
         for method in ('PUT', 'DELETE', 'PATCH'):
             told = json.loads(ask(front.port, '/app/x', b'one', method=method, fields='X-HTTP-Method-Override: HEAD\r\nX-Forwarded-For: 9.9.9.9\r\n').text)
             same((told['REQUEST_METHOD'], told['content'], told['REMOTE_ADDR'], told['wsgi.url_scheme']), (method, 'one', '127.0.0.1', 'http'))

@@ -180,7 +180,9 @@ def template_files(folder, site):
 
 
 def console_words(answer):
-    """An answer of the console, with the rule in words where it refuses."""
+    """An answer of the console, in words where it isn't what was wanted."""
+    if answer.startswith('dead '):
+        return f'{answer}: the service was given up after so many tries'
     refused = re.fullmatch(r'refused \d+ (\d+)', answer)
     return f'{answer}: {CONSOLE_RULES[int(refused[1])]}' if refused else answer
 

@@ -7,7 +7,8 @@ TOOL_NAMES = ['backup', 'ctl', 'draw', 'explain', 'front', 'init', 'migrate', 's
 
 def bash(*words, **environment):
     """What a script prints, which ends well."""
-    done = subprocess.run(words, stdin=subprocess.DEVNULL, stdout=subprocess.PIPE, stderr=subprocess.STDOUT, text=True, timeout=120, env={**os.environ, **environment})
+    settings = {'stdin': subprocess.DEVNULL, 'stdout': subprocess.PIPE, 'stderr': subprocess.STDOUT, 'text': True, 'timeout': 300}
+    done = subprocess.run(words, env={**os.environ, **environment}, **settings)
     if done.returncode:
         raise AssertionError(f'{words} ended with {done.returncode}: {done.stdout}')
     return done.stdout

@@ -1,7 +1,8 @@
 """The files in which a server keeps rows: of --store FILE those of proxy P stand in FILE.P, with its last writes in FILE.P-wal."""
-import os, sqlite3
+import fcntl, os, sqlite3, struct
 
 MOST_PROXIES = 16
+LOCK = 'hhqqi0q'      # a lock of fcntl(2): type, whence, start, length, process
 
 
 def files(store):
@@ -10,16 +11,14 @@ def files(store):
 
 
 def holders(paths):
-    """The processes that have one of these files open."""
-    wanted = {os.path.realpath(path) for path in paths}
+    """The processes that have one of these files as a server does, with a lock. One that has no number here counts as 0."""
     found = set()
-    for pid in filter(str.isdigit, os.listdir('/proc')):
-        try:
-            for fd in os.listdir(f'/proc/{pid}/fd'):
-                if os.readlink(f'/proc/{pid}/fd/{fd}') in wanted:
-                    found.add(int(pid))
-        except OSError:
-            pass
+    for path in paths:
+        with open(path, 'rb') as f:
+            told = fcntl.fcntl(f, fcntl.F_GETLK, struct.pack(LOCK, fcntl.F_WRLCK, os.SEEK_SET, 0, 0, 0))
+        kind, *_, pid = struct.unpack(LOCK, told)
+        if kind != fcntl.F_UNLCK:
+            found.add(max(pid, 0))
     return found
 
 

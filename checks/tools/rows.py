@@ -1,5 +1,5 @@
 """Checks of okws-backup and okws-migrate."""
-import os, shutil, threading, time
+import json, os, shutil, threading, time
 from common import SITE, Up, ask, has, run, same, write
 
 
@@ -25,13 +25,14 @@ def a_copy_under_writes_has_what_was_answered():
             number += 1
 
     with Up('backup', '--store', 'rows') as up:
+        server = json.loads(up.ctl('status', '--json'))['server']['process']
         client = threading.Thread(target=write_on, args=(up.port,))
         client.start()
         for copy in range(3):
             time.sleep(0.2)
             before = list(written)
             told = run('okws-backup', 'rows', f'copy{copy}', cwd='backup')
-            has(told, 'rows.0 t0 ', 'the server was stopped for')
+            has(told, 'rows.0 t0 ', f'server {server} was stopped for')
             copied = serves('backup', f'copy{copy}/rows')
             assert set(before) <= set(copied) and copied == list(range(1, len(copied) + 1)), (before, copied)
         is_over.set()
@@ -42,7 +43,7 @@ def a_copy_under_writes_has_what_was_answered():
 def a_copy_of_a_store_that_nobody_has_is_made_too():
     with Up('cold', '--store', 'the rows') as up:
         ask(up.port, content='2 bob')
-    has(run('okws-backup', 'the rows', 'a copy', cwd='cold'), 'the rows.0 t0 2 rows')
+    same(run('okws-backup', 'the rows', 'a copy', cwd='cold'), 'the rows.0 t0 2 rows\n')
     same(oct(os.stat('cold/a copy/the rows.0').st_mode & 0o777), '0o600')
     same(serves('cold', 'a copy/the rows'), [1, 2])
     has(run('okws-backup', 'nothing', 'a copy', status=1, cwd='cold'), 'there is no nothing.0')

@@ -200,6 +200,34 @@ def orders_that_name_nothing_do_not_come_to_the_server():
         same(up.ctl('relaunch', 'notes'), 'relaunched 2\n')
 
 
+def a_refused_page_has_no_commands_in_it():
+    """A page with commands on its lines, which is too long, names no template, or comes before the site is ready."""
+    page = 'x\nrelaunch notes\nstop\n'
+    write('late/program', f'#!/bin/sh\ncase $1 in serve) sleep 3;; esac\nexec "{os.environ["OKWS"]}" "$@"\n')
+    os.chmod('late/program', 0o755)
+    write('late/page', page)
+    write('late/big', page * 20000)
+    with Up('late', '--okws', './program', wait=False) as up:
+        wait_until(lambda: os.path.exists('late/run/console'))
+        has(up.ctl('publish', 'page', 'page', status=1), 'the site is not ready')
+        wait_until(lambda: 'serves' in up.events())
+        has(up.ctl('publish', 'page', 'big', status=1), 'more than 262144 bytes')
+        has(up.ctl('publish', 'pag', 'page', status=1), 'no such template')
+        with socket.socket(socket.AF_UNIX) as s:
+            s.connect('late/run/console')
+            s.sendall(b'publish page many\nstop\n')
+            has(s.makefile().read(), 'no command')
+        same(ask(up.port), ANN)
+        assert 'operator' not in up.events(), up.events()
+
+
+def what_a_box_makes_is_its_users_alone():
+    with Up('mine_alone', '--store', 'rows', '--log', 'log') as up:
+        ask(up.port, content='2 bob')
+        for name in ('rows.0', 'rows.0-wal', 'log', 'run', 'run/console'):
+            same(os.stat(f'mine_alone/{name}').st_mode & 0o077, 0)
+
+
 def a_file_that_takes_no_log_is_told_at_once():
     with Up('nolog', '--log', 'nowhere/log') as up:
         same(up.ends(), 7)
@@ -218,7 +246,7 @@ def systemd_is_told():
 
 def words_that_are_none_are_refused():
     write('words/site.okws', SITE)
-    for words in ([], ['site.okws'], ['site.okws', '--port', 'x'], ['site.okws', '--port', '1', '--nothing']):
+    for words in ([], ['site.okws'], ['site.okws', '--port', 'x'], ['site.okws', '--port', '1', '--nothing'], ['site.okws', '--port', '1', '--count', '0']):
         run('okws-up', *words, status=2, cwd='words')
     run('okws-up', 'nowhere', '--port', '1', status=3, cwd='words')
     run('okws-ctl', 'status', status=3, cwd='words')
@@ -230,5 +258,5 @@ CHECKS = [
     a_request_is_answered_before_the_end, a_second_signal_waits_for_nobody, a_box_can_be_ended_at_any_moment_of_its_start,
     a_refused_configuration_is_told_in_words, what_another_holds_ends_the_box_with_its_status,
     a_killed_server_ends_the_box_and_a_killed_child_is_told, orders_that_name_nothing_do_not_come_to_the_server,
-    a_file_that_takes_no_log_is_told_at_once, systemd_is_told, words_that_are_none_are_refused,
+    a_refused_page_has_no_commands_in_it, what_a_box_makes_is_its_users_alone, a_file_that_takes_no_log_is_told_at_once, systemd_is_told, words_that_are_none_are_refused,
 ]

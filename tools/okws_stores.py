@@ -11,15 +11,32 @@ def files(store):
 
 
 def holders(paths):
-    """The processes that have one of these files as a server does, with a lock. One that has no number here counts as 0."""
+    """The processes that have one of these files open, as far as they are seen from here."""
+    wanted = {os.path.realpath(path) for path in paths}
     found = set()
-    for path in paths:
-        with open(path, 'rb') as f:
-            told = fcntl.fcntl(f, fcntl.F_GETLK, struct.pack(LOCK, fcntl.F_WRLCK, os.SEEK_SET, 0, 0, 0))
-        kind, *_, pid = struct.unpack(LOCK, told)
-        if kind != fcntl.F_UNLCK:
-            found.add(max(pid, 0))
+    for pid in filter(str.isdigit, os.listdir('/proc')):
+        try:
+            for fd in os.listdir(f'/proc/{pid}/fd'):
+                if os.readlink(f'/proc/{pid}/fd/{fd}') in wanted:
+                    found.add(int(pid))
+        except OSError:
+            pass
     return found
+
+
+def is_locked(path):
+    """Whether a process has a file's lock, as a server has that of its files, wherever that process is."""
+    with open(path, 'rb') as f:
+        told = fcntl.fcntl(f, fcntl.F_GETLK, struct.pack(LOCK, fcntl.F_WRLCK, os.SEEK_SET, 0, 0, 0))
+    return struct.unpack(LOCK, told)[0] != fcntl.F_UNLCK
+
+
+def give(path, like):
+    """Gives a file the owner and the mode of another, where who calls may."""
+    told = os.stat(like)
+    os.chmod(path, told.st_mode & 0o666)
+    if (told.st_uid, told.st_gid) != (os.stat(path).st_uid, os.stat(path).st_gid):
+        os.chown(path, told.st_uid, told.st_gid)
 
 
 def counts(path):

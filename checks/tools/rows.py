@@ -1,6 +1,7 @@
 """Checks of okws-backup and okws-migrate."""
-import json, os, shutil, threading, time
-from common import SITE, Up, ask, has, run, same, write
+import json, os, shutil, subprocess, sys, threading, time
+import okws_stores
+from common import SITE, TOOLS, Skipped, Up, ask, has, run, same, wait_until, write
 
 
 def entries(port):
@@ -50,6 +51,44 @@ def a_copy_of_a_store_that_nobody_has_is_made_too():
     same(sorted(os.listdir('cold/a copy'))[:1], ['the rows.0'])
 
 
+def a_copy_comes_back_with_its_owner():
+    with Up('back', '--store', 'rows') as up:
+        ask(up.port, content='2 bob')
+        run('okws-backup', 'rows', 'copy', cwd='back')
+        ask(up.port, content='3 cy')
+        has(run('okws-backup', '--restore', 'rows', 'copy', status=1, cwd='back'), 'a server has rows')
+        up.process.kill()
+        wait_until(lambda: not okws_stores.is_locked('back/rows.0'))
+    owner = (65534, 65534) if os.geteuid() == 0 else (os.geteuid(), os.getegid())
+    os.chown('back/rows.0', *owner)
+    run('okws-backup', '--restore', 'rows', 'copy', cwd='back')
+    told = os.stat('back/rows.0')
+    same((told.st_uid, told.st_gid, told.st_mode & 0o777, os.path.exists('back/rows.0-wal')), (*owner, 0o600, False))
+    os.chown('back/rows.0', os.geteuid(), os.getegid())
+    same(serves('back', 'rows'), [1, 2])
+    has(run('okws-backup', '--restore', 'rows', 'nowhere', status=1, cwd='back'), 'has no copy of rows')
+
+
+def a_server_goes_on_though_another_holder_has_ended():
+    with Up('others', '--store', 'rows') as up:
+        with open('others/rows.0', 'rb') as held:
+            other = subprocess.Popen(['sleep', '60'], stdin=held)
+        has(run('okws-backup', 'rows', 'copy', cwd='others'), 'was stopped for')
+        other.kill()
+        run('okws-backup', 'rows', 'copy', cwd='others')
+        other.wait()
+        same(entries(up.port), [1])
+
+
+def a_store_whose_server_is_not_seen_is_not_copied():
+    with Up('unseen', '--store', 'rows'):
+        words = ['unshare', '--user', '--map-root-user', '--mount', '--pid', '--fork', '--mount-proc', sys.executable, os.path.join(TOOLS, 'okws-backup'), 'rows', 'copy']
+        told = subprocess.run(words, cwd='unseen', capture_output=True, text=True, timeout=120)
+        if 'unshare' in told.stderr:
+            raise Skipped('there is no namespace to be had')
+        has(told.stderr, 'is not seen from here')
+
+
 def a_damaged_store_is_no_copy():
     with Up('damaged', '--store', 'rows') as up:
         for number in range(2, 60):
@@ -94,6 +133,7 @@ def rows_that_do_not_fit_leave_no_store():
 
 
 CHECKS = [
-    a_copy_under_writes_has_what_was_answered, a_copy_of_a_store_that_nobody_has_is_made_too, a_damaged_store_is_no_copy,
+    a_copy_under_writes_has_what_was_answered, a_copy_of_a_store_that_nobody_has_is_made_too, a_copy_comes_back_with_its_owner,
+    a_server_goes_on_though_another_holder_has_ended, a_store_whose_server_is_not_seen_is_not_copied, a_damaged_store_is_no_copy,
     rows_are_taken_over_to_other_columns, rows_that_do_not_fit_leave_no_store,
 ]

@@ -168,7 +168,7 @@ def what_is_no_front_is_refused():
     has(run('okws-front', 'good.okws@80', 'good.okws@81', status=2), 'both own /notes')
     for words in ([], ['good.okws'], ['good.okws@x'], ['good.okws@80,'], ['--doors', 'x', 'good.okws@80']):
         run('okws-front', *words, status=2)
-    has(run('okws-front', '--doors', '9', 'good.okws@80,host:81'), 'server 0 127.0.0.1:80 maxconn 4', 'server 1 host:81 check')
+    has(run('okws-front', '--doors', '9', 'good.okws@80,host:81,[::1]:82'), 'server 0 127.0.0.1:80 maxconn 4', 'server 1 host:81 check', 'server 2 [::1]:82 check')
 
 
 CHECKS = [

@@ -37,7 +37,7 @@ def explained(words, *files, status=1):
 def a_compartment_is_on_one_screen():
     write('shown.okws', SHOWN)
     found = run('okws-show', 'shown.okws', 'guest')
-    has(found, 'program    /bin/true a word', 'paths      /guest /guest/more', 'templates  page', 'log        yes',
+    has(found, 'program    /bin/true a word', 'confined   no\n', 'paths      /guest /guest/more', 'templates  page', 'log        yes',
         'msgs: reads who; tests id, note; sorts by who\n', 'msgs: adds rows\n', 'msgs: sets note\n', 'msgs: takes rows away\n')
     assert 'other' not in found and len(found.splitlines()) < 24, found
 
@@ -57,6 +57,27 @@ def what_is_odd_is_told():
               'other: query main 6 has no LIMIT', 'query main 7: granted to nobody', 'template secret: read by nobody']
     found = [sentence for sentence in told if 'no program okws-run' not in sentence]
     assert len(found) == len(wanted) and all(map(str.startswith, found, wanted)), told
+
+
+CONFINED = """okws 1
+service closed okws-run --read pages --memory 64 --seconds 5 --env A=b /bin/true
+service open okws-run --network --write . --run /bin/sh --read pages ./program
+service other bwrap --unshare-all /bin/true
+uri /closed closed
+uri /open open
+uri /other other
+"""
+
+
+def what_okws_run_gives_is_shown():
+    write('confined/site.okws', CONFINED)
+    os.makedirs('confined/pages', exist_ok=True)
+    found = run('okws-show', 'site.okws', cwd='confined')
+    has(found, 'confined   by okws-run: reads pages; has in its environment A=b; has 64 MiB; has 5 s a dialog\n',
+        'confined   by okws-run: reads pages; writes .; starts /bin/sh; has the network\n', 'confined   by bwrap, whose words are not read here\n')
+    told = found.split('\nodd\n')[1]
+    has(told, 'open: it may read ., where', 'open: it may write .\n', 'open: it may write its own program ./program', 'open: it may start /bin/sh', 'open: it has the network')
+    assert 'closed: it' not in told and 'other: it' not in told, told
 
 
 def a_refused_configuration_is_shown_in_words():
@@ -218,7 +239,7 @@ def words_are_completed():
 
 
 CHECKS = [
-    a_compartment_is_on_one_screen, tables_tell_who_uses_which_column, what_is_odd_is_told, a_refused_configuration_is_shown_in_words,
+    a_compartment_is_on_one_screen, tables_tell_who_uses_which_column, what_is_odd_is_told, what_okws_run_gives_is_shown, a_refused_configuration_is_shown_in_words,
     refusals_are_explained_with_a_guess, a_script_is_explained_frame_by_frame, what_a_server_tells_of_a_service_has_its_name,
     each_rule_of_the_page_has_words, frames_are_taken_apart,
     a_run_is_drawn, a_refused_script_is_drawn_to_its_line, each_answer_of_a_run_is_drawn, the_page_shows_in_a_browser, words_are_completed,

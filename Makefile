@@ -4,6 +4,8 @@
 .PHONY: test check bin services run demo play try man docs okws-run install dist
 PORT ?= 8080
 PREFIX ?= /usr/local
+# What a program is built of; `-dirty` stands behind it where something isn't committed.
+COMMIT = git describe --always --dirty --abbrev=40 --exclude '*'
 test:
 	rt ci
 check:
@@ -13,11 +15,13 @@ bin:
 	rm -f crates/okws_program/out.txt
 	mkdir -p bin
 	cp crates/okws_program/out/okws_program bin/okws
+	$(COMMIT) >bin/okws.commit
 services:
 	cd crates/svc_probe && rt run </dev/null
 	cd crates/svc_guest && rt run </dev/null
 	mkdir -p bin
 	cp crates/svc_probe/out/svc_probe crates/svc_guest/out/svc_guest bin
+	$(COMMIT) >bin/services.commit
 run: okws-run bin services
 	examples/serve.sh $(PORT)
 demo: okws-run bin services

@@ -1,8 +1,9 @@
 #!/usr/bin/env bash
 # Makes a tarball and a Debian package of what tools/install.sh installs, in a folder.
 #   tools/dist.sh FOLDER
-# They need glibc, and Python 3.11 for the tools and the kit; no prover and no toolchain. Both name the commit, and the last line of the gate's run over it where
-# $BIN/gate has it (bin/gate without $BIN): `commit HASH`, and below it that line. What Debian's strip, dpkg-deb and pandoc do is left out without them, by name.
+# They need glibc, and Python 3.11 for the tools and the kit; no prover and no toolchain. Both name the commits of which the programs were built, as `make bin services`
+# left them in $BIN (bin without $BIN), that of the rest, and the last line of the gate's run: where $BIN/gate has it, `commit HASH` and below it that line, of the
+# program's commit. What Debian's strip, dpkg-deb and pandoc do is left out without them, by name.
 set -euo pipefail
 repository=$(realpath "$(dirname "$0")/..")
 mkdir -p "$1"
@@ -10,19 +11,24 @@ folder=$(realpath "$1")
 work=$(mktemp -d)
 trap 'rm -rf "$work"' EXIT
 cd "$repository"
-commit=$(git rev-parse HEAD)
-version=0.$(git log -1 --format=%cd --date=format:%Y%m%d.%H%M)+git${commit:0:8}
+version=0.$(git log -1 --format=%cd --date=format:%Y%m%d.%H%M)+git$(git rev-parse --short=8 HEAD)
 maintainer=$(git log -1 --format='%an <%ae>')
-gate=${BIN:-bin}/gate
+bin=${BIN:-bin}
 
-# What the programs were built of, in two lines.
+# The commit in a file; `-dirty` stands behind it where something wasn't committed.
+commit_in() { if [ -f "$1" ]; then echo "commit $(cat "$1")"; else echo "a commit that isn't known"; fi; }
+
+# What all this was built of.
 built() {
-    if [ -n "$(git status --porcelain)" ]; then
-        printf "Built of commit %s, with changes that aren't committed.\nWhat the gate says of it isn't known.\n" "$commit"
-    elif [ -f "$gate" ] && [ "$(sed -n 1p "$gate")" = "commit $commit" ]; then
-        printf 'Built of commit %s.\nThe gate over it ended with: %s\n' "$commit" "$(sed -n 2p "$gate")"
+    local program
+    program=$(commit_in "$bin/okws.commit")
+    echo "okws: of $program"
+    [ ! -x "$bin/svc_guest" ] || echo "svc_guest, svc_probe: of $(commit_in "$bin/services.commit")"
+    echo "all else: of commit $(git describe --always --dirty --abbrev=40 --exclude '*')"
+    if [ -f "$bin/gate" ] && [ "$(sed -n 1p "$bin/gate")" = "$program" ]; then
+        echo "The gate over okws's commit ended with: $(sed -n 2p "$bin/gate")"
     else
-        printf "Built of commit %s.\nWhat the gate says of it isn't known.\n" "$commit"
+        echo "How the gate over okws's commit ended isn't known."
     fi
 }
 
@@ -49,7 +55,7 @@ add_documents() {
     printf 'Copyright %s %s\nThe repository of which this was built states no licence.\n' "$(git log -1 --format=%cd --date=format:%Y)" "$maintainer" >"$doc/copyright"
     {
         printf 'okws (%s) unstable; urgency=medium\n\n  * ' "$version"
-        built | sed '2s/^/    /'
+        built | sed '2,$s/^/    /'
         printf '\n -- %s  %s\n' "$maintainer" "$(git log -1 --format=%cD)"
     } | gzip -n9 >"$doc/changelog.gz"
 }

@@ -9,6 +9,8 @@ CHECKS = [*up.CHECKS, *seeing.CHECKS, *front.CHECKS, *rows.CHECKS, *package.CHEC
 def main():
     os.environ['OKWS'] = os.path.realpath(sys.argv[1])
     only, counts = sys.argv[2:], {'passed': 0, 'failed': 0, 'skipped': 0}
+    if unknown := [name for name in only if name not in [check.__name__ for check in CHECKS]]:
+        sys.exit(f'there is no check {unknown[0]}')
     folder = tempfile.mkdtemp()
     os.chdir(folder)
     try:

@@ -20,7 +20,7 @@ _okws() {
         'okws serve') options='--port --serve --doors --store --log' ;;
         okws-up) options='--port --doors --store --log --templates --run --grace --count --okws' ;;
         okws-ctl) options='--site --run --json' ;;
-        okws-front) options='--listen --certificate --doors --bridges' ;;
+        okws-front) options='--listen --certificate --doors' ;;
     esac
     case $before in
         --store|--log|--okws|--certificate) mapfile -t COMPREPLY < <(compgen -f -- "$word"); return ;;

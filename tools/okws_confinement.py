@@ -1,4 +1,4 @@
-"""What a service's words give it of the machine: those of okws-run, which docs/KITS.md has, are read; another program that confines is known by its name alone."""
+"""What a service's words give it of the machine. Those of okws-run, which docs/KITS.md has, are read; another program that confines is known by name alone."""
 import dataclasses, os
 
 OTHERS = ('bwrap', 'systemd-run', 'firejail', 'nsjail', 'minijail0', 'docker', 'podman')

@@ -111,15 +111,21 @@ def lines_of(path):
             yield Line(number, words, text)
 
 
+def output_of(words):
+    """How the program ends with these words, and the lines that it prints. A line ends in LF alone: a query's text may have any other end of a line."""
+    run = subprocess.run(words, stdout=subprocess.PIPE, stdin=subprocess.DEVNULL)
+    return run.returncode, run.stdout.decode('utf-8', 'replace').removesuffix('\n').split('\n') if run.stdout else []
+
+
 def read(path, okws=None):
     """What a configuration declares, its queries' texts in their canonical form. The program judges it first: raises Refused."""
-    run = subprocess.run([okws or program(), 'check', '--', path], stdout=subprocess.PIPE, stdin=subprocess.DEVNULL, text=True)
-    if run.returncode:
-        raise Refused(run.returncode, run.stdout.strip())
+    status, printed = output_of([okws or program(), 'check', '--', path])
+    if status:
+        raise Refused(status, ' '.join(printed))
     site = Site()
     for line in lines_of(path):
         declare(site, line.words[0], line.words[1:])
-    for line in run.stdout.splitlines():
+    for line in printed:
         proxy, number, text = line.split(' ', 2)
         site.proxies[proxy].queries[int(number)] = text
     return site

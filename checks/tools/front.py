@@ -117,16 +117,31 @@ def a_service_without_rows_goes_on_at_the_other_server():
         same(set(clients.answers), {(200, 'hello')})
 
 
-def what_a_bridge_says_in_a_type_comes_as_fields():
-    site = f'okws 1\nservice bridged {SERVICE} /bridged hello text/plain;+okws-status=401;+okws-cookie=a=b\nuri /bridged bridged\n'
-    with Up('bridged', site=site) as up, Front('--bridges', f'bridged/site.okws@{up.port}') as front:
-        with urllib.request.urlopen(f'http://127.0.0.1:{up.port}/bridged', timeout=30) as plain:
-            same((plain.status, plain.headers['Set-Cookie']), (200, None))
-        try:
-            urllib.request.urlopen(f'http://127.0.0.1:{front.port}/bridged', timeout=30)
-            raise AssertionError('the status is no other')
-        except urllib.error.HTTPError as why:
-            same((why.code, why.headers['Set-Cookie'], why.headers['Content-Type'], why.read()), (401, 'a=b', 'text/plain', b'hello'))
+def asked(port, path, method='GET'):
+    """The status, the cookie and the type that a server answers."""
+    try:
+        answer = urllib.request.urlopen(urllib.request.Request(f'http://127.0.0.1:{port}{path}', method=method), timeout=60)
+    except urllib.error.HTTPError as why:
+        answer = why
+    with answer:
+        return answer.status, answer.headers['Set-Cookie'], answer.headers['Content-Type']
+
+
+def what_a_bridge_says_in_a_type_comes_as_fields_and_what_another_says_does_not():
+    said = 'hello text/plain;+okws-status=401;+okws-cookie=a=b'
+    site = f"""okws 1
+service bridged {SERVICE} /bridged {said} okws-cgi --front
+service plain {SERVICE} /plain {said}
+uri /bridged bridged
+uri /plain plain
+"""
+    with Up('bridged', site=site) as up, Front(f'bridged/site.okws@{up.port}') as front:
+        whole = 'text/plain; okws-status=401; okws-cookie=a=b'
+        same(asked(up.port, '/bridged'), (200, None, whole))
+        same(asked(front.port, '/bridged'), (401, 'a=b', 'text/plain'))
+        same(asked(front.port, '/bridged', 'DELETE')[0], 401)
+        same(asked(front.port, '/plain'), (200, None, whole))
+        same(asked(front.port, '/plain', 'DELETE')[0], 501)
 
 
 def no_request_is_lost_between_two_runs():
@@ -174,5 +189,5 @@ def what_is_no_front_is_refused():
 CHECKS = [
     requests_go_by_their_paths, a_service_that_hangs_keeps_its_own_clients_waiting_alone,
     where_one_of_two_machines_is_killed_no_request_of_the_others_services_is_lost, a_service_without_rows_goes_on_at_the_other_server,
-    what_a_bridge_says_in_a_type_comes_as_fields, no_request_is_lost_between_two_runs, clients_come_by_tls, what_is_no_front_is_refused,
+    what_a_bridge_says_in_a_type_comes_as_fields_and_what_another_says_does_not, no_request_is_lost_between_two_runs, clients_come_by_tls, what_is_no_front_is_refused,
 ]

@@ -42,6 +42,11 @@ def a_compartment_is_on_one_screen():
     assert 'other' not in found and len(found.splitlines()) < 24, found
 
 
+def a_text_may_have_other_ends_of_lines():
+    write('lines.okws', f"okws 1\nproxy main\ntable main m who TEXT\nquery main 1 SELECT who FROM m WHERE who = 'a{chr(0x2028)}b{chr(0x85)}c' LIMIT 1\n")
+    has(run('okws-show', 'lines.okws'), 'query main 1: granted to nobody')
+
+
 def tables_tell_who_uses_which_column():
     write('shown.okws', SHOWN)
     found = [' '.join(line.split()) for line in run('okws-show', 'shown.okws').splitlines()]
@@ -239,7 +244,7 @@ def words_are_completed():
 
 
 CHECKS = [
-    a_compartment_is_on_one_screen, tables_tell_who_uses_which_column, what_is_odd_is_told, what_okws_run_gives_is_shown, a_refused_configuration_is_shown_in_words,
+    a_compartment_is_on_one_screen, a_text_may_have_other_ends_of_lines, tables_tell_who_uses_which_column, what_is_odd_is_told, what_okws_run_gives_is_shown, a_refused_configuration_is_shown_in_words,
     refusals_are_explained_with_a_guess, a_script_is_explained_frame_by_frame, what_a_server_tells_of_a_service_has_its_name,
     each_rule_of_the_page_has_words, frames_are_taken_apart,
     a_run_is_drawn, a_refused_script_is_drawn_to_its_line, each_answer_of_a_run_is_drawn, the_page_shows_in_a_browser, words_are_completed,

@@ -125,9 +125,9 @@ class Front:
     timeout server 60s
 frontend site
     bind 127.0.0.1:{self.port}
-{rules}    default_backend okws
+    default_backend okws
 backend okws
-    server a 127.0.0.1:{self.server.port}
+{rules}    server a 127.0.0.1:{self.server.port}
 """)
         self.process = subprocess.Popen([program, '-f', 'front.cfg'], stdout=subprocess.DEVNULL, stderr=subprocess.DEVNULL)
         wait_until(lambda: self.process.poll() is not None or listens(self.port), 'the front listens')

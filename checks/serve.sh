@@ -502,10 +502,10 @@ def a_new_file_of_rows_has_its_tables_when_the_doors_open():
         same(server.ends()[1], 0)
 
 def rows_of_tables_or_columns_in_another_order_are_refused():
-    for name, lines in [('tables', ['table main one id INT KEY a TEXT', 'table main two id INT KEY a TEXT']), ('columns', ['table main one id INT KEY a TEXT b TEXT'])]:
+    for name, lines in [('order_of_tables', ['table main one id INT KEY a TEXT', 'table main two id INT KEY a TEXT']), ('order_of_columns', ['table main one id INT KEY a TEXT b TEXT'])]:
         write('ordered', 'okws 1\nproxy main\n' + '\n'.join(lines) + '\n')
         same(said('serve', 'ordered', '--port', str(a_port()), '--serve', '0', '--store', name)[1], 0)
-        changed = lines[::-1] if name == 'tables' else ['table main one id INT KEY b TEXT a TEXT']
+        changed = lines[::-1] if name == 'order_of_tables' else ['table main one id INT KEY b TEXT a TEXT']
         write('changed', 'okws 1\nproxy main\n' + '\n'.join(changed) + '\n')
         same(said('serve', 'changed', '--port', str(a_port()), '--serve', '0', '--store', name), ('store fault\n', 6))
         same(said('serve', 'ordered', '--port', str(a_port()), '--serve', '0', '--store', name)[1], 0)

@@ -2,8 +2,8 @@
 # Makes a tarball and a Debian package of what tools/install.sh installs, in a folder.
 #   tools/dist.sh FOLDER
 # They need glibc, and Python 3.11 for the tools and the kit; no prover and no toolchain. Both name the commits of which the programs were built, as `make bin services`
-# left them in $BIN (bin without $BIN), that of the rest, and the last line of the gate's run: where $BIN/gate has it, `commit HASH` and below it that line, of the
-# program's commit. What Debian's strip, dpkg-deb and pandoc do is left out without them, by name.
+# left them in $BIN (bin without $BIN), that of the rest, and how the gate's run ended, where $BIN/gate tells it of the program's commit, as .ci/run does: `commit HASH`,
+# and below it a line. What Debian's strip, dpkg-deb and pandoc do is left out without them, by name.
 set -euo pipefail
 repository=$(realpath "$(dirname "$0")/..")
 mkdir -p "$1"

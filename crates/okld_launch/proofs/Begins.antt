@@ -17,7 +17,7 @@ use Rattle.monitor_model.specs.Cell.{last_booted}
 use Rattle.monitor_model.specs.Launcher.{begun, begun_after}
 use Rattle.monitor_model.specs.Seen.{proxy_past}
 use Rattle.monitor_model.specs.Standing.{proxy_grant}
-use Rattle.live_board.specs.Board.{services}
+use Rattle.turn_lock.specs.Board.{services}
 use Rattle.cell_locks.proofs.Onlys.{only_else, new_at}
 use Rattle.cell_locks.specs.Row.{OnlyAt, seen_at}
 use Rattle.launch_journal.specs.Launches.{Launches, entered}

@@ -3,7 +3,7 @@ use Rattle.std.proofs.Common.{◌≡◌, ℕ, List, sym, subst}
 use Rattle.std.proofs.lemmas.Bool.{true≢false}
 use Rattle.std.specs.Prelude.{Some, None, IsSome, IsNone}
 use Rattle.std.specs.declared.option.Option.{Option}
-use Rattle.live_board.specs.Seats.{MayDraw}
+use Rattle.turn_lock.specs.BoardSeats.{MayDraw}
 use Rattle.okws_outer.specs.Conns.{ConnWire}
 use Rattle.okws_plan.specs.declared.configuration.Config.{Config}
 use Rattle.site_worker.specs.declared.console.Overseen.{Overseen}

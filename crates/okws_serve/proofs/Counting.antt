@@ -3,8 +3,8 @@ use Rattle.std.proofs.Common.{◌≡◌, ℕ, zero, suc, ◌+◌, ◌<◌, ◌�
 use Rattle.std.specs.Prelude.{nat_lt}
 use mathlib.Core.Logic.{dite}
 use native.Mathlib.Decide.{ℕ_discrete}
-use Rattle.live_board.specs.Board.{AllUnder, drawn_by}
-use Rattle.live_board.proofs.Lists.{drawn-under}
+use Rattle.turn_lock.specs.Board.{AllUnder, drawn_by}
+use Rattle.turn_lock.proofs.BoardLists.{drawn-under}
 
 -- one where the number is below the limit
 abbrev pub one_below : ℕ → ℕ → ℕ

@@ -2,7 +2,7 @@
 use Rattle.std.proofs.Common.{◌≡◌, ℕ, suc, ◌+◌, ◌<◌, List, [], ◌∷◌, ◌++◌, length, map, refl, sym, ap, ◌∙◌, subst, arith, append_assoc}
 use Rattle.std.specs.Prelude.{Some, IsSome, option_to_list, slice_index_or}
 use Rattle.atomic_table.specs.Seated.{TableId}
-use Rattle.live_board.specs.Seats.{IsFresh}
+use Rattle.turn_lock.specs.BoardSeats.{IsFresh}
 use Rattle.okws_outer.specs.Conns.{ConnWire}
 use Rattle.okws_plan.specs.declared.configuration.Config.{Config}
 use Rattle.site_worker.specs.Lives.{Life, SameWorker}

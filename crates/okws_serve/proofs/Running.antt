@@ -4,9 +4,9 @@ use Rattle.std.proofs.lemmas.List.{length-map}
 use Rattle.std.specs.Prelude.{Some, None, IsSome, IsNone, option_to_list}
 use Rattle.std.specs.declared.option.Option.{Option}
 use Rattle.atomic_table.specs.Seated.{TableId}
-use Rattle.live_board.specs.Seats.{AllAt, AreRising}
-use Rattle.live_board.specs.Seats.{IsFresh as IsFreshPlace}
-use Rattle.live_board.specs.Seats.{SeatIs as Place}
+use Rattle.turn_lock.specs.BoardSeats.{AllAt, AreRising}
+use Rattle.turn_lock.specs.BoardSeats.{IsFresh as IsFreshPlace}
+use Rattle.turn_lock.specs.BoardSeats.{SeatIs as Place}
 use Rattle.named_columns.specs.Counts.{capped}
 use Rattle.okws_outer.specs.Conns.{ConnWire}
 use Rattle.okws_outer.specs.Doors.{Entrance}

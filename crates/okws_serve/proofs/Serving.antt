@@ -1,9 +1,9 @@
 -- How many connections were begun at all doors of a run.
 use Rattle.std.proofs.Common.{◌≡◌, ℕ, suc, ◌+◌, ◌<◌, ◌≤◌, ◌-◌, min, Bool, true, false, ◌||◌, List, [], ◌∷◌, length, map, refl, sym, ap, ◌∙◌, subst, arith, rules, append-nil}
 use Rattle.std.proofs.lemmas.Bool.{true≢false}
-use Rattle.live_board.specs.Board.{drawn_by}
-use Rattle.live_board.specs.Seats.{IsFresh}
-use Rattle.live_board.specs.Seats.{SeatIs as Place}
+use Rattle.turn_lock.specs.Board.{drawn_by}
+use Rattle.turn_lock.specs.BoardSeats.{IsFresh}
+use Rattle.turn_lock.specs.BoardSeats.{SeatIs as Place}
 use Rattle.atomic_table.specs.Seated.{TableId}
 use Rattle.okws_outer.specs.Conns.{ConnWire}
 use Rattle.okws_outer.specs.Doors.{Entrance}

@@ -2,8 +2,8 @@
 use Rattle.std.proofs.Common.{◌≡◌, ℕ, suc, List, [], ◌∷◌, ◌++◌, length, map, sym, ap, ◌∙◌, subst}
 use Rattle.std.specs.Prelude.{None}
 use Rattle.atomic_table.specs.Seated.{TableId}
-use Rattle.live_board.specs.Seats.{SeatIs as Place}
-use Rattle.live_board.specs.Seats.{IsFresh}
+use Rattle.turn_lock.specs.BoardSeats.{SeatIs as Place}
+use Rattle.turn_lock.specs.BoardSeats.{IsFresh}
 use Rattle.okws_outer.specs.Doors.{Entrance}
 use Rattle.site_worker.specs.Lives.{Life}
 use Rattle.turn_lock.specs.Seats.{TurnIs}

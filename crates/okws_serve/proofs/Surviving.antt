@@ -3,7 +3,7 @@ use Rattle.std.proofs.Common.{◌≡◌, ℕ, List, length, sym, ◌∙◌, subs
 use Rattle.std.proofs.lemmas.Bool.{true≢false}
 use Rattle.std.specs.Prelude.{Some, None, IfSome, IfNone, IsSome, IsNone}
 use Rattle.std.specs.declared.option.Option.{Option}
-use Rattle.live_board.specs.Seats.{AllAt, BoardIs}
+use Rattle.turn_lock.specs.BoardSeats.{AllAt, BoardIs}
 use Rattle.okws_plan.specs.declared.configuration.Config.{Config}
 use Rattle.turn_lock.specs.Seats.{TurnIs}
 use Rattle.site_run.specs.Rows.{ChairsAre, Seated, Spacious, SameRoom}

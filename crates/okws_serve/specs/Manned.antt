@@ -7,7 +7,7 @@ use Rattle.okws_plan.specs.declared.event.OkdEvent.{OkdEvent}
 use Rattle.okws_outer.specs.Conns.{ConnWire}
 use Rattle.okws_outer.specs.Doors.{Entrance}
 use Rattle.turn_lock.specs.Seats.{TurnIs}
-use Rattle.live_board.specs.Seats.{IsFresh}
+use Rattle.turn_lock.specs.BoardSeats.{IsFresh}
 use Rattle.named_columns.specs.Counts.{capped}
 use Rattle.site_worker.specs.Commands.{Oversees}
 use Rattle.site_worker.specs.Lives.{Life}

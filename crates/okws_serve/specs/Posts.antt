@@ -2,7 +2,7 @@
 use Rattle.std.specs.Prelude.{◌≡◌, ◌≤◌, ℕ, List, [], Some, None, IsNone, length}
 use Rattle.std.specs.declared.option.Option.{Option}
 use Rattle.atomic_table.specs.Seated.{TableId}
-use Rattle.live_board.specs.Seats.{SeatIs}
+use Rattle.turn_lock.specs.BoardSeats.{SeatIs}
 use Rattle.okws_base.specs.declared.limit.TheConstants.{MOST_CONNECTIONS, MOST_SERVICES, MOST_TEMPLATES}
 use Rattle.okws_outer.specs.Conns.{ConnWire}
 use Rattle.okws_outer.specs.Doors.{Entrance}

@@ -6,7 +6,6 @@ ghost use Rattle.okws_serve.specs.Posts.{AttendedIf, OverseenIf, WorksAt, IsStee
 
 use admin_console::reader::Reader;
 use cell_locks::named::CellNames;
-use live_board::Board;
 use okld_launch::named::Staffed;
 use okws_outer::children::Children;
 use okws_outer::conn::Conn;
@@ -22,6 +21,7 @@ use site_worker::door::Attended;
 use site_worker::worker::Worker;
 use std::marker::Model;
 use std::sync::Wait;
+use turn_lock::board::Board;
 
 /// A worker at its door, which it attends once.
 pub(crate) struct DoorPost<

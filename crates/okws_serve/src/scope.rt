@@ -2,7 +2,7 @@
 
 ghost use Rattle.std.specs.Prelude.{◌≡◌, ◌≤◌, ◌<◌, ◌+◌, ◌*◌, ℕ, true, length, vec_len, vec_capacity, slice_index_or};
 ghost use Rattle.okws_base.specs.declared.limit.TheConstants.{MOST_SERVICES, MOST_TEMPLATES, MOST_CONNECTIONS, GREATEST_RETRY};
-ghost use Rattle.live_board.specs.Seats.{AllAt};
+ghost use Rattle.turn_lock.specs.BoardSeats.{AllAt};
 ghost use Rattle.site_worker.specs.declared.worker.TheConstants.{TURN_ITEMS};
 ghost use Rattle.site_run.specs.Opening.{IsUnopened};
 ghost use Rattle.site_run.specs.Places.{AllIdle, Placed, HasPlaces};

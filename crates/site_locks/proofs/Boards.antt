@@ -2,7 +2,7 @@
 use Rattle.std.proofs.Common.{◌≡◌, ◌∙◌, ℕ, zero, suc, ◌<◌, ◌≤◌, List, [], ◌∷◌, length, get_or, set, refl, ap, arith}
 use Rattle.std.proofs.Math.ListN.{length-set}
 use Rattle.atomic_table.specs.Seated.{TableId}
-use Rattle.live_board.specs.Seats.{SeatIs as BoardSeat}
+use Rattle.turn_lock.specs.BoardSeats.{SeatIs as BoardSeat}
 use Rattle.site_locks.specs.Sat.{AtBoard}
 
 -- no number fell

@@ -7,9 +7,9 @@ use Rattle.okws_plan.specs.declared.event.OkdEvent.{OkdEvent}
 use Rattle.okws_plan.specs.declared.event.ProxyEvent.{ProxyEvent}
 use Rattle.okws_plan.specs.declared.event.PubdEvent.{PubdEvent}
 use Rattle.okws_plan.specs.declared.event.LogEvent.{LogEvent}
-use Rattle.live_board.specs.Board.{UpTo, AllSaw as PartsSaw, AllDrew as PartsDrew}
-use Rattle.live_board.specs.Seats.{SeatIs as BoardSeat, parts}
-use Rattle.live_board.specs.declared.rule.Part.{Part}
+use Rattle.turn_lock.specs.Board.{UpTo, AllSaw as PartsSaw, AllDrew as PartsDrew}
+use Rattle.turn_lock.specs.BoardSeats.{SeatIs as BoardSeat, parts}
+use Rattle.turn_lock.specs.declared.board_rule.Part.{Part}
 use Rattle.monitor_model.specs.declared.record.Own.{Own}
 use Rattle.named_columns.specs.Launched.{by_entry}
 use Rattle.turn_lock.proofs.Gathers.{all_grow-split, has_sight-append}
@@ -141,7 +141,7 @@ module _ (l : LocksAre) (s : Sat) (e : EndsAre) (a : AreOf l s e) where
       (subst (λ K. UpTo K greatest) (sym seen) g.0, λ last. seen ∙ g.1 (ap suc a.seats.board_at.number_is ∙ last))
 
   drew_of : (hand : ℕ → ℕ) (total : ℕ) → PartsDrew hand total (parts e.board) → AllDrew hand total (s ∷ [])
-  drew_of hand total g = (ap (λ (x : Sat). x.drawn) a.sat_is ∙ (g.0 ∙ ap (λ k. Rattle.live_board.specs.Board.drawn_by hand k total) a.seats.board_at.number_is), tt)
+  drew_of hand total g = (ap (λ (x : Sat). x.drawn) a.sat_is ∙ (g.0 ∙ ap (λ k. Rattle.turn_lock.specs.Board.drawn_by hand k total) a.seats.board_at.number_is), tt)
 
 -- the first one's seats take in the others'
 pub gather_first : (l : LocksAre) (all left : List Sat) (s : Sat) (e : EndsAre) → all ≡ left ++ s ∷ [] → RestAt l e → AreOf l s e → Gathering l all left e

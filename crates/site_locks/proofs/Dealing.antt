@@ -6,7 +6,7 @@ use Rattle.okws_plan.specs.declared.event.OkdEvent.{OkdEvent}
 use Rattle.okws_plan.specs.declared.event.ProxyEvent.{ProxyEvent}
 use Rattle.okws_plan.specs.declared.event.PubdEvent.{PubdEvent}
 use Rattle.okws_plan.specs.declared.event.LogEvent.{LogEvent}
-use Rattle.live_board.specs.Seats.{SeatIs as BoardSeat, IsFresh as IsFreshAtBoard, AreFresh as AreFreshAtBoard}
+use Rattle.turn_lock.specs.BoardSeats.{SeatIs as BoardSeat, IsFresh as IsFreshAtBoard, AreFresh as AreFreshAtBoard}
 use Rattle.turn_lock.proofs.Rows.{append_length}
 use Rattle.turn_lock.specs.Rows.{IsFreshRow, FreshRows}
 use Rattle.turn_lock.specs.Seats.{TurnIs, SeatIs, IsFresh, AreFresh}

@@ -8,7 +8,7 @@ use Rattle.okws_plan.specs.declared.event.PubdEvent.{PubdEvent}
 use Rattle.okws_plan.specs.declared.event.LogEvent.{LogEvent}
 use Rattle.monitor_model.specs.declared.record.Own.{Own}
 use Rattle.monitor_model.specs.Seen.{proxy_past}
-use Rattle.live_board.specs.Seats.{SeatIs as BoardSeat}
+use Rattle.turn_lock.specs.BoardSeats.{SeatIs as BoardSeat}
 use Rattle.turn_lock.specs.Seats.{TurnIs, SeatIs}
 use Rattle.site_locks.specs.Sat.{LockIds, AreSeats, sat_of}
 use Rattle.site_locks.specs.Steps.{EntersProxy, SeesProxy, RevokesProxy}

@@ -9,7 +9,7 @@ use Rattle.okws_plan.specs.declared.event.PubdEvent.{PubdEvent}
 use Rattle.okws_plan.specs.declared.event.LogEvent.{LogEvent}
 use Rattle.monitor_model.specs.declared.record.Own.{Own}
 use Rattle.monitor_model.specs.Seen.{proxy_past}
-use Rattle.live_board.specs.Seats.{SeatIs as BoardSeat}
+use Rattle.turn_lock.specs.BoardSeats.{SeatIs as BoardSeat}
 use Rattle.named_columns.specs.Launched.{by_entry}
 use Rattle.turn_lock.specs.Seats.{SeatIs}
 use Rattle.site_locks.specs.Sat.{LockIds, AreSeats, sat_of}

@@ -6,8 +6,8 @@ use Rattle.okws_plan.specs.declared.event.OkdEvent.{OkdEvent}
 use Rattle.okws_plan.specs.declared.event.ProxyEvent.{ProxyEvent}
 use Rattle.okws_plan.specs.declared.event.PubdEvent.{PubdEvent}
 use Rattle.okws_plan.specs.declared.event.LogEvent.{LogEvent}
-use Rattle.live_board.specs.Board.{UpTo, drawn_by, AllSaw as PartsSaw, AllDrew as PartsDrew}
-use Rattle.live_board.specs.Seats.{SeatIs as BoardSeat, parts}
+use Rattle.turn_lock.specs.Board.{UpTo, drawn_by, AllSaw as PartsSaw, AllDrew as PartsDrew}
+use Rattle.turn_lock.specs.BoardSeats.{SeatIs as BoardSeat, parts}
 use Rattle.named_columns.specs.Launched.{by_entry}
 use Rattle.turn_lock.specs.Rows.{RestRow, RowHas, IsJoined, JoinedRow, GrownRow}
 use Rattle.turn_lock.specs.Seats.{SeatIs, AllGrow, HasSight, sights}

@@ -6,8 +6,8 @@ use Rattle.okws_plan.specs.declared.event.OkdEvent.{OkdEvent}
 use Rattle.okws_plan.specs.declared.event.ProxyEvent.{ProxyEvent}
 use Rattle.okws_plan.specs.declared.event.PubdEvent.{PubdEvent}
 use Rattle.okws_plan.specs.declared.event.LogEvent.{LogEvent}
-use Rattle.live_board.specs.Board.{none_begun}
-use Rattle.live_board.specs.Seats.{SeatIs as BoardSeat, AreFresh as AreFreshAtBoard}
+use Rattle.turn_lock.specs.Board.{none_begun}
+use Rattle.turn_lock.specs.BoardSeats.{SeatIs as BoardSeat, AreFresh as AreFreshAtBoard}
 use Rattle.turn_lock.specs.Rows.{FreshRows}
 use Rattle.turn_lock.specs.Seats.{SeatIs, AreFresh}
 use Rattle.site_locks.specs.Sat.{LocksAre, AreLocks, Sat, ids_of}

@@ -10,9 +10,9 @@ use Rattle.okws_plan.specs.declared.event.PubdEvent.{PubdEvent}
 use Rattle.okws_plan.specs.declared.event.LogEvent.{LogEvent}
 use Rattle.monitor_model.specs.declared.record.Own.{Own}
 use Rattle.monitor_model.specs.Seen.{Seen}
-use Rattle.live_board.specs.Board.{services}
-use Rattle.live_board.specs.Seats.{BoardIs}
-use Rattle.live_board.specs.Seats.{SeatIs as BoardSeat}
+use Rattle.turn_lock.specs.Board.{services}
+use Rattle.turn_lock.specs.BoardSeats.{BoardIs}
+use Rattle.turn_lock.specs.BoardSeats.{SeatIs as BoardSeat}
 use Rattle.named_columns.specs.Launched.{by_entry}
 use Rattle.turn_lock.specs.Rows.{AllCount}
 use Rattle.turn_lock.specs.Seats.{TurnIs, SeatIs}

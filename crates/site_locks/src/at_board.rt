@@ -1,8 +1,8 @@
 //! What a number does at the board.
 
 ghost use Rattle.std.specs.Prelude.{◌≡◌, ◌<◌, ◌≤◌, ◌∷◌, length, slice_index, slice_set};
-ghost use Rattle.live_board.specs.Board.{AllUnder};
-ghost use Rattle.live_board.specs.Seats.{MayDraw};
+ghost use Rattle.turn_lock.specs.Board.{AllUnder};
+ghost use Rattle.turn_lock.specs.BoardSeats.{MayDraw};
 
 use crate::locks::{Locks, Seats};
 use crate::named::Site;

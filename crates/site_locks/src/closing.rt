@@ -4,8 +4,8 @@ ghost use Rattle.std.specs.Prelude.{◌≡◌, ◌<◌, ◌≤◌, ◌+◌, ℕ,
 ghost use Rattle.okws_base.specs.Turns.{of};
 ghost use Rattle.named_columns.specs.Held.{HeldProxy};
 ghost use Rattle.named_columns.specs.Launched.{by_entry};
-ghost use Rattle.live_board.specs.Board.{AllSaw as PartsSaw, AllDrew as PartsDrew};
-ghost use Rattle.live_board.specs.Seats.{parts};
+ghost use Rattle.turn_lock.specs.Board.{AllSaw as PartsSaw, AllDrew as PartsDrew};
+ghost use Rattle.turn_lock.specs.BoardSeats.{parts};
 ghost use Rattle.turn_lock.specs.Rows.{NoneFrom, GrownRow};
 ghost use Rattle.turn_lock.specs.Seats.{AllGrow, sights};
 ghost use Rattle.site_locks.specs.Sat.{Sat, RiseFrom};
@@ -32,7 +32,7 @@ struct Ends<N: Backed, K: Keeper, S: Sink> {
     proxies: Vec<Seat<SiteProxy<N, K>>>,
     pubd: Seat<SitePubd<N>>,
     oklogd: Seat<SiteLog<N, S>>,
-    board: live_board::Seat,
+    board: turn_lock::board::Seat,
 }
 
 impl<N: Backed, K: Keeper, S: Sink> Model for Ends<N, K, S> {

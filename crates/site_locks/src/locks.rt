@@ -5,7 +5,6 @@ ghost use Rattle.site_locks.specs.Sat.{AreLocks, AreSeats, LocksAre, sat_of};
 ghost use Rattle.site_locks.specs.Steps.{noted, NotesSpare};
 
 use crate::named::Site;
-use live_board::Board;
 use monitor_model::record::Own;
 use named_columns::log::SiteLog;
 use named_columns::named::Backed;
@@ -17,6 +16,7 @@ use okws_outer::keeper::Keeper;
 use okws_outer::stream::Sink;
 use std::alloc::{AllocError, Global};
 use std::marker::{Model, PhantomData};
+use turn_lock::board::Board;
 use turn_lock::{Seat, Turn};
 
 /// The locks round the columns of a run, and its board. They were made for the workers' numbers and the
@@ -60,7 +60,7 @@ pub struct Seats<N: Backed, J: Site, K: Keeper, S: Sink> {
     pub(crate) proxies: Vec<Seat<SiteProxy<N, K>>>,
     pub(crate) pubd: Seat<SitePubd<N>>,
     pub(crate) oklogd: Seat<SiteLog<N, S>>,
-    pub(crate) board: live_board::Seat,
+    pub(crate) board: turn_lock::board::Seat,
     pub(crate) own: Journal<Own>,
     pub(crate) spare: u32,
     pub(crate) of: PhantomData<J>,

@@ -1,7 +1,7 @@
 //! Putting the columns of a run behind locks.
 
 ghost use Rattle.std.specs.Prelude.{◌≡◌, ◌<◌, ◌≤◌, ◌+◌, [], ◌∷◌, ◌++◌, IfOk, length, map, vec_len};
-ghost use Rattle.live_board.specs.Board.{services};
+ghost use Rattle.turn_lock.specs.Board.{services};
 ghost use Rattle.named_columns.specs.Held.{HeldProxy};
 ghost use Rattle.turn_lock.specs.Rows.{AllNone};
 ghost use Rattle.turn_lock.specs.Seats.{AreFresh};
@@ -11,7 +11,6 @@ ghost use Rattle.site_locks.specs.Sat.{RiseFrom, ids_of};
 use crate::locks::{Locks, Seats};
 use crate::named::Site;
 use crate::pairing::pair;
-use live_board::Board;
 use named_columns::log::SiteLog;
 use named_columns::named::Backed;
 use named_columns::okd::SiteOkd;
@@ -22,6 +21,7 @@ use okws_outer::keeper::Keeper;
 use okws_outer::stream::Sink;
 use std::alloc::{AllocError, Global};
 use std::marker::{Model, PhantomData};
+use turn_lock::board::Board;
 use turn_lock::{Journaled, Seat, Turn, make_row};
 
 /// The columns of a run, the proxies' in order.
@@ -39,7 +39,7 @@ struct Deck<N: Backed, K: Keeper, S: Sink> {
     rows: Vec<Vec<Seat<SiteProxy<N, K>>>>,
     pubd: Vec<Seat<SitePubd<N>>>,
     oklogd: Vec<Seat<SiteLog<N, S>>>,
-    board: Vec<live_board::Seat>,
+    board: Vec<turn_lock::board::Seat>,
 }
 
 impl<N: Backed, K: Keeper + Drop, S: Sink + Drop> Drop for Deck<N, K, S> {

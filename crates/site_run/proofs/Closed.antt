@@ -10,9 +10,9 @@ use Rattle.okws_base.specs.declared.journal.Entry.{Entry}
 use Rattle.okws_outer.specs.Streams.{Rose}
 use Rattle.okws_plan.specs.declared.configuration.Config.{Config}
 use Rattle.okws_plan.specs.declared.event.LogEvent.{LogEvent}
-use Rattle.live_board.specs.Board.{drawn_by}
-use Rattle.live_board.specs.Seats.{BoardIs, AllAt, SeatsDrew}
-use Rattle.live_board.specs.Seats.{SeatIs as Place}
+use Rattle.turn_lock.specs.Board.{drawn_by}
+use Rattle.turn_lock.specs.BoardSeats.{BoardIs, AllAt, SeatsDrew}
+use Rattle.turn_lock.specs.BoardSeats.{SeatIs as Place}
 use Rattle.log_daemon.specs.Seen.{IsFront}
 use Rattle.log_daemon.specs.Stopped.{is_stopped}
 use Rattle.log_daemon.specs.declared.daemon.WriteOut.{WriteOut}

@@ -8,8 +8,8 @@ use Rattle.okws_base.specs.declared.limit.TheConstants.{MOST_DOORS}
 use Rattle.okws_base.specs.Turns.{of}
 use Rattle.okws_outer.specs.Doors.{Entrance}
 use Rattle.okws_plan.specs.declared.configuration.Config.{Config}
-use Rattle.live_board.specs.Seats.{BoardIs, AllAt, AreRising}
-use Rattle.live_board.specs.Seats.{SeatIs as Place}
+use Rattle.turn_lock.specs.BoardSeats.{BoardIs, AllAt, AreRising}
+use Rattle.turn_lock.specs.BoardSeats.{SeatIs as Place}
 use Rattle.cell_locks.specs.Closing.{HasNumber}
 use Rattle.cell_locks.specs.Row.{CellsSeen, IsNew, AreNew}
 use Rattle.site_locks.specs.Closing.{SomeIs}

@@ -32,7 +32,7 @@ use Rattle.turn_lock.specs.Seats.{TurnIs, SeatIs, AllClosed}
 use Rattle.cell_locks.specs.Closing.{CellsGrow, AllCellsGrow}
 use Rattle.cell_locks.specs.Row.{CellsSeen}
 use Rattle.site_locks.proofs.Seeing.{grows_foreign}
-use Rattle.live_board.specs.Board.{UpTo}
+use Rattle.turn_lock.specs.Board.{UpTo}
 use Rattle.site_locks.specs.Closing.{AllGrown, AllSaw, RowGrown, RowsGrown}
 use Rattle.site_locks.specs.Sat.{Sat, seen_of}
 use Rattle.launch_crew.specs.Recorded.{AreOwn}

@@ -6,8 +6,8 @@ use Rattle.okws_outer.specs.Streams.{counted}
 use Rattle.okws_plan.specs.Configuration.{tables}
 use Rattle.okws_plan.specs.declared.configuration.Config.{Config}
 use Rattle.okws_plan.specs.declared.event.ProxyEvent.{ProxyEvent}
-use Rattle.live_board.specs.Seats.{IsFresh, AreFresh, AreRising}
-use Rattle.live_board.specs.Seats.{SeatIs as Place}
+use Rattle.turn_lock.specs.BoardSeats.{IsFresh, AreFresh, AreRising}
+use Rattle.turn_lock.specs.BoardSeats.{SeatIs as Place}
 use Rattle.monitor_model.specs.Cell.{CellLaw}
 use Rattle.monitor_model.specs.Columns.{ProxyLaw, faults}
 use Rattle.monitor_model.specs.Sent.{AreSent}

@@ -2,8 +2,8 @@
 use Rattle.std.specs.Prelude.{◌≡◌, ◌≤◌, ℕ, List, [], ◌∷◌, length, IsNone}
 use Rattle.atomic_table.specs.Seated.{TableId}
 use Rattle.okws_outer.specs.Doors.{Entrance}
-use Rattle.live_board.specs.Seats.{AreRising}
-use Rattle.live_board.specs.Seats.{SeatIs as Place}
+use Rattle.turn_lock.specs.BoardSeats.{AreRising}
+use Rattle.turn_lock.specs.BoardSeats.{SeatIs as Place}
 
 -- No connection is out at any of these doors.
 abbrev pub AllIdle : List Entrance → Type 0

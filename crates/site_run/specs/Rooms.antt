@@ -2,8 +2,8 @@
 use Rattle.std.specs.Prelude.{◌≡◌, ◌≤◌, ℕ, List, [], length}
 use Rattle.okws_plan.specs.declared.configuration.Config.{Config}
 use Rattle.launch_journal.specs.Launches.{Launches}
-use Rattle.live_board.specs.Seats.{BoardIs, AreRising}
-use Rattle.live_board.specs.Seats.{SeatIs as Place}
+use Rattle.turn_lock.specs.BoardSeats.{BoardIs, AreRising}
+use Rattle.turn_lock.specs.BoardSeats.{SeatIs as Place}
 use Rattle.launch_turns.specs.Papers.{ArePapers}
 
 -- An empty vector, of this length and this capacity, has room for n items.

@@ -20,7 +20,7 @@ use Rattle.monitor_model.specs.Launches.{is_begun_of}
 use Rattle.monitor_model.specs.Merged.{IsOwn, is_launch, launcher_item, list_of}
 use Rattle.monitor_model.specs.Tied.{EndsIn}
 use Rattle.monitor_model.specs.Worker.{nothing_seen}
-use Rattle.live_board.specs.Board.{none_begun}
+use Rattle.turn_lock.specs.Board.{none_begun}
 use Rattle.turn_lock.specs.Seats.{SeatIs}
 use Rattle.site_cell.specs.Held.{by_event}
 use Rattle.cell_locks.specs.Closing.{CellsGrow}

@@ -1,9 +1,9 @@
 -- A run between its beginning and its end. Number n launches; the doors' workers and the console's have the numbers below it.
 use Rattle.std.specs.Prelude.{◌≡◌, ◌≤◌, ◌<◌, ℕ, suc, ◌+◌, ◌*◌, List, [], ◌∷◌, length}
 use Rattle.okws_base.specs.declared.limit.TheConstants.{MOST_DOORS}
-use Rattle.live_board.specs.Board.{drawn_by}
-use Rattle.live_board.specs.Seats.{BoardIs, AllAt}
-use Rattle.live_board.specs.Seats.{SeatIs as Place}
+use Rattle.turn_lock.specs.Board.{drawn_by}
+use Rattle.turn_lock.specs.BoardSeats.{BoardIs, AllAt}
+use Rattle.turn_lock.specs.BoardSeats.{SeatIs as Place}
 use Rattle.okws_plan.specs.declared.configuration.Config.{Config}
 use Rattle.cell_locks.specs.Row.{CellsSeen, IsNew}
 use Rattle.site_locks.specs.Made.{AreFreshFrom}

@@ -2,19 +2,19 @@
 
 ghost use Rattle.std.specs.Prelude.{◌≡◌, ◌≤◌, ◌<◌, length, map, IfOk, vec_len};
 ghost use Rattle.atomic_table.specs.Seated.{TableId};
-ghost use Rattle.live_board.specs.Seats.{AreFresh, AreRising};
+ghost use Rattle.turn_lock.specs.BoardSeats.{AreFresh, AreRising};
 ghost use Rattle.okws_base.specs.declared.limit.TheConstants.{MOST_DOORS};
 ghost use Rattle.site_run.specs.Rooms.{AreOffered};
 
 use crate::closing::{CellsEnd, CellsRoom, ColumnsRoom, ProxiesEnd};
 use http_front::kept::Kept;
 use http_front::reply::Reply;
-use live_board::{Board, Seat as Place};
 use named_columns::named::Backed;
 use okws_outer::keeper::Keeper;
 use okws_outer::stream::Link;
 use std::alloc::{AllocError, Global};
 use std::marker::Model;
+use turn_lock::board::{Board, Seat as Place};
 
 /// What a worker needs at its door: what is kept of a connection, a service's Reply, and the seat from which
 /// it draws the numbers of its connections.

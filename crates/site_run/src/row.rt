@@ -10,7 +10,6 @@ use cell_locks::locks::CellLocks;
 use cell_locks::named::CellNames;
 use cell_locks::seats::CellSeats;
 use launch_turns::resting::Resting;
-use live_board::Board;
 use okld_launch::named::Staffed;
 use okws_outer::children::Children;
 use okws_outer::gate::Gate;
@@ -23,6 +22,7 @@ use site_worker::worker::{Shared, Worker};
 use std::alloc::Global;
 use std::marker::Model;
 use std::sync::Wait;
+use turn_lock::board::Board;
 use turn_lock::{Seat, Turn};
 
 /// What a run's workers have in common: its site, the locks of its columns, of its cells and of its launcher,

@@ -5,7 +5,7 @@ ghost use Rattle.std.specs.Arc.{arc_value};
 ghost use Rattle.okws_base.specs.Turns.{Behind};
 ghost use Rattle.okws_base.specs.declared.limit.TheConstants.{MOST_SERVICES, MOST_PROXIES, MOST_DOORS};
 ghost use Rattle.turn_lock.specs.Rows.{AllCount};
-ghost use Rattle.live_board.specs.Seats.{AllAt};
+ghost use Rattle.turn_lock.specs.BoardSeats.{AllAt};
 ghost use Rattle.site_locks.specs.Sat.{ids_of};
 ghost use Rattle.monitor_model.specs.Causes.{all_were_caused};
 ghost use Rattle.monitor_model.specs.Columns.{WithinCount};
@@ -35,7 +35,6 @@ use cell_locks::named::CellNames;
 use cell_locks::seats::CellSeats;
 use launch_turns::papers::Papers;
 use launch_turns::resting::Resting;
-use live_board::{Board, Seat as Place};
 use named_columns::named::Backed;
 use okld_launch::named::Staffed;
 use okws_outer::children::Children;
@@ -51,6 +50,7 @@ use site_worker::worker::TURN_ITEMS;
 use std::alloc::{AllocError, Global};
 use std::sync::Wait;
 use turn_lock::Turn;
+use turn_lock::board::{Board, Seat as Place};
 
 /// The locks of a run's columns and of its cells, and the seats of all numbers at them, those of number 0
 /// first.

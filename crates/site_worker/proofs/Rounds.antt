@@ -4,9 +4,9 @@ use Rattle.std.specs.Prelude.{IsNone}
 use Rattle.okws_plan.specs.declared.configuration.Config.{Config}
 use Rattle.okws_outer.specs.Conns.{ConnWire}
 use Rattle.okws_outer.specs.Doors.{Entrance}
-use Rattle.live_board.specs.Board.{AllUnder, most_drawn}
-use Rattle.live_board.specs.Seats.{MayDraw}
-use Rattle.live_board.specs.Seats.{SeatIs as BoardSeat}
+use Rattle.turn_lock.specs.Board.{AllUnder, most_drawn}
+use Rattle.turn_lock.specs.BoardSeats.{MayDraw}
+use Rattle.turn_lock.specs.BoardSeats.{SeatIs as BoardSeat}
 use Rattle.http_front.specs.declared.kept.Kept.{Kept}
 use Rattle.http_front.specs.Replies.{Replied}
 use Rattle.door_worker.specs.Serving.{Serves}

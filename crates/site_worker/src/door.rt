@@ -2,8 +2,8 @@
 
 ghost use Rattle.std.specs.Prelude.{◌≡◌, ◌≤◌, ◌+◌, IsNone, length};
 ghost use Rattle.site_worker.specs.Lives.{SameWorker};
-ghost use Rattle.live_board.specs.Board.{most_drawn};
-ghost use Rattle.live_board.specs.Seats.{MayDraw};
+ghost use Rattle.turn_lock.specs.Board.{most_drawn};
+ghost use Rattle.turn_lock.specs.BoardSeats.{MayDraw};
 ghost use Rattle.site_worker.specs.Rounds.{Attends, Round, TendsAfter, TendsNext, is_starved, taken};
 ghost use Rattle.site_worker.specs.declared.worker.TheConstants.{TURN_ITEMS};
 
@@ -12,7 +12,6 @@ use cell_locks::named::CellNames;
 use door_worker::serving::{Serving, serve_one};
 use http_front::kept::Kept;
 use http_front::reply::Reply;
-use live_board::Board;
 use okld_launch::named::Staffed;
 use okws_outer::children::Children;
 use okws_outer::door::Door;
@@ -21,6 +20,7 @@ use okws_outer::keeper::Keeper;
 use okws_outer::stream::Sink;
 use site_locks::named::Site;
 use std::sync::Wait;
+use turn_lock::board::Board;
 
 /// What a worker did at a door.
 #[derive(Clone, Copy, Debug, PartialEq, Eq)]
@@ -119,7 +119,7 @@ impl<
         kept: &mut Kept,
         reply: &mut Reply,
         numbers: &Board,
-        place: &mut live_board::Seat,
+        place: &mut turn_lock::board::Seat,
         limit: u64,
     ) -> Attended
         requires limit { limit ≤ most_drawn }

@@ -10,3 +10,7 @@ pub mod Grows
 pub mod Gathers
 pub mod Rows
 pub mod Dealt
+pub mod BoardLists
+pub mod BoardSteps
+pub mod BoardSeats
+pub mod BoardGathers

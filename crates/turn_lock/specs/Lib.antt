@@ -1,3 +1,5 @@
 pub mod Tickets
 pub mod Seats
 pub mod Rows
+pub mod Board
+pub mod BoardSeats

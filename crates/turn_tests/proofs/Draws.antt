@@ -1,7 +1,7 @@
 -- Drawers at a board.
 use Rattle.std.proofs.Common.{◌≡◌, ℕ, zero, suc, ◌+◌, ◌<◌, List, [], ◌∷◌, ◌++◌, length, slice_index_or, subst, arith}
 use Rattle.atomic_table.specs.Seated.{TableId}
-use Rattle.live_board.specs.Seats.{SeatIs, IsFresh, AreFresh}
+use Rattle.turn_lock.specs.BoardSeats.{SeatIs, IsFresh, AreFresh}
 use Rattle.turn_tests.specs.Draws.{DrawerIs, Ready, AllReady}
 
 pub fresh_pop : (z : TableId) (last : ℕ) (as' : List SeatIs) (a : SeatIs) → AreFresh z last (as' ++ a ∷ []) → AreFresh z (suc last) as' × (a.board ≡ z) × (a.drawn ≡ [])

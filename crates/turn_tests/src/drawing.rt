@@ -1,13 +1,13 @@
 //! Threads that draw numbers at one board.
 ghost use Rattle.std.specs.Prelude.{◌≡◌, ◌<◌, IfOk};
-ghost use Rattle.live_board.specs.Seats.{AreFresh};
+ghost use Rattle.turn_lock.specs.BoardSeats.{AreFresh};
 ghost use Rattle.turn_tests.specs.Draws.{Ready, AllReady};
 
-use live_board::{Board, Seat};
 use std::alloc::{AllocError, Global};
 use std::marker::Model;
 use std::thread;
 use std::thread::Threads;
+use turn_lock::board::{Board, Seat};
 
 // From this number on a seat draws no more.
 const LIMIT: u64 = 1_000_000;

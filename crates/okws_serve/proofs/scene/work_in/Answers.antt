@@ -1,6 +1,6 @@
 use Rattle.std.proofs.Common.{◌≤◌, ℕ, ◌∙◌, length, sym, subst}
 use Rattle.atomic_table.specs.Seated.{TableId}
-use Rattle.live_board.specs.Seats.{AllAt, BoardIs}
+use Rattle.turn_lock.specs.BoardSeats.{AllAt, BoardIs}
 use Rattle.okws_base.specs.declared.limit.TheConstants.{MOST_CONNECTIONS}
 use Rattle.turn_lock.specs.Seats.{TurnIs}
 use Rattle.site_run.specs.Places.{Placed}

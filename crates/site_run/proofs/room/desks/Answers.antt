@@ -1,7 +1,7 @@
 use Rattle.std.proofs.Common.{rules, List, ◌≡◌, ◌++◌, ◌∷◌, [], suc, map, length, sym, ap, ◌∙◌, subst, arith}
 use Rattle.std.proofs.lemmas.List.{length-map}
-use Rattle.live_board.specs.Seats.{IsFresh, AreFresh, AreRising}
-use Rattle.live_board.specs.Seats.{SeatIs as Place}
+use Rattle.turn_lock.specs.BoardSeats.{IsFresh, AreFresh, AreRising}
+use Rattle.turn_lock.specs.BoardSeats.{SeatIs as Place}
 use Rattle.turn_lock.proofs.Rows.{pushed_map}
 use Rattle.site_run.specs.declared.room.Desk.{Desk}
 use Rattle.site_run.proofs.Lists.{fresh_pop, rising_push}

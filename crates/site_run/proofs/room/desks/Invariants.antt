@@ -1,7 +1,7 @@
 use Rattle.std.proofs.Common.{◌≡◌, ◌+◌, map, length}
 use Rattle.std.specs.Prelude.{vec_len, vec_capacity}
 use Rattle.atomic_table.specs.Seated.{TableId}
-use Rattle.live_board.specs.Seats.{AreFresh, AreRising}
+use Rattle.turn_lock.specs.BoardSeats.{AreFresh, AreRising}
 use Rattle.site_run.specs.declared.room.Desk.{Desk}
 use Rattle.site_run.proofs.room.desks.Given as goal
 

@@ -1,6 +1,6 @@
 use Rattle.std.proofs.Common.{rules, ◌≡◌, ◌++◌, ◌∷◌, [], map, reverse, refl, sym, ap, subst}
-use Rattle.live_board.specs.Seats.{AllAt}
-use Rattle.live_board.specs.Seats.{SeatIs as Place}
+use Rattle.turn_lock.specs.BoardSeats.{AllAt}
+use Rattle.turn_lock.specs.BoardSeats.{SeatIs as Place}
 use Rattle.turn_lock.proofs.Rows.{pushed_map}
 use Rattle.turn_lock.proofs.Spots.{empty_of}
 use Rattle.site_run.specs.declared.room.Desk.{Desk}

@@ -1,6 +1,6 @@
 use Rattle.std.proofs.Common.{◌≡◌, ◌≤◌, ◌+◌, ◌++◌, map, reverse, length}
 use Rattle.std.specs.Prelude.{vec_len, vec_capacity}
-use Rattle.live_board.specs.Seats.{AllAt}
+use Rattle.turn_lock.specs.BoardSeats.{AllAt}
 use Rattle.site_run.specs.declared.room.Desk.{Desk}
 use Rattle.site_run.proofs.whole.end_numbers.Given as goal
 

@@ -1,5 +1,5 @@
 use Rattle.std.proofs.Common.{rules, ◌≡◌, ◌++◌, ◌∷◌, [], suc, length, sym, ap, ◌∙◌, subst}
-use Rattle.live_board.specs.Seats.{AreFresh}
+use Rattle.turn_lock.specs.BoardSeats.{AreFresh}
 use Rattle.turn_lock.proofs.Reversed.{push_length}
 use Rattle.turn_tests.specs.Draws.{DrawerIs, AllReady}
 use Rattle.turn_tests.proofs.Draws.{fresh_pop, ready-push}

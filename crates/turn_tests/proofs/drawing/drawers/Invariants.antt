@@ -1,5 +1,5 @@
 use Rattle.std.proofs.Common.{length}
-use Rattle.live_board.specs.Seats.{AreFresh}
+use Rattle.turn_lock.specs.BoardSeats.{AreFresh}
 use Rattle.turn_tests.specs.Draws.{AllReady}
 use Rattle.turn_tests.proofs.drawing.drawers.Given as goal
 

@@ -1,7 +1,7 @@
 use Rattle.std.proofs.Common.{rules, ◌≡◌, ◌≤◌, ◌+◌, ◌*◌, length, map, sym, ap, ◌∙◌, subst, arith}
 use Rattle.std.specs.Prelude.{vec_len, vec_capacity}
 use Rattle.std.proofs.lemmas.List.{length-map}
-use Rattle.live_board.specs.Seats.{SeatIs as Place}
+use Rattle.turn_lock.specs.BoardSeats.{SeatIs as Place}
 use Rattle.okws_plan.specs.declared.configuration.Config.{Config}
 use Rattle.site_locks.specs.Made.{AreFreshFrom}
 use Rattle.site_locks.specs.Sat.{Sat}

@@ -1,5 +1,5 @@
 use Rattle.std.proofs.Common.{rules, ℕ, ◌+◌, ◌<◌, ap, sym, ◌∙◌, subst, arith}
-use Rattle.live_board.specs.Seats.{SeatIs as BoardSeat}
+use Rattle.turn_lock.specs.BoardSeats.{SeatIs as BoardSeat}
 use Rattle.site_worker.proofs.Rounds.{Attending, attending_first, drawn_most, place_now, attending_limit, attending_starved, attending_next, same_then, taken_one}
 use Rattle.site_worker.proofs.worker.Worker.attend.Goals as goal
 

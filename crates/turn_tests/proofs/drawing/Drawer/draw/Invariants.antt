@@ -1,5 +1,5 @@
 use Rattle.std.proofs.Common.{◌≡◌, reverse}
-use Rattle.live_board.specs.Seats.{MayDraw}
+use Rattle.turn_lock.specs.BoardSeats.{MayDraw}
 use Rattle.turn_tests.proofs.drawing.Drawer.draw.Given as goal
 
 abbrev pub invariant-loop : goal.invariant-loop

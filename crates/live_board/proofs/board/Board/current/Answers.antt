@@ -1,6 +1,0 @@
-use Rattle.std.proofs.Common.{rules, arith}
-use Rattle.live_board.proofs.Steps.{looks}
-use Rattle.live_board.proofs.board.Board.current.Goals as goal
-
-pub load-found-requires : goal.load-found-requires
-load-found-requires c = (search rules, search rules, looks _ _ _ _ _ (omega arith))

@@ -1,6 +1,0 @@
-use Rattle.std.proofs.Common.{rules}
-use Rattle.live_board.proofs.Seats.{deals}
-use Rattle.live_board.proofs.board.Board.deal.Goals as goal
-
-pub split_seat-requires : goal.split_seat-requires
-split_seat-requires c = (search rules, search rules, deals _ _ _ c.requires.rest.0 (search rules) (λ e. search rules) (search rules) c.requires.rest.3)

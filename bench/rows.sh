@@ -3,7 +3,7 @@
 # map in the same run, in a copy of the repository: the program is proved, built by LLVM and run. Run it at the
 # top of the repository.
 set -eu
-below='okws_base okws_plan okws_outer plain_text query_syntax statement_core config_syntax config_reader placed_rows row_slots index_keeper'
+below='okws_base okws_plan okws_outer plain_text query_syntax statement_core config_syntax config_reader row_index index_keeper'
 copy=$(mktemp -d)
 trap 'rm -rf "$copy"' EXIT
 cp HANDLES "$copy"
@@ -20,7 +20,7 @@ cat > "$bench/specs/Keys.antt" <<'END'
 use Rattle.std.specs.Cmp.{IsTotalOrder, on_total}
 use Rattle.std.specs.declared.cmp.Ordering.{Ordering}
 use Rattle.okws_base.specs.Value.{value_cmp}
-use Rattle.row_slots.specs.Order.{values_total}
+use Rattle.row_index.specs.Order.{values_total}
 use Rattle.rows_bench.specs.declared.Key.{Key}
 
 abbrev pub key_cmp : Key → Key → Ordering

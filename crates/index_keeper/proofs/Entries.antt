@@ -21,11 +21,11 @@ use Rattle.std.proofs.lemmas.Map.Text.{is_eq-slice_cmp}
 use Rattle.okws_base.specs.Value.{value_cmp, value_eq}
 use Rattle.okws_base.specs.declared.value.Value.{Value}
 use Rattle.okws_base.specs.declared.value.Value.TheVariants.{Int, Text, Bytes}
-use Rattle.placed_rows.specs.Places.{merged, row_at}
-use Rattle.placed_rows.proofs.Stood.{row_first, row_later}
+use Rattle.row_index.specs.Places.{merged, row_at}
+use Rattle.row_index.proofs.Stood.{row_first, row_later}
 use Rattle.index_keeper.specs.Places.{places_where, rows_of}
-use Rattle.row_slots.specs.Changes.{changed, changes_to}
-use Rattle.row_slots.specs.declared.changing.Change.{Change}
+use Rattle.row_index.specs.Changes.{changed, changes_to}
+use Rattle.row_index.specs.declared.changing.Change.{Change}
 use Rattle.index_keeper.proofs.Found.{sorted_filtered, rows_where}
 
 pub filter_map_some : {X Y : Type 0} (h : X → Option Y) (xs : List X) (i : ℕ) (d : X) (y : Y) → i < length xs → h (get_or xs i d) ≡ Some y → filter_map h (take (i + 1) xs) ≡ filter_map h (take i xs) ++ y ∷ []

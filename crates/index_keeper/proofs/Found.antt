@@ -24,12 +24,12 @@ use Rattle.okws_plan.specs.declared.statement.Condition.{Condition}
 use Rattle.okws_plan.specs.declared.statement.Comparison.{Comparison}
 use Rattle.okws_plan.specs.declared.statement.Comparison.TheVariants as comparison
 use Rattle.okws_base.specs.Value.{value_cmp}
-use Rattle.placed_rows.specs.Places.{row_at}
-use Rattle.placed_rows.proofs.Stood.{each_here}
-use Rattle.row_slots.specs.Slots.{places_in}
-use Rattle.row_slots.specs.Index.{is_indexed, cell, is_value, IsIndex}
+use Rattle.row_index.specs.Places.{row_at}
+use Rattle.row_index.proofs.Stood.{each_here}
+use Rattle.row_index.specs.Slots.{places_in}
+use Rattle.row_index.specs.Index.{is_indexed, cell, is_value, IsIndex}
 use Rattle.index_keeper.specs.Places.{places_where, rows_of, passes_at, is_equality, leading, tests, tests_by}
-use Rattle.row_slots.specs.declared.slots.Slots.{Slots}
+use Rattle.row_index.specs.declared.slots.Slots.{Slots}
 
 -- ---- order
 

@@ -9,16 +9,16 @@ use Rattle.okws_base.specs.Runs.{Each}
 use Rattle.okws_base.specs.declared.value.Value.{Value}
 use Rattle.okws_plan.specs.Meaning.{at_column, operand, meets, meets_all}
 use Rattle.okws_plan.specs.declared.statement.Condition.{Condition}
-use Rattle.placed_rows.specs.Places.{row_at}
-use Rattle.placed_rows.proofs.Stood.{each_here}
-use Rattle.row_slots.specs.Slots.{places_in}
-use Rattle.row_slots.specs.Index.{is_value, IsIndex}
+use Rattle.row_index.specs.Places.{row_at}
+use Rattle.row_index.proofs.Stood.{each_here}
+use Rattle.row_index.specs.Slots.{places_in}
+use Rattle.row_index.specs.Index.{is_value, IsIndex}
 use Rattle.index_keeper.specs.Places.{places_where, rows_of, leading, left_of}
-use Rattle.row_slots.specs.Changes.{changes_to}
+use Rattle.row_index.specs.Changes.{changes_to}
 use Rattle.index_keeper.specs.Hits.{lent, entries_of, entries_at}
-use Rattle.row_slots.specs.declared.changing.Change.{Change}
+use Rattle.row_index.specs.declared.changing.Change.{Change}
 use Rattle.index_keeper.specs.declared.finding.Hit.{Hit}
-use Rattle.row_slots.specs.declared.slots.Slots.{Slots}
+use Rattle.row_index.specs.declared.slots.Slots.{Slots}
 use Rattle.index_keeper.proofs.Found.{candidates_are, leading_holds, met_leading, sole_leading}
 
 -- Of the places that pass one test those whose rows pass the rest of a narrower one, with their rows, are the entries that pass this.

@@ -10,13 +10,13 @@ use Rattle.okws_base.specs.declared.value.Value.{Value}
 use Rattle.okws_plan.specs.Meaning.{at_column, operand, meets, meets_all, inserted, is_taken_at}
 use Rattle.okws_plan.specs.declared.statement.Answer.TheVariants.{Changed, Duplicate}
 use Rattle.okws_plan.specs.declared.statement.Condition.{Condition}
-use Rattle.placed_rows.specs.Places.{row_at}
-use Rattle.placed_rows.specs.Stands.{Placed}
-use Rattle.row_slots.specs.Slots.{places_in}
-use Rattle.row_slots.specs.Index.{is_indexed, is_value, IsIndex}
-use Rattle.row_slots.specs.Changes.{changed, removals_at}
-use Rattle.row_slots.specs.declared.changing.Change.{Change}
-use Rattle.row_slots.specs.declared.slots.Slots.{Slots}
+use Rattle.row_index.specs.Places.{row_at}
+use Rattle.row_index.specs.Stands.{Placed}
+use Rattle.row_index.specs.Slots.{places_in}
+use Rattle.row_index.specs.Index.{is_indexed, is_value, IsIndex}
+use Rattle.row_index.specs.Changes.{changed, removals_at}
+use Rattle.row_index.specs.declared.changing.Change.{Change}
+use Rattle.row_index.specs.declared.slots.Slots.{Slots}
 use Rattle.index_keeper.specs.Places.{places_where, rows_of, is_equality, leading}
 use Rattle.index_keeper.proofs.Entries.{any_rows, value_eq_is, listed_changes, removed_rows}
 use Rattle.index_keeper.proofs.Found.{listed, any_alike, leading_holds, and_true}

@@ -6,14 +6,14 @@ use Rattle.std.specs.List.Sorted.{IsStrictlySortedBy}
 use Rattle.std.specs.Ordering.{nat_cmp}
 use Rattle.std.specs.declared.option.Option.{Option}
 use Rattle.okws_base.specs.declared.value.Value.{Value}
-use Rattle.placed_rows.specs.Stands.{entry_of, standing, Placed}
-use Rattle.placed_rows.specs.declared.placed.Stand.{Stand}
-use Rattle.placed_rows.proofs.Stands.{stands_first, empty_first}
-use Rattle.row_slots.specs.Index.{is_indexed}
+use Rattle.row_index.specs.Stands.{entry_of, standing, Placed}
+use Rattle.row_index.specs.declared.placed.Stand.{Stand}
+use Rattle.row_index.proofs.Stands.{stands_first, empty_first}
+use Rattle.row_index.specs.Index.{is_indexed}
 use Rattle.index_keeper.specs.Places.{rows_of, passes_at, IsSound}
-use Rattle.row_slots.specs.Slots.{holds}
-use Rattle.row_slots.specs.declared.slot.Slot.{Slot}
-use Rattle.row_slots.specs.declared.slots.Slots.{Slots}
+use Rattle.row_index.specs.Slots.{holds}
+use Rattle.row_index.specs.declared.slot.Slot.{Slot}
+use Rattle.row_index.specs.declared.slots.Slots.{Slots}
 use Rattle.index_keeper.proofs.Entries.{filter_map_some, filter_map_none}
 
 -- One stand more, with a row and without.

@@ -10,18 +10,18 @@ use Rattle.okws_base.specs.Runs.{Each}
 use Rattle.okws_base.specs.declared.value.Value.{Value}
 use Rattle.okws_plan.specs.Meaning.{ordered, limited, cut, cut_all, nothing, operand, assigned}
 use Rattle.okws_plan.specs.declared.statement.Assignment.{Assignment}
-use Rattle.placed_rows.specs.Places.{row_at, merged}
-use Rattle.placed_rows.proofs.Stood.{each_here}
-use Rattle.row_slots.specs.Few.{if_any}
+use Rattle.row_index.specs.Places.{row_at, merged}
+use Rattle.row_index.proofs.Stood.{each_here}
+use Rattle.row_index.specs.Few.{if_any}
 use Rattle.index_keeper.specs.Hits.{lent, entries_of}
-use Rattle.row_slots.specs.Index.{is_indexed, is_value, due}
+use Rattle.row_index.specs.Index.{is_indexed, is_value, due}
 use Rattle.index_keeper.specs.Places.{rows_of}
-use Rattle.row_slots.specs.Changes.{changed, changes_to}
+use Rattle.row_index.specs.Changes.{changed, changes_to}
 use Rattle.index_keeper.specs.declared.finding.Hit.{Hit}
-use Rattle.row_slots.specs.declared.slot.Slot.{Slot}
+use Rattle.row_index.specs.declared.slot.Slot.{Slot}
 use Rattle.index_keeper.proofs.Entries.{updated_rows}
 use Rattle.index_keeper.proofs.Found.{rows_where}
-use Rattle.row_slots.proofs.Moved.{nat_same}
+use Rattle.row_index.proofs.Moved.{nat_same}
 
 -- One row is in order.
 pub sole_ordered : (order : Option ℕ) (hit : Option Hit) → ordered order (lent (if_any hit)) ≡ lent (if_any hit)

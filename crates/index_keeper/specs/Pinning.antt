@@ -8,9 +8,9 @@ use Rattle.okws_base.specs.Value.{value_cmp}
 use Rattle.okws_base.specs.declared.value.Value.{Value}
 use Rattle.okws_plan.specs.Meaning.{at_column, meets_all, hits, ordered, limited}
 use Rattle.okws_plan.specs.declared.statement.Condition.{Condition}
-use Rattle.placed_rows.specs.Places.{row_at}
+use Rattle.row_index.specs.Places.{row_at}
 use Rattle.index_keeper.specs.Places.{places_where, passes_at, rows_of}
-use Rattle.row_slots.specs.Changes.{row_or}
+use Rattle.row_index.specs.Changes.{row_or}
 
 -- A pin as contracts see it: how many columns its answer has, its rows, and whether it was found.
 pub record Pinning : Type 0 where

@@ -8,9 +8,9 @@ use Rattle.okws_plan.specs.Meaning.{hits}
 use Rattle.okws_plan.specs.declared.statement.Condition.{Condition}
 use Rattle.okws_plan.specs.declared.statement.Comparison.{Comparison}
 use Rattle.okws_plan.specs.declared.statement.Comparison.TheVariants as comparison
-use Rattle.placed_rows.specs.Places.{row_at}
-use Rattle.row_slots.specs.Index.{is_indexed, IsIndex}
-use Rattle.row_slots.specs.declared.slots.Slots.{Slots}
+use Rattle.row_index.specs.Places.{row_at}
+use Rattle.row_index.specs.Index.{is_indexed, IsIndex}
+use Rattle.row_index.specs.declared.slots.Slots.{Slots}
 
 -- The rows of a table as contracts see them: the columns that have an index, and each row with its place.
 pub record Indexed : Type 0 where

@@ -2,9 +2,9 @@
 
 ghost use Rattle.std.specs.Prelude.{◌≡◌, ◌∷◌, [], false, IfOk, IfSome, map, Some, None};
 ghost use Rattle.okws_plan.specs.Meaning.{assigned, nothing, operand, row_of};
-ghost use Rattle.row_slots.specs.Index.{is_indexed};
-ghost use Rattle.row_slots.specs.Changes.{changes_to};
-ghost use Rattle.row_slots.specs.Few.{listed};
+ghost use Rattle.row_index.specs.Index.{is_indexed};
+ghost use Rattle.row_index.specs.Changes.{changes_to};
+ghost use Rattle.row_index.specs.Few.{listed};
 ghost use Rattle.index_keeper.specs.Hits.{entries_of};
 
 use crate::finding::{Hit, is_own, value_of};
@@ -12,7 +12,7 @@ use okws_base::items::{Exact, Items};
 use okws_base::value::{Row, Value};
 use okws_plan::meaning::assigned_row;
 use okws_plan::statement::{Assignment, Operand};
-use row_slots::{Change, Few};
+use row_index::{Change, Few};
 use std::alloc::{AllocError, Global};
 
 /// No row at each of the places.

@@ -6,20 +6,19 @@ ghost use Rattle.std.specs.List.Sorted.{IsStrictlySortedBy};
 ghost use Rattle.std.specs.Ordering.{nat_cmp};
 ghost use Rattle.okws_base.specs.declared.value.Value.{Value as Field};
 ghost use Rattle.okws_plan.specs.Meaning.{meets_all, operand, nothing, at_column};
-ghost use Rattle.placed_rows.specs.Places.{row_at};
-ghost use Rattle.placed_rows.specs.Stands.{standing};
-ghost use Rattle.row_slots.specs.Slots.{places_in};
-ghost use Rattle.row_slots.specs.Index.{is_indexed, is_value};
+ghost use Rattle.row_index.specs.Places.{row_at};
+ghost use Rattle.row_index.specs.Stands.{standing};
+ghost use Rattle.row_index.specs.Slots.{places_in};
+ghost use Rattle.row_index.specs.Index.{is_indexed, is_value};
 ghost use Rattle.index_keeper.specs.Places.{leading, left_of, passes_at, is_equality};
-ghost use Rattle.row_slots.specs.Few.{if_any, listed};
+ghost use Rattle.row_index.specs.Few.{if_any, listed};
 ghost use Rattle.index_keeper.specs.Hits.{entries_of, entry_at, entries_at, passing};
 
 use crate::steps::Steps;
 use okws_base::value::{Row, Value};
 use okws_plan::meaning::meets_every;
 use okws_plan::statement::{Comparison, Condition, Operand};
-use placed_rows::{PlacedRows, Stand};
-use row_slots::{Few, Group, Slots, at, group_of};
+use row_index::{Few, Group, PlacedRows, Slots, Stand, at, group_of};
 use std::alloc::{AllocError, Global};
 use std::sync::ledger::Ledger;
 

@@ -6,13 +6,13 @@ ghost use Rattle.std.specs.Ordering.{nat_cmp};
 ghost use Rattle.std.specs.Map.{keys_of};
 ghost use Rattle.okws_base.specs.declared.value.Value.{Value as Field};
 ghost use Rattle.okws_plan.specs.Meaning.{nothing, meets_all, at_column, is_taken_at};
-ghost use Rattle.placed_rows.specs.Places.{row_at};
-ghost use Rattle.placed_rows.specs.Stands.{standing};
-ghost use Rattle.row_slots.specs.Few.{listed};
-ghost use Rattle.row_slots.specs.Index.{is_indexed, is_value};
+ghost use Rattle.row_index.specs.Places.{row_at};
+ghost use Rattle.row_index.specs.Stands.{standing};
+ghost use Rattle.row_index.specs.Few.{listed};
+ghost use Rattle.row_index.specs.Index.{is_indexed, is_value};
 ghost use Rattle.index_keeper.specs.Places.{places_where, passes_at, rows_of, tests};
 ghost use Rattle.index_keeper.specs.Pinning.{AreTested};
-ghost use Rattle.row_slots.specs.Changes.{row_or, changed, changes_to};
+ghost use Rattle.row_index.specs.Changes.{row_or, changed, changes_to};
 ghost use Rattle.index_keeper.specs.Hits.{entries_of};
 
 use crate::declared::own_column;
@@ -25,8 +25,9 @@ use crate::steps::Steps;
 use okws_base::items::{Exact, copies};
 use okws_base::value::{Row, Value};
 use okws_plan::statement::{Assignment, Condition};
-use placed_rows::{PlacedRows, Stand};
-use row_slots::{Change, Few, Group, Slots, append, append_new, apply, at, remove_group};
+use row_index::{
+    Change, Few, Group, PlacedRows, Slots, Stand, append, append_new, apply, at, remove_group,
+};
 use std::alloc::{AllocError, Global};
 use std::marker::Model;
 use std::sync::ledger::Ledger;

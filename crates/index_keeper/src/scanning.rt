@@ -5,12 +5,11 @@ ghost use Rattle.std.specs.List.{list_any};
 ghost use Rattle.std.specs.Map.{keys_of};
 ghost use Rattle.okws_base.specs.Value.{value_eq};
 ghost use Rattle.okws_plan.specs.Meaning.{nothing, at_column};
-ghost use Rattle.placed_rows.specs.Stands.{standing};
+ghost use Rattle.row_index.specs.Stands.{standing};
 ghost use Rattle.index_keeper.specs.Places.{passes_at, rows_of};
 
 use okws_base::value::Value;
-use placed_rows::Stand;
-use row_slots::at;
+use row_index::{Stand, at};
 use std::alloc::{AllocError, Global};
 
 /// The places of all rows that stand, ascending.

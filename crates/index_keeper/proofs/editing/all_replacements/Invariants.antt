@@ -1,7 +1,7 @@
 use Rattle.std.proofs.Common.{◌≡◌, take, Some, List}
 use Rattle.okws_base.specs.declared.value.Value.{Value}
 use Rattle.okws_plan.specs.Meaning.{assigned}
-use Rattle.row_slots.specs.Changes.{changes_to}
+use Rattle.row_index.specs.Changes.{changes_to}
 use Rattle.index_keeper.specs.Hits.{entries_of}
 use Rattle.index_keeper.proofs.editing.all_replacements.Given as goal
 

@@ -2,7 +2,7 @@ use Rattle.std.proofs.Common.{◌∙◌, ap, List, Option}
 use Rattle.std.specs.Prelude.{option_map}
 use Rattle.okws_base.specs.declared.value.Value.{Value}
 use Rattle.okws_plan.specs.Meaning.{meets_all}
-use Rattle.row_slots.specs.Few.{if_any}
+use Rattle.row_index.specs.Few.{if_any}
 use Rattle.index_keeper.specs.Hits.{passing}
 use Rattle.index_keeper.proofs.finding.hit_at.Goals as goal
 

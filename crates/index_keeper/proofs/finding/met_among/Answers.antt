@@ -3,7 +3,7 @@ use Rattle.std.specs.Prelude.{option_map}
 use Rattle.std.proofs.lemmas.List.{map-append}
 use Rattle.okws_base.specs.declared.value.Value.{Value}
 use Rattle.okws_plan.specs.Meaning.{meets_all}
-use Rattle.placed_rows.specs.Places.{row_at}
+use Rattle.row_index.specs.Places.{row_at}
 use Rattle.index_keeper.specs.Hits.{entry_at, passing}
 use Rattle.index_keeper.specs.declared.finding.Hit.{Hit}
 use Rattle.index_keeper.proofs.Entries.{filter_map_some, filter_map_none}

@@ -1,6 +1,6 @@
 use Rattle.std.proofs.Common.{◌≡◌, ◌+◌, ℕ, take}
 use Rattle.okws_plan.specs.Meaning.{meets_all}
-use Rattle.placed_rows.specs.Places.{row_at}
+use Rattle.row_index.specs.Places.{row_at}
 use Rattle.index_keeper.specs.Hits.{entries_of, entries_at}
 use Rattle.index_keeper.proofs.finding.met_among.Given as goal
 

@@ -3,8 +3,8 @@ use Rattle.std.specs.Prelude.{filter}
 use Rattle.std.proofs.lemmas.List.{map-append}
 use Rattle.okws_base.specs.declared.value.Value.{Value}
 use Rattle.okws_plan.specs.Meaning.{meets_all}
-use Rattle.placed_rows.specs.Stands.{standing}
-use Rattle.placed_rows.specs.declared.placed.Stand.{Stand}
+use Rattle.row_index.specs.Stands.{standing}
+use Rattle.row_index.specs.declared.placed.Stand.{Stand}
 use Rattle.index_keeper.specs.declared.finding.Hit.{Hit}
 use Rattle.index_keeper.proofs.Scanned.{one_more, none_more, one_counted, front_stands, passing_more, missing_more}
 use Rattle.index_keeper.proofs.finding.scanned.Goals as goal

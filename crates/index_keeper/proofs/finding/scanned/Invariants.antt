@@ -2,7 +2,7 @@ use Rattle.std.proofs.Common.{◌≡◌, ◌+◌, ℕ, List, length, take}
 use Rattle.std.specs.Prelude.{filter}
 use Rattle.okws_base.specs.declared.value.Value.{Value}
 use Rattle.okws_plan.specs.Meaning.{meets_all}
-use Rattle.placed_rows.specs.Stands.{standing}
+use Rattle.row_index.specs.Stands.{standing}
 use Rattle.index_keeper.specs.Hits.{entries_of}
 use Rattle.index_keeper.proofs.finding.scanned.Given as goal
 

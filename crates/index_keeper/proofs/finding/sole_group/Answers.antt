@@ -1,8 +1,8 @@
 use Rattle.std.proofs.Common.{◌∙◌, ap, sym, List, Some}
 use Rattle.okws_base.specs.declared.value.Value.{Value}
 use Rattle.okws_plan.specs.Meaning.{at_column}
-use Rattle.row_slots.specs.Index.{is_indexed, is_value}
-use Rattle.row_slots.specs.declared.slot.Group.{Group}
+use Rattle.row_index.specs.Index.{is_indexed, is_value}
+use Rattle.row_index.specs.declared.slot.Group.{Group}
 use Rattle.index_keeper.specs.Places.{is_equality}
 use Rattle.index_keeper.proofs.Found.{both_right}
 use Rattle.index_keeper.proofs.Keyed.{sole_met}

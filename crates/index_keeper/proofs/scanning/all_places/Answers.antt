@@ -2,8 +2,8 @@ use Rattle.std.proofs.Common.{◌≡◌, ◌∙◌, ◌∷◌, ◌++◌, [], ℕ
 use Rattle.std.specs.Map.{keys_of}
 use Rattle.std.proofs.lemmas.List.{map-append}
 use Rattle.okws_base.specs.declared.value.Value.{Value}
-use Rattle.placed_rows.specs.Stands.{standing}
-use Rattle.placed_rows.specs.declared.placed.Stand.{Stand}
+use Rattle.row_index.specs.Stands.{standing}
+use Rattle.row_index.specs.declared.placed.Stand.{Stand}
 use Rattle.index_keeper.proofs.Scanned.{one_more, none_more}
 use Rattle.index_keeper.proofs.scanning.all_places.Goals as goal
 use Rattle.index_keeper.proofs.scanning.all_places.Goals.{in-None, in-Some+in_ok-push-in-Some}

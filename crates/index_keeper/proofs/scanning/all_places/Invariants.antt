@@ -1,6 +1,6 @@
 use Rattle.std.proofs.Common.{◌≡◌, take}
 use Rattle.std.specs.Map.{keys_of}
-use Rattle.placed_rows.specs.Stands.{standing}
+use Rattle.row_index.specs.Stands.{standing}
 use Rattle.index_keeper.proofs.scanning.all_places.Given as goal
 
 abbrev pub invariant-loop-stand : goal.invariant-loop-stand

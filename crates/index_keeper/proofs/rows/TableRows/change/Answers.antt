@@ -1,5 +1,5 @@
 use Rattle.std.proofs.Common.{subst, ◌≤◌, ℕ, List}
-use Rattle.row_slots.specs.Index.{IsIndex}
+use Rattle.row_index.specs.Index.{IsIndex}
 use Rattle.index_keeper.proofs.rows.TableRows.change.Goals as goal
 
 pub invariant_of-self : goal.invariant_of-self

@@ -5,11 +5,11 @@ use Rattle.std.specs.Ordering.{nat_cmp}
 use Rattle.okws_base.specs.declared.value.Value.{Value}
 use Rattle.okws_plan.specs.Meaning.{at_column, meets_all}
 use Rattle.okws_plan.specs.declared.statement.Answer.TheVariants.{Changed}
-use Rattle.placed_rows.specs.Places.{row_at}
-use Rattle.row_slots.specs.Index.{is_value}
-use Rattle.row_slots.specs.Changes.{changed}
-use Rattle.row_slots.specs.declared.changing.Change.{Change}
-use Rattle.row_slots.specs.declared.slot.Group.{Group}
+use Rattle.row_index.specs.Places.{row_at}
+use Rattle.row_index.specs.Index.{is_value}
+use Rattle.row_index.specs.Changes.{changed}
+use Rattle.row_index.specs.declared.changing.Change.{Change}
+use Rattle.row_index.specs.declared.slot.Group.{Group}
 use Rattle.index_keeper.specs.Places.{rows_of}
 use Rattle.index_keeper.proofs.Found.{filter_alike}
 use Rattle.index_keeper.proofs.Entries.{count_listed, listed_rise, removed_rows}

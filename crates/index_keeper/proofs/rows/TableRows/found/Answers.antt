@@ -3,9 +3,9 @@ use Rattle.std.specs.Prelude.{filter}
 use Rattle.okws_base.specs.declared.value.Value.{Value}
 use Rattle.okws_plan.specs.Meaning.{meets_all}
 use Rattle.okws_plan.specs.declared.statement.Condition.{Condition}
-use Rattle.placed_rows.specs.Places.{row_at}
+use Rattle.row_index.specs.Places.{row_at}
 use Rattle.index_keeper.specs.Places.{leading, left_of, tests, rows_of}
-use Rattle.row_slots.specs.Few.{listed}
+use Rattle.row_index.specs.Few.{listed}
 use Rattle.index_keeper.specs.Hits.{entries_of, entries_at}
 use Rattle.index_keeper.proofs.Found.{counted_by}
 use Rattle.index_keeper.proofs.Hits.{found_entries}

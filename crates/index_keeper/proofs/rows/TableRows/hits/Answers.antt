@@ -2,7 +2,7 @@ use Rattle.std.proofs.Common.{◌≡◌, ◌∙◌, ℕ, List, IfOk, ap, subst}
 use Rattle.std.specs.Prelude.{map}
 use Rattle.okws_base.specs.declared.value.Value.{Value}
 use Rattle.okws_plan.specs.Meaning.{meets_all}
-use Rattle.row_slots.specs.Few.{listed}
+use Rattle.row_index.specs.Few.{listed}
 use Rattle.index_keeper.specs.Places.{places_where}
 use Rattle.index_keeper.specs.declared.finding.Hit.{Hit}
 use Rattle.index_keeper.proofs.Hits.{places_are}

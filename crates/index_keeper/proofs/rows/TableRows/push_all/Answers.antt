@@ -1,8 +1,8 @@
 use Rattle.std.proofs.Common.{◌≡◌, ◌∙◌, ◌∷◌, ◌++◌, [], ℕ, List, None, Some, ap, get_or, sym, take}
 use Rattle.std.proofs.lemmas.List.{map-append, append_assoc}
 use Rattle.okws_base.specs.declared.value.Value.{Value}
-use Rattle.placed_rows.specs.Stands.{standing}
-use Rattle.placed_rows.specs.declared.placed.Stand.{Stand}
+use Rattle.row_index.specs.Stands.{standing}
+use Rattle.row_index.specs.declared.placed.Stand.{Stand}
 use Rattle.index_keeper.specs.Places.{rows_of}
 use Rattle.index_keeper.proofs.Scanned.{one_more, none_more}
 use Rattle.index_keeper.proofs.rows.TableRows.push_all.Goals as goal

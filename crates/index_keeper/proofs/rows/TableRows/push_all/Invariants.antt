@@ -1,5 +1,5 @@
 use Rattle.std.proofs.Common.{◌≡◌, ◌++◌, take}
-use Rattle.placed_rows.specs.Stands.{standing}
+use Rattle.row_index.specs.Stands.{standing}
 use Rattle.index_keeper.specs.Places.{rows_of}
 use Rattle.index_keeper.proofs.rows.TableRows.push_all.Given as goal
 

@@ -1,5 +1,5 @@
 use Rattle.std.proofs.Common.{◌≡◌, ◌∙◌, sym, subst, true}
-use Rattle.row_slots.specs.Index.{is_indexed}
+use Rattle.row_index.specs.Index.{is_indexed}
 use Rattle.index_keeper.specs.Places.{Indexed}
 use Rattle.index_keeper.proofs.Keyed.{new_is}
 use Rattle.index_keeper.proofs.Scanned.{if_ok_both}

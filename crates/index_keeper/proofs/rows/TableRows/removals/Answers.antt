@@ -2,9 +2,9 @@ use Rattle.std.proofs.Common.{◌≡◌, ◌∙◌, ℕ, List, IfOk, None, ap, s
 use Rattle.std.specs.Prelude.{filter, map}
 use Rattle.okws_base.specs.declared.value.Value.{Value}
 use Rattle.okws_plan.specs.Meaning.{meets_all}
-use Rattle.row_slots.specs.Few.{listed}
-use Rattle.row_slots.specs.Changes.{changes_to}
-use Rattle.row_slots.specs.declared.changing.Change.{Change}
+use Rattle.row_index.specs.Few.{listed}
+use Rattle.row_index.specs.Changes.{changes_to}
+use Rattle.row_index.specs.declared.changing.Change.{Change}
 use Rattle.index_keeper.specs.declared.finding.Hit.{Hit}
 use Rattle.index_keeper.proofs.Hits.{removals_are}
 use Rattle.index_keeper.proofs.rows.TableRows.removals.Goals as goal

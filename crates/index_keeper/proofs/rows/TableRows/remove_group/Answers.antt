@@ -1,9 +1,9 @@
 use Rattle.std.proofs.Common.{◌≡◌, ◌∙◌, ap, sym, subst, ◌≤◌, ℕ, Bool, List, Some, true, length}
 use Rattle.okws_base.specs.declared.value.Value.{Value}
 use Rattle.okws_plan.specs.Meaning.{at_column}
-use Rattle.placed_rows.specs.Places.{row_at}
-use Rattle.row_slots.specs.Index.{is_indexed, is_value, IsIndex}
-use Rattle.row_slots.specs.Changes.{changed, removals_at}
+use Rattle.row_index.specs.Places.{row_at}
+use Rattle.row_index.specs.Index.{is_indexed, is_value, IsIndex}
+use Rattle.row_index.specs.Changes.{changed, removals_at}
 use Rattle.index_keeper.specs.Places.{Indexed}
 use Rattle.index_keeper.proofs.Found.{listed, count_where}
 use Rattle.index_keeper.proofs.Keyed.{left_rows}

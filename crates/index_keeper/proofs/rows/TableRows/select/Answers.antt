@@ -4,7 +4,7 @@ use Rattle.okws_plan.specs.Meaning.{meets_all, hits, cut_all, limited, ordered}
 use Rattle.okws_plan.specs.declared.statement.Answer.{Answer}
 use Rattle.okws_plan.specs.declared.statement.Answer.TheVariants.{Rows}
 use Rattle.okws_plan.specs.declared.statement.Condition.{Condition}
-use Rattle.row_slots.specs.Few.{listed}
+use Rattle.row_index.specs.Few.{listed}
 use Rattle.index_keeper.specs.Places.{rows_of}
 use Rattle.index_keeper.specs.Hits.{lent}
 use Rattle.index_keeper.proofs.Found.{rows_where}

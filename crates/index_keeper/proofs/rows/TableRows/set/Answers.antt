@@ -1,10 +1,10 @@
 use Rattle.std.proofs.Common.{◌≡◌, ◌∙◌, ap, sym, subst, ◌≤◌, ℕ, List, Option, false}
 use Rattle.std.specs.Prelude.{slice_set, ◌==◌}
 use Rattle.okws_base.specs.declared.value.Value.{Value}
-use Rattle.placed_rows.specs.Places.{row_at}
-use Rattle.row_slots.specs.Index.{is_indexed, due}
+use Rattle.row_index.specs.Places.{row_at}
+use Rattle.row_index.specs.Index.{is_indexed, due}
 use Rattle.index_keeper.specs.Places.{Indexed}
-use Rattle.row_slots.specs.declared.slot.Slot.{Slot}
+use Rattle.row_index.specs.declared.slot.Slot.{Slot}
 use Rattle.index_keeper.proofs.Sole.{still_due, still_none}
 use Rattle.index_keeper.proofs.rows.TableRows.set.Goals as goal
 

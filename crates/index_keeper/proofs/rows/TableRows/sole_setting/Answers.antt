@@ -1,5 +1,5 @@
 use Rattle.std.proofs.Common.{◌≡◌, subst, false, ℕ, List, IfSome}
-use Rattle.row_slots.specs.Index.{is_indexed}
+use Rattle.row_index.specs.Index.{is_indexed}
 use Rattle.index_keeper.proofs.rows.TableRows.sole_setting.Goals as goal
 
 pub returns-clause-plain : goal.returns-clause-plain

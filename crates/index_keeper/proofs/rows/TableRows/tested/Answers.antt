@@ -2,8 +2,8 @@ use Rattle.std.proofs.Common.{◌≡◌, ◌∙◌, ℕ, List, Some, ap, sym}
 use Rattle.std.specs.Prelude.{filter}
 use Rattle.std.specs.Map.{keys_of}
 use Rattle.okws_plan.specs.Meaning.{meets_all}
-use Rattle.placed_rows.specs.Places.{row_at}
-use Rattle.placed_rows.proofs.Stood.{each_here}
+use Rattle.row_index.specs.Places.{row_at}
+use Rattle.row_index.proofs.Stood.{each_here}
 use Rattle.index_keeper.specs.Places.{passes_at, leading}
 use Rattle.index_keeper.proofs.Found.{found_by}
 use Rattle.index_keeper.proofs.Unstable.{all_tested}

@@ -5,10 +5,10 @@ use Rattle.std.specs.Ordering.{nat_cmp}
 use Rattle.okws_base.specs.declared.value.Value.{Value}
 use Rattle.okws_plan.specs.Meaning.{meets_all, assigned}
 use Rattle.okws_plan.specs.declared.statement.Answer.TheVariants.{Changed}
-use Rattle.placed_rows.specs.Places.{row_at}
-use Rattle.row_slots.specs.Few.{listed}
-use Rattle.row_slots.specs.Changes.{changed, changes_to}
-use Rattle.row_slots.specs.declared.changing.Change.{Change}
+use Rattle.row_index.specs.Places.{row_at}
+use Rattle.row_index.specs.Few.{listed}
+use Rattle.row_index.specs.Changes.{changed, changes_to}
+use Rattle.row_index.specs.declared.changing.Change.{Change}
 use Rattle.index_keeper.proofs.Entries.{listed_changes, count_listed, listed_rise, updated_rows}
 use Rattle.index_keeper.proofs.Sole.{sole_updated, sole_counted}
 use Rattle.index_keeper.proofs.rows.TableRows.update.Goals as goal

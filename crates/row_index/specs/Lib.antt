@@ -1,0 +1,9 @@
+pub mod Places
+pub mod Stands
+pub mod Groups
+pub mod GroupPlaces
+pub mod Slots
+pub mod Few
+pub mod Order
+pub mod Index
+pub mod Changes

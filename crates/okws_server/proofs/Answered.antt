@@ -18,9 +18,9 @@ use Rattle.okws_plan.specs.declared.configuration.Config.{Config}
 use Rattle.okws_plan.specs.declared.configuration.Table.{Table}
 use Rattle.monitor_model.specs.declared.record.Record.{Record}
 use Rattle.site_making.specs.Keepers.{KeeperIs, keeper_of}
-use Rattle.stored_site.specs.Depots.{AreEnds, Beside, GivesBack, GivesKept, HasAsked, HasFailed, beside_of, with_starts}
-use Rattle.stored_site.proofs.Given.{asked_all, gives_kept}
-use Rattle.stored_site.specs.Sites.{HaveFirstRows, SitesAreAlike}
+use Rattle.store_keeper.specs.Depots.{AreEnds, Beside, GivesBack, GivesKept, HasAsked, HasFailed, beside_of, with_starts}
+use Rattle.store_keeper.proofs.Given.{asked_all, gives_kept}
+use Rattle.store_keeper.specs.Sites.{HaveFirstRows, SitesAreAlike}
 use Rattle.okws_serve.specs.declared.outfit.Ran.{Ran}
 use Rattle.okws_server.specs.Served.{AreBeside, EndsAs, IsSpared, IsUntouched, LosesKeepers, MissesDoors, MissesPort, NeverRan, RanAt, RanFrom, ServesConfig, ServesFrom, ServesOpen, ServesOver, ServesSite, Tells, listened, store_fault_line, with_listened}
 use Rattle.okws_server.specs.Ending.{no_memory_line}

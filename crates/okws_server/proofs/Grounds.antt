@@ -23,7 +23,7 @@ use Rattle.site_making.specs.Keepers.{KeeperIs, IsKeeper, AreKeepers, are_steady
 use Rattle.site_making.specs.Making.{IsServable}
 use Rattle.store_keeper.specs.Alike.{AreAlike, bare}
 use Rattle.store_keeper.proofs.Alike.{rules_alike}
-use Rattle.stored_site.specs.Sites.{AreOf, SitesAreAlike, bare_plan, rows_of_plan}
+use Rattle.store_keeper.specs.Sites.{AreOf, SitesAreAlike, bare_plan, rows_of_plan}
 use Rattle.okws_server.specs.Served.{IsServing, IsStock}
 
 -- the keeper of a proxy, made for its tables

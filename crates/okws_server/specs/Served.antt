@@ -19,8 +19,8 @@ use Rattle.okws_plan.specs.declared.configuration.ProxyPlan.{ProxyPlan}
 use Rattle.monitor_model.specs.declared.record.Record.{Record}
 use Rattle.site_making.specs.Keepers.{KeeperIs, AreKeepers, are_steady}
 use Rattle.site_making.specs.Making.{IsServable}
-use Rattle.stored_site.specs.Depots.{Beside, GivesBack, GivesKept, HasAsked, HasFailed, with_starts}
-use Rattle.stored_site.specs.Sites.{SitesAreAlike}
+use Rattle.store_keeper.specs.Depots.{Beside, GivesBack, GivesKept, HasAsked, HasFailed, with_starts}
+use Rattle.store_keeper.specs.Sites.{SitesAreAlike}
 use Rattle.okws_serve.specs.Runs.{Runs, StartIs}
 use Rattle.okws_serve.specs.declared.outfit.Ran.{Ran}
 use Rattle.okws_server.specs.Counting.{counts_text}

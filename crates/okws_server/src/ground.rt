@@ -6,8 +6,8 @@ ghost use Rattle.okws_base.specs.declared.limit.TheConstants.{MOST_PROXIES};
 ghost use Rattle.okws_plan.specs.Sound.{IsSound};
 ghost use Rattle.config_reader.specs.Ruled.{AreRuled};
 ghost use Rattle.site_making.specs.Keepers.{AreKeepers, IsKeeper, are_steady, keeper_of};
-ghost use Rattle.stored_site.specs.Depots.{HasAsked, HasFailed, with_starts};
-ghost use Rattle.stored_site.specs.Sites.{AllTell, HaveFirstRows, SitesAreAlike};
+ghost use Rattle.store_keeper.specs.Depots.{HasAsked, HasFailed, with_starts};
+ghost use Rattle.store_keeper.specs.Sites.{AllTell, HaveFirstRows, SitesAreAlike};
 ghost use Rattle.okws_server.specs.Served.{IsStock};
 
 use index_keeper::IndexKeeper;
@@ -18,8 +18,7 @@ use okws_plan::configuration::Config;
 use site_columns::opening::{queries_at, read_names, tables_at};
 use std::alloc::{AllocError, Global};
 use std::sync::Arc;
-use store_keeper::StoredKeeper;
-use stored_site::{give_back, open_site};
+use store_keeper::{StoredKeeper, give_back, open_site};
 use token_core::Seed;
 
 /// A site, and the keepers of its rows, where these are `K`.

@@ -7,7 +7,7 @@ ghost use Rattle.okws_plan.specs.Sound.{IsSound};
 ghost use Rattle.config_reader.specs.Ruled.{AreRuled};
 ghost use Rattle.okws_outer.specs.Streams.{Rose};
 ghost use Rattle.site_making.specs.Keepers.{are_steady, keeper_of};
-ghost use Rattle.stored_site.specs.Sites.{AllTell};
+ghost use Rattle.store_keeper.specs.Sites.{AllTell};
 ghost use Rattle.okws_server.specs.Served.{EndsAs, IsGround, IsServing, IsStock, ServesConfig, ServesOpen, ServesOver, ServesWords, Tells, serving_of};
 ghost use Rattle.okws_server.specs.Views.{gear_of, view_of};
 
@@ -32,8 +32,7 @@ use okws_world::equipment::{Equipment, ObjectsOf};
 use std::alloc::Global;
 use std::sync::Wait;
 use std::thread::Threads;
-use store_keeper::StoredKeeper;
-use stored_site::give_back;
+use store_keeper::{StoredKeeper, give_back};
 use token_core::Seed;
 
 /// What is printed where a file of the record is asked for, which isn't there yet.

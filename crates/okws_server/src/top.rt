@@ -6,7 +6,7 @@ ghost use Rattle.command_line.specs.Meant.{meant};
 ghost use Rattle.okws_outer.specs.Streams.{Rose};
 ghost use Rattle.okws_outer.specs.declared.world.Outside.{Outside};
 ghost use Rattle.okws_world.specs.declared.equipment.Objects.{Objects};
-ghost use Rattle.stored_site.specs.Sites.{AllTell};
+ghost use Rattle.store_keeper.specs.Sites.{AllTell};
 ghost use Rattle.okws_server.specs.Commands.{Does, Obeys, Says, IsWithin};
 ghost use Rattle.okws_server.specs.Ending.{Told, no_memory_line, read_fault_line};
 ghost use Rattle.okws_server.specs.Ran.{Played};

@@ -1,3 +1,5 @@
 pub mod Alike
 pub mod Loading
 pub mod Parting
+pub mod Depots
+pub mod Sites

@@ -3,8 +3,8 @@ use Rattle.std.specs.Arc.{arc_value}
 use Rattle.okws_base.specs.declared.limit.TheConstants.{MOST_PROXIES}
 use Rattle.site_making.specs.Keepers.{keeper_of}
 use Rattle.store_keeper.specs.contracts.stored.StoredKeeperKeeper.TheImpl as stored
-use Rattle.stored_site.specs.Depots.{beside_of}
-use Rattle.stored_site.proofs.Given.{asked_all, gives_kept, on_err}
+use Rattle.store_keeper.specs.Depots.{beside_of}
+use Rattle.store_keeper.proofs.Given.{asked_all, gives_kept, on_err}
 use Rattle.okws_server.proofs.Grounds.{few_stored, servable_by, stock_at, stock_stored}
 use Rattle.okws_server.proofs.ground.stored_stock.Goals as goal
 

@@ -1,5 +1,5 @@
 use Rattle.std.proofs.Common.{rules}
-use Rattle.stored_site.specs.Sites.{AllTell}
+use Rattle.store_keeper.specs.Sites.{AllTell}
 use Rattle.okws_server.specs.Served.{serving_of}
 use Rattle.okws_server.specs.Views.{View, gear_of, view_of}
 use Rattle.okws_server.proofs.Files.{reads_as}

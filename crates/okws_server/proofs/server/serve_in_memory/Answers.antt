@@ -3,7 +3,7 @@ use Rattle.std.specs.Arc.{arc_value}
 use Rattle.index_keeper.specs.contracts.keeper.IndexKeeperKeeper.TheImpl as row
 use Rattle.okws_outer.specs.Streams.{Rose}
 use Rattle.site_making.specs.Keepers.{keeper_of}
-use Rattle.stored_site.specs.Sites.{AllTell}
+use Rattle.store_keeper.specs.Sites.{AllTell}
 use Rattle.okws_server.specs.Served.{serving_of}
 use Rattle.okws_server.specs.Views.{Gear, gear_of}
 use Rattle.okws_server.proofs.Answered.{memory_at, memory_starved, none_parted}

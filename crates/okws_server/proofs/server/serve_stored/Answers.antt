@@ -5,8 +5,8 @@ use Rattle.okws_base.specs.declared.limit.TheConstants.{MOST_PROXIES}
 use Rattle.okws_outer.specs.Streams.{Rose}
 use Rattle.site_making.specs.Keepers.{keeper_of}
 use Rattle.store_keeper.specs.contracts.stored.StoredKeeperKeeper.TheImpl as stored
-use Rattle.stored_site.specs.Depots.{beside_of}
-use Rattle.stored_site.specs.Sites.{AllTell}
+use Rattle.store_keeper.specs.Depots.{beside_of}
+use Rattle.store_keeper.specs.Sites.{AllTell}
 use Rattle.okws_server.specs.Served.{serving_of}
 use Rattle.okws_server.specs.Views.{Gear, gear_of}
 use Rattle.okws_server.proofs.Answered.{are_beside, err_holds, few_left, lost_beside, missed_config, stored_config, stored_starved}

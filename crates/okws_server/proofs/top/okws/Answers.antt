@@ -4,7 +4,7 @@ use Rattle.std.specs.declared.option.Option.{Option}
 use Rattle.command_line.specs.Asked.{asked}
 use Rattle.okws_outer.specs.declared.world.Outside.{Outside}
 use Rattle.okws_world.specs.declared.equipment.Objects.{Objects}
-use Rattle.stored_site.specs.Sites.{AllTell}
+use Rattle.store_keeper.specs.Sites.{AllTell}
 use Rattle.okws_server.specs.Commands.{Obeys}
 use Rattle.okws_server.specs.Views.{gear_of, view_of}
 use Rattle.okws_server.proofs.Ended.{over_objects}

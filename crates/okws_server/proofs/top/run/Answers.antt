@@ -2,7 +2,7 @@ use Rattle.std.proofs.Common.{◌∙◌, ap, map, refl, sym}
 use Rattle.std.specs.Prelude.{option_map, string_bytes}
 use Rattle.command_line.specs.Asked.{asked}
 use Rattle.command_line.specs.Meant.{meant}
-use Rattle.stored_site.specs.Sites.{AllTell}
+use Rattle.store_keeper.specs.Sites.{AllTell}
 use Rattle.okws_server.specs.Views.{View, gear_of, view_of}
 use Rattle.okws_server.proofs.Obeyed.{does_obey, says_obeys, words_within}
 use Rattle.okws_server.proofs.top.run.Goals as goal

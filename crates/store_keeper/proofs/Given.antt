@@ -9,9 +9,9 @@ use Rattle.okws_outer.specs.declared.stores.KeeperEnd.{KeeperEnd}
 use Rattle.okws_outer.specs.declared.stores.KeeperStart.{KeeperStart}
 use Rattle.okws_plan.specs.declared.configuration.ProxyPlan.{ProxyPlan}
 use Rattle.store_keeper.specs.Alike.{HasRows}
-use Rattle.stored_site.specs.Depots.{AreEnds, AreKept, Beside, GivesBack, GivesKept, HasAsked, HasFailed, HasTried, IsKept, start_of, starts, with_starts}
-use Rattle.stored_site.specs.Sites.{HasFirstRows, HaveFirstRows}
-use Rattle.stored_site.proofs.Plans.{take_all}
+use Rattle.store_keeper.specs.Depots.{AreEnds, AreKept, Beside, GivesBack, GivesKept, HasAsked, HasFailed, HasTried, IsKept, start_of, starts, with_starts}
+use Rattle.store_keeper.specs.Sites.{HasFirstRows, HaveFirstRows}
+use Rattle.store_keeper.proofs.Plans.{take_all}
 
 -- The keepers behind these were given back, as they were.
 pub record GivenBehind {K : Type 0} (beside : K → Beside) (all kept : List K) (a b : Depot) : Type 0 where

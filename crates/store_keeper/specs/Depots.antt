@@ -8,7 +8,7 @@ use Rattle.okws_outer.specs.declared.stores.KeeperEnd.{KeeperEnd}
 use Rattle.okws_outer.specs.declared.stores.KeeperStart.{KeeperStart}
 use Rattle.okws_plan.specs.declared.configuration.ProxyPlan.{ProxyPlan}
 use Rattle.store_keeper.specs.Alike.{HasRows}
-use Rattle.stored_site.specs.Sites.{HasFirstRows}
+use Rattle.store_keeper.specs.Sites.{HasFirstRows}
 
 -- The making of a proxy's keeper for a file.
 abbrev pub start_of : List ℕ → ℕ → ProxyPlan → KeeperStart

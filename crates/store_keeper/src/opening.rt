@@ -5,10 +5,12 @@ ghost use Rattle.okws_plan.specs.Sound.{IsSound, is_sound_plan};
 ghost use Rattle.okws_outer.specs.Depots.{IsNewKeeper, with_made};
 ghost use Rattle.okws_outer.specs.Streams.{Rose};
 ghost use Rattle.store_keeper.specs.Alike.{AreAlike};
-ghost use Rattle.stored_site.specs.Depots.{HasAsked, HasFailed, HasTried, with_starts};
-ghost use Rattle.stored_site.specs.Sites.{AllTell, AreOf, HasFirstRows, HaveFirstRows, SitesAreAlike};
+ghost use Rattle.store_keeper.specs.Depots.{HasAsked, HasFailed, HasTried, with_starts};
+ghost use Rattle.store_keeper.specs.Sites.{AllTell, AreOf, HasFirstRows, HaveFirstRows, SitesAreAlike};
 
 use crate::giving::give_back;
+use crate::loading::read_tables;
+use crate::stored::StoredKeeper;
 use okws_base::items::Items;
 use okws_outer::error::MakeError;
 use okws_outer::keeper::{Keeper, RunError};
@@ -16,8 +18,6 @@ use okws_outer::stores::Stores;
 use okws_plan::configuration::{Config, ProxyPlan, Table};
 use std::alloc::Global;
 use std::mem;
-use store_keeper::StoredKeeper;
-use store_keeper::loading::read_tables;
 
 /// A site with the rows that its stores have, and the keepers of these rows.
 #[derive(Drop)]

@@ -3,8 +3,8 @@ use Rattle.okws_plan.specs.declared.configuration.Table.{Table}
 use Rattle.store_keeper.specs.Alike.{AreAlike, HasRows}
 use Rattle.store_keeper.specs.Loading.{AreRead}
 use Rattle.store_keeper.proofs.Same.{has_read}
-use Rattle.stored_site.proofs.Plans.{tables_sound, told_same}
-use Rattle.stored_site.proofs.opening.beside.Goals as goal
+use Rattle.store_keeper.proofs.Plans.{tables_sound, told_same}
+use Rattle.store_keeper.proofs.opening.beside.Goals as goal
 
 pub new-requires-clause-same : goal.new-requires-clause-same
 new-requires-clause-same g c =

@@ -2,11 +2,11 @@
 
 ghost use Rattle.std.specs.Prelude.{◌≤◌, map, vec_len};
 ghost use Rattle.okws_base.specs.declared.limit.TheConstants.{MOST_PROXIES};
-ghost use Rattle.stored_site.specs.Depots.{GivesBack, beside_of};
+ghost use Rattle.store_keeper.specs.Depots.{GivesBack, beside_of};
 
+use crate::stored::StoredKeeper;
 use okws_outer::keeper::Keeper;
 use okws_outer::stores::Stores;
-use store_keeper::StoredKeeper;
 
 /// Gives back the stores of the first proxies' keepers, one of each, that of the greatest number first, as they
 /// stand beside the keepers. Where a store tells its rows these are its keeper's, unless the two have parted.

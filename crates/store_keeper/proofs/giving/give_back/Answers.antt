@@ -1,9 +1,9 @@
 use Rattle.std.proofs.Common.{rules, ap, arith, ◌≡◌, ◌+◌}
 use Rattle.std.specs.Prelude.{vec_len}
 use Rattle.store_keeper.specs.contracts.stored.StoredKeeperKeeper.TheImpl as stored
-use Rattle.stored_site.specs.Depots.{beside_of}
-use Rattle.stored_site.proofs.Given.{all_given, more_given, none_given}
-use Rattle.stored_site.proofs.giving.give_back.Goals as goal
+use Rattle.store_keeper.specs.Depots.{beside_of}
+use Rattle.store_keeper.proofs.Given.{all_given, more_given, none_given}
+use Rattle.store_keeper.proofs.giving.give_back.Goals as goal
 
 pub loop-keeper-init : goal.loop-keeper-init
 loop-keeper-init g c = record { below = omega arith; given = none_given (beside_of (stored.faults-value g.row.S-Keeper g.row.S-Keeper-Pin g.S.Keeper.Keeper g.S.Keeper.Keeper-dict g.S.Keeper.Pin.Pinned g.S.Keeper.Pin.Pinned-dict g.S.Keeper.Pin.Destruct-dict).it (stored.told-value g.row.S-Keeper g.row.S-Keeper-Pin g.S.Keeper.Keeper g.S.Keeper.Keeper-dict g.S.Keeper.Pin.Pinned g.S.Keeper.Pin.Pinned-dict g.S.Keeper.Pin.Destruct-dict).it (λ k. k.parted) (λ k. g.S.Keeper.Keeper.told k.store)) c.args.keepers.items (g.S.Stores.depot c.args.stores.now) }

@@ -3,9 +3,9 @@ use Rattle.std.specs.Prelude.{IfSome}
 use Rattle.okws_outer.specs.Depots.{Depot, with_made}
 use Rattle.okws_outer.specs.declared.error.MakeError.TheVariants.{Failed}
 use Rattle.okws_plan.specs.declared.configuration.Table.{Table}
-use Rattle.stored_site.specs.Sites.{HasFirstRows}
-use Rattle.stored_site.proofs.Given.{err_is, on_err, one_failed, tried_none, tried_one}
-use Rattle.stored_site.proofs.opening.open_proxy.Goals as goal
+use Rattle.store_keeper.specs.Sites.{HasFirstRows}
+use Rattle.store_keeper.proofs.Given.{err_is, on_err, one_failed, tried_none, tried_one}
+use Rattle.store_keeper.proofs.opening.open_proxy.Goals as goal
 
 pub returns-in-Err-clause-failed : goal.returns-in-Err-clause-failed
 returns-in-Err-clause-failed g c = λ failed.

@@ -6,11 +6,11 @@ use Rattle.okws_plan.specs.declared.configuration.ProxyPlan.{ProxyPlan}
 use Rattle.okws_plan.specs.declared.configuration.Table.{Table}
 use Rattle.store_keeper.specs.Alike.{AreAlike}
 use Rattle.store_keeper.specs.contracts.stored.StoredKeeperKeeper.TheImpl as stored
-use Rattle.stored_site.specs.Depots.{beside_of, with_starts}
-use Rattle.stored_site.specs.Sites.{AllTell, AreOf, SitesAreAlike}
-use Rattle.stored_site.proofs.Given.{asked_back, asked_none, err_is, failed_since, gives_kept, on_err, starts_one, still_failed}
-use Rattle.stored_site.proofs.Plans.{first_all, first_next, opened_all, opened_here, opened_next, opened_sound, site_alike, site_same, take_all}
-use Rattle.stored_site.proofs.opening.open_site.Goals as goal
+use Rattle.store_keeper.specs.Depots.{beside_of, with_starts}
+use Rattle.store_keeper.specs.Sites.{AllTell, AreOf, SitesAreAlike}
+use Rattle.store_keeper.proofs.Given.{asked_back, asked_none, err_is, failed_since, gives_kept, on_err, starts_one, still_failed}
+use Rattle.store_keeper.proofs.Plans.{first_all, first_next, opened_all, opened_here, opened_next, opened_sound, site_alike, site_same, take_all}
+use Rattle.store_keeper.proofs.opening.open_site.Goals as goal
 
 pub open_proxy-requires-clause-sound : goal.open_proxy-requires-clause-sound
 open_proxy-requires-clause-sound g c κs within =

@@ -1,9 +1,9 @@
 use Rattle.std.proofs.Common.{◌≤◌, length}
 use Rattle.std.specs.Prelude.{vec_len}
 use Rattle.store_keeper.specs.contracts.stored.StoredKeeperKeeper.TheImpl as stored
-use Rattle.stored_site.specs.Depots.{beside_of}
-use Rattle.stored_site.proofs.Given.{GivenBehind}
-use Rattle.stored_site.proofs.giving.give_back.Given as goal
+use Rattle.store_keeper.specs.Depots.{beside_of}
+use Rattle.store_keeper.proofs.Given.{GivenBehind}
+use Rattle.store_keeper.proofs.giving.give_back.Given as goal
 
 abbrev pub invariant-loop-keeper : goal.invariant-loop-keeper
 invariant-loop-keeper g l = record {

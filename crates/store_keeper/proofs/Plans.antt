@@ -13,7 +13,7 @@ use Rattle.okws_plan.specs.declared.configuration.Config.{Config}
 use Rattle.okws_plan.specs.declared.configuration.ProxyPlan.{ProxyPlan}
 use Rattle.okws_plan.specs.declared.configuration.Table.{Table}
 use Rattle.store_keeper.specs.Alike.{bare, AreAlike, HasRows}
-use Rattle.stored_site.specs.Sites.{bare_plan, rows_of_plan, AreOf, HasFirstRows, HaveFirstRows, SitesAreAlike}
+use Rattle.store_keeper.specs.Sites.{bare_plan, rows_of_plan, AreOf, HasFirstRows, HaveFirstRows, SitesAreAlike}
 
 -- the plans behind those that were opened are as they were
 pub plans_next : (old done plans next : List ProxyPlan) (at : ℕ) (p q : ProxyPlan) → plans ≡ done ++ drop at old → length done ≡ at → at < length old → next ≡ slice_set plans at q → next ≡ (done ++ q ∷ []) ++ drop (at + 1) old

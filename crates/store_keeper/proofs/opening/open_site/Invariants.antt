@@ -1,10 +1,10 @@
 use Rattle.std.proofs.Common.{◌≡◌, map, take}
 use Rattle.std.specs.Prelude.{vec_capacity, vec_len}
 use Rattle.store_keeper.specs.contracts.stored.StoredKeeperKeeper.TheImpl as stored
-use Rattle.stored_site.specs.Depots.{with_starts}
-use Rattle.stored_site.specs.Sites.{AllTell, HaveFirstRows}
-use Rattle.stored_site.proofs.Plans.{IsOpened}
-use Rattle.stored_site.proofs.opening.open_site.Given as goal
+use Rattle.store_keeper.specs.Depots.{with_starts}
+use Rattle.store_keeper.specs.Sites.{AllTell, HaveFirstRows}
+use Rattle.store_keeper.proofs.Plans.{IsOpened}
+use Rattle.store_keeper.proofs.opening.open_site.Given as goal
 
 abbrev pub invariant-loop-proxy : goal.invariant-loop-proxy
 invariant-loop-proxy g l = record {

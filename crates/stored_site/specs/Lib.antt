@@ -1,2 +1,0 @@
-pub mod Depots
-pub mod Sites

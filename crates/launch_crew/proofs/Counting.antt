@@ -15,11 +15,11 @@ use Rattle.monitor_model.specs.Cell.{CellLaw, after_end, incarnation, last_boote
 use Rattle.monitor_model.specs.Sent.{broken_in, is_link_fault, or_else}
 use Rattle.service_cell.proofs.Hearing.{was_there}
 use Rattle.service_cell.proofs.Sending.{unbroken}
-use Rattle.site_cell.specs.Held.{by_event, is_broken}
-use Rattle.cell_locks.proofs.Onlys.{link_else, only_else}
-use Rattle.cell_locks.proofs.Stays.{empty_stays, tail_none}
-use Rattle.cell_locks.specs.Row.{CellsSeen, OnlyAt, link_at, seen_at}
-use Rattle.cell_locks.specs.Turns.{HasRetired}
+use Rattle.site_cells.specs.Held.{by_event, is_broken}
+use Rattle.site_cells.proofs.Onlys.{link_else, only_else}
+use Rattle.site_cells.proofs.Stays.{empty_stays, tail_none}
+use Rattle.site_cells.specs.Row.{CellsSeen, OnlyAt, link_at, seen_at}
+use Rattle.site_cells.specs.Turns.{HasRetired}
 use Rattle.launch_crew.specs.Finished.{all_out, faults_before, faults_in, faults_out, one_if, out_at}
 
 -- ---- what others enter

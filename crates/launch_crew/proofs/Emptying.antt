@@ -4,8 +4,8 @@ use Rattle.std.specs.Prelude.{slice_index}
 use mathlib.Core.Logic.{dite}
 use native.Mathlib.Decide.{ℕ_discrete}
 use Rattle.monitor_model.specs.Cell.{incarnation, last_booted}
-use Rattle.cell_locks.proofs.Onlys.{only_else}
-use Rattle.cell_locks.specs.Row.{seen_at}
+use Rattle.site_cells.proofs.Onlys.{only_else}
+use Rattle.site_cells.specs.Row.{seen_at}
 use Rattle.site_locks.specs.Sat.{Sat}
 use Rattle.launch_crew.specs.Crews.{CrewIs, Below, lasts_at}
 use Rattle.launch_crew.specs.Steps.{Empties}

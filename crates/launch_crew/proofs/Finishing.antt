@@ -12,8 +12,8 @@ use Rattle.okws_outer.specs.Wire.{Wire}
 use Rattle.okws_outer.specs.declared.children.ChildEnd.{ChildEnd}
 use Rattle.monitor_model.specs.Cell.{heard, incarnation, last_booted}
 use Rattle.monitor_model.specs.Sent.{IsGiven, broken_in}
-use Rattle.site_cell.specs.Held.{IsLinkOf, is_broken}
-use Rattle.cell_locks.specs.Row.{CellsSeen, link_at, seen_at}
+use Rattle.site_cells.specs.Held.{IsLinkOf, is_broken}
+use Rattle.site_cells.specs.Row.{CellsSeen, link_at, seen_at}
 use Rattle.launch_crew.specs.Crews.{CrewIs, child_of, running_at}
 use Rattle.launch_crew.specs.Ended.{Attended, Attends}
 use Rattle.launch_crew.specs.Finished.{EndsAll, EndsAt, EndsOf, all_out, has_fault, is_end_of, one_if, runs_as}

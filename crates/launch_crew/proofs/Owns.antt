@@ -19,9 +19,9 @@ use Rattle.monitor_model.specs.declared.record.Own.TheVariants as own
 use Rattle.monitor_model.specs.Merged.{okd_item, proxy_item, pubd_item, log_item, is_at_cell, cell_items, is_launch, is_okd_launch, is_proxy_launch, is_pubd_launch, is_log_launch}
 use Rattle.monitor_model.specs.Seen.{proxy_past}
 use Rattle.named_columns.specs.Launched.{by_entry}
-use Rattle.site_cell.specs.Held.{by_event}
-use Rattle.cell_locks.proofs.Onlys.{only_else, new_at}
-use Rattle.cell_locks.specs.Row.{CellsSeen, IsNew, OnlyAt, seen_at}
+use Rattle.site_cells.specs.Held.{by_event}
+use Rattle.site_cells.proofs.Onlys.{only_else, new_at}
+use Rattle.site_cells.specs.Row.{CellsSeen, IsNew, OnlyAt, seen_at}
 use Rattle.site_locks.specs.Made.{fresh}
 use Rattle.site_locks.specs.Sat.{Sat}
 use Rattle.site_locks.specs.Steps.{EntersOkd, SeesOkd, EntersProxy, SeesProxy, EntersPubd, SeesPubd, EntersLog, SeesLog}

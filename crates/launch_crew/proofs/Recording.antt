@@ -27,11 +27,11 @@ use Rattle.service_cell.specs.Standing.{IsFresh, Standing}
 use Rattle.service_cell.specs.Steps.{Boots, retired}
 use Rattle.service_cell.specs.declared.answer.Booting.{Booting}
 use Rattle.service_cell.specs.declared.answer.Booting.TheVariants as booting
-use Rattle.site_cell.specs.Held.{by_event}
-use Rattle.cell_locks.proofs.Onlys.{only_number, only_length}
-use Rattle.cell_locks.specs.Row.{CellsSeen, IsNew, OnlyAt, seen_at}
-use Rattle.cell_locks.specs.Turns.{HasLaunched, HasRetired}
-use Rattle.cell_locks.specs.declared.answer.Launched.{Launched}
+use Rattle.site_cells.specs.Held.{by_event}
+use Rattle.site_cells.proofs.Onlys.{only_number, only_length}
+use Rattle.site_cells.specs.Row.{CellsSeen, IsNew, OnlyAt, seen_at}
+use Rattle.site_cells.specs.Turns.{HasLaunched, HasRetired}
+use Rattle.site_cells.specs.declared.answer.Launched.{Launched}
 use Rattle.site_locks.specs.Made.{fresh}
 use Rattle.site_locks.specs.Sat.{Sat}
 use Rattle.site_locks.specs.Turns.{Stays}

@@ -12,9 +12,9 @@ use Rattle.monitor_model.specs.declared.record.Own.TheVariants as own
 use Rattle.monitor_model.specs.Cell.{incarnation}
 use Rattle.monitor_model.specs.Launches.{is_launch_event, is_launch_at, with_retired}
 use Rattle.monitor_model.specs.Merged.{is_at_cell}
-use Rattle.site_cell.specs.Held.{by_event}
-use Rattle.cell_locks.proofs.Onlys.{only_else}
-use Rattle.cell_locks.specs.Row.{CellsSeen, OnlyAt, seen_at}
+use Rattle.site_cells.specs.Held.{by_event}
+use Rattle.site_cells.proofs.Onlys.{only_else}
+use Rattle.site_cells.specs.Row.{CellsSeen, OnlyAt, seen_at}
 use Rattle.site_locks.specs.Sat.{Sat}
 use Rattle.launch_crew.specs.Listed.{of_cells, AreCounted, CellsGo}
 use Rattle.launch_crew.specs.Recorded.{Recorded, AreOwn, IsRecorded}

@@ -3,7 +3,7 @@ use Rattle.std.proofs.Common.{◌≡◌, ◌∙◌, ℕ, zero, suc, ◌+◌, ◌
 use Rattle.std.specs.Prelude.{slice_index_or, slice_set}
 use Rattle.okws_outer.specs.Lives.{new_life}
 use Rattle.monitor_model.specs.Cell.{incarnation}
-use Rattle.cell_locks.specs.Row.{CellsSeen, OnlyAt, seen_at}
+use Rattle.site_cells.specs.Row.{CellsSeen, OnlyAt, seen_at}
 use Rattle.launch_crew.specs.Crews.{CrewIs, StaffIs, crew_of}
 use Rattle.launch_crew.specs.Recorded.{Recorded}
 use Rattle.launch_crew.specs.Steps.{Tries, Starts, Misses}

@@ -12,7 +12,7 @@ use Rattle.monitor_model.specs.Cell.{incarnation, last_booted}
 use Rattle.monitor_model.specs.Script.{stands_of, last_at}
 use Rattle.monitor_model.specs.Seen.{Seen}
 use Rattle.monitor_model.specs.Standing.{up_at_okd}
-use Rattle.cell_locks.specs.Row.{CellsSeen, seen_at}
+use Rattle.site_cells.specs.Row.{CellsSeen, seen_at}
 use Rattle.site_locks.specs.Sat.{Sat}
 use Rattle.launch_crew.specs.Recorded.{Recorded}
 

@@ -5,7 +5,7 @@ use Rattle.okws_outer.specs.Families.{Family}
 use Rattle.okws_outer.specs.Lives.{Life}
 use Rattle.okws_outer.specs.declared.children.ChildEnd.{ChildEnd}
 use Rattle.monitor_model.specs.Cell.{last_booted}
-use Rattle.cell_locks.specs.Row.{link_at, seen_at}
+use Rattle.site_cells.specs.Row.{link_at, seen_at}
 use Rattle.launch_crew.specs.Crews.{CrewIs, child_of}
 
 -- Where a child of s runs, the cell of s has its link, and it is the last incarnation that was booted there; where none runs, the cell has none.

@@ -13,9 +13,9 @@ use Rattle.monitor_model.specs.declared.record.CellEvent.{CellEvent}
 use Rattle.monitor_model.specs.declared.record.CellEvent.TheVariants as cell
 use Rattle.monitor_model.specs.Cell.{boot_frame, heard, incarnation, last_booted}
 use Rattle.monitor_model.specs.Sent.{IsGiven, broken_in, is_link_fault}
-use Rattle.site_cell.specs.Held.{is_broken}
-use Rattle.site_cell.specs.Taken.{HasTaken}
-use Rattle.cell_locks.specs.Row.{CellsSeen, link_at, seen_at}
+use Rattle.site_cells.specs.Held.{is_broken}
+use Rattle.site_cells.specs.Taken.{HasTaken}
+use Rattle.site_cells.specs.Row.{CellsSeen, link_at, seen_at}
 use Rattle.launch_crew.specs.Crews.{CrewIs, child_of}
 use Rattle.launch_crew.specs.Told.{Finishes}
 

@@ -14,7 +14,7 @@ use Rattle.monitor_model.specs.Launches.{standing_in, with_standing, with_instal
 use Rattle.monitor_model.specs.Merged.{okd_item, proxy_item, pubd_item, log_item}
 use Rattle.monitor_model.specs.Seen.{proxy_past}
 use Rattle.monitor_model.specs.Standing.{okd_grant, proxy_grant, pubd_grant, log_grant}
-use Rattle.cell_locks.specs.Row.{CellsSeen, seen_at}
+use Rattle.site_cells.specs.Row.{CellsSeen, seen_at}
 use Rattle.site_locks.specs.Sat.{Sat}
 
 -- A record of these cells, of which nothing else is told.

@@ -7,7 +7,7 @@ use Rattle.okws_plan.specs.declared.configuration.Config.{Config}
 use Rattle.monitor_model.specs.declared.record.Own.{Own}
 use Rattle.monitor_model.specs.Merged.{okd_item, proxy_item, pubd_item, log_item, is_at_cell, cell_items, is_launch}
 use Rattle.monitor_model.specs.Seen.{proxy_past}
-use Rattle.cell_locks.specs.Row.{CellsSeen, IsNew, seen_at}
+use Rattle.site_cells.specs.Row.{CellsSeen, IsNew, seen_at}
 use Rattle.site_locks.specs.Made.{fresh}
 use Rattle.site_locks.specs.Sat.{Sat}
 use Rattle.launch_crew.specs.Listed.{StandsByOwn}

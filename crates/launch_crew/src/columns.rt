@@ -16,7 +16,6 @@ ghost use Rattle.launch_crew.specs.Pasts.{Revoked, Installed};
 ghost use Rattle.launch_crew.specs.Steps.{OnlyProxies, OnlyPubd, OnlyLog, TurnsAt, RevokesRow, InstallsIf, InstallsRow, InstallsRest, StandsRest, Revokes, Installs};
 
 use crate::recorder::Recorder;
-use cell_locks::named::CellNames;
 use monitor_model::record::Own;
 use named_columns::named::Backed;
 use okws_outer::keeper::Keeper;
@@ -24,6 +23,7 @@ use okws_outer::stream::{Link, Sink};
 use okws_plan::configuration::Config;
 use okws_plan::event::{LogEvent, ProxyEvent, PubdEvent};
 use service_cell::tokens::may_call_at;
+use site_cells::lock_names::CellNames;
 use site_locks::locks::Locks;
 use site_locks::named::Site;
 use std::alloc::AllocError;

@@ -1,15 +1,15 @@
 //! What the launcher has seen, for other numbers to take in.
 
 ghost use Rattle.std.specs.Prelude.{◌≡◌, ◌<◌, length};
-ghost use Rattle.cell_locks.specs.Row.{seen_at};
+ghost use Rattle.site_cells.specs.Row.{seen_at};
 
 use crate::recorder::Recorder;
-use cell_locks::locks::CellLocks;
-use cell_locks::named::CellNames;
-use cell_locks::note::CellNote;
 use named_columns::named::Backed;
 use okws_outer::keeper::Keeper;
 use okws_outer::stream::{Link, Sink};
+use site_cells::lock_names::CellNames;
+use site_cells::locks::CellLocks;
+use site_cells::note::CellNote;
 use site_locks::locks::Locks;
 use site_locks::named::Site;
 use site_locks::note::OkdNote;

@@ -5,21 +5,21 @@ ghost use Rattle.okws_base.specs.declared.limit.TheConstants.{MOST_PROXIES, MOST
 ghost use Rattle.okws_plan.specs.declared.event.OkdEvent.TheVariants as event;
 ghost use Rattle.monitor_model.specs.declared.record.Own.TheVariants as own;
 ghost use Rattle.monitor_model.specs.Launches.{with_down};
-ghost use Rattle.cell_locks.specs.Row.{IsNew};
+ghost use Rattle.site_cells.specs.Row.{IsNew};
 ghost use Rattle.site_locks.specs.Made.{fresh};
 ghost use Rattle.launch_crew.specs.Coming.{Came, NoneCame};
 ghost use Rattle.launch_crew.specs.Crews.{up_of};
 ghost use Rattle.launch_crew.specs.Recorded.{AreOwn, IsRecorded, IsUnused};
 ghost use Rattle.launch_crew.specs.Steps.{Downs, Ups, Looks};
 
-use cell_locks::named::CellNames;
-use cell_locks::seats::CellSeats;
 use monitor_model::record::Own;
 use named_columns::named::Backed;
 use okws_base::journal::{Journal, Past};
 use okws_outer::keeper::Keeper;
 use okws_outer::stream::{Link, Sink};
 use okws_plan::event::OkdEvent;
+use site_cells::lock_names::CellNames;
+use site_cells::seats::CellSeats;
 use site_locks::locks::{Locks, Seats};
 use site_locks::named::Site;
 use std::alloc::{AllocError, Global};

@@ -13,7 +13,7 @@ use okws_base::items::Items;
 use okws_outer::child::{Child, Ended};
 use okws_outer::children::{Children, Started};
 use okws_outer::error::MakeError;
-use site_cell::named::Numbered;
+use site_cells::named::Numbered;
 use std::alloc::{AllocError, Global};
 use std::marker::{Model, PhantomData};
 

@@ -24,7 +24,7 @@ use Rattle.monitor_model.specs.Merged.{is_at_cell, okd_item, proxy_item}
 use Rattle.monitor_model.specs.Standing.{proxy_grant}
 use Rattle.launch_crew.specs.Listed.{of_cells}
 use Rattle.launch_crew.specs.Recorded.{AreOwn}
-use Rattle.cell_locks.specs.Row.{CellsSeen, seen_at}
+use Rattle.site_cells.specs.Row.{CellsSeen, seen_at}
 use Rattle.site_locks.specs.Sat.{Sat}
 use Rattle.launch_turns.specs.Deeds.{entries, up_in}
 use Rattle.okld_launch.specs.Ups.{is_one, newest, ups_after}

@@ -7,13 +7,13 @@ ghost use Rattle.launch_turns.specs.Deeds.{by_deed};
 ghost use Rattle.launch_turns.specs.Standing.{BootsStand, UpsStand};
 
 use crate::resting::Resting;
-use cell_locks::locks::CellLocks;
-use cell_locks::named::CellNames;
-use cell_locks::note::CellNote;
 use okld_launch::named::Staffed;
 use okws_outer::children::Children;
 use okws_outer::keeper::Keeper;
 use okws_outer::stream::Sink;
+use site_cells::lock_names::CellNames;
+use site_cells::locks::CellLocks;
+use site_cells::note::CellNote;
 use site_locks::locks::Locks;
 use site_locks::named::Site;
 use site_locks::note::OkdNote;

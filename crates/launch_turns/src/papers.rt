@@ -3,13 +3,11 @@
 ghost use Rattle.std.specs.Prelude.{◌≡◌, ◌≤◌, [], IfOk, IfErr, length};
 ghost use Rattle.std.specs.Arc.{arc_value};
 ghost use Rattle.okws_base.specs.declared.limit.TheConstants.{MOST_PROXIES, MOST_SERVICES};
-ghost use Rattle.cell_locks.specs.Row.{IsNew};
+ghost use Rattle.site_cells.specs.Row.{IsNew};
 ghost use Rattle.site_locks.specs.Made.{fresh};
 ghost use Rattle.launch_turns.specs.Papers.{ArePapers};
 
 use crate::resting::Resting;
-use cell_locks::named::CellNames;
-use cell_locks::seats::CellSeats;
 use launch_crew::crew::Crew;
 use launch_journal::LaunchJournal;
 use okld_launch::launcher::Launcher;
@@ -19,6 +17,8 @@ use okws_outer::children::Children;
 use okws_outer::keeper::Keeper;
 use okws_outer::stream::Sink;
 use okws_plan::configuration::Config;
+use site_cells::lock_names::CellNames;
+use site_cells::seats::CellSeats;
 use site_locks::locks::Seats;
 use site_locks::named::Site;
 use std::alloc::{AllocError, Global};

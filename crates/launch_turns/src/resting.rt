@@ -13,7 +13,6 @@ ghost use Rattle.okld_launch.specs.Pieces.{EndsAreTold, IsWhole};
 ghost use Rattle.launch_turns.specs.Resting.{Rests};
 
 use crate::deed::{Deed, Took};
-use cell_locks::named::CellNames;
 use launch_crew::crew::Crew;
 use okld_launch::launcher::Launcher;
 use okld_launch::named::Staffed;
@@ -23,6 +22,7 @@ use okws_outer::children::Children;
 use okws_outer::keeper::Keeper;
 use okws_outer::stream::Sink;
 use okws_plan::event::LauncherEvent;
+use site_cells::lock_names::CellNames;
 use site_locks::named::Site;
 use std::marker::Model;
 use turn_lock::Journaled;

@@ -9,9 +9,6 @@ ghost use Rattle.launch_turns.specs.Turns.{LaunchesBy, RelaunchesBy, ReportsBy, 
 
 use crate::deed::Took;
 use crate::resting::Resting;
-use cell_locks::locks::CellLocks;
-use cell_locks::named::CellNames;
-use cell_locks::note::CellNote;
 use okld_launch::answer::{Crashed, Launched, Tended};
 use okld_launch::entered::Entered;
 use okld_launch::named::Staffed;
@@ -19,6 +16,9 @@ use okws_outer::children::Children;
 use okws_outer::gate::Gate;
 use okws_outer::keeper::Keeper;
 use okws_outer::stream::Sink;
+use site_cells::lock_names::CellNames;
+use site_cells::locks::CellLocks;
+use site_cells::note::CellNote;
 use site_locks::locks::Locks;
 use site_locks::named::Site;
 use std::sync::Wait;

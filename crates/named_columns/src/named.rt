@@ -2,7 +2,7 @@
 
 ghost use Rattle.std.specs.Prelude.{ℕ, Bool, true};
 
-use site_cell::named::Numbered;
+use site_cells::named::Numbered;
 use std::marker::Brand;
 
 /// A run whose proxies keep their rows in keepers and whose log is written to a sink. Nothing of it is

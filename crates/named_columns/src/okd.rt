@@ -19,7 +19,7 @@ use okd_dispatch::Okd;
 use okws_base::items::Items;
 use okws_base::journal::{Entry, Past};
 use okws_plan::event::OkdEvent;
-use site_cell::named::Numbered;
+use site_cells::named::Numbered;
 use std::alloc::AllocError;
 use std::marker::{Model, PhantomData};
 use turn_lock::Journaled;

@@ -21,7 +21,7 @@ use okws_base::items::Items;
 use okws_base::journal::{Entry, Past};
 use okws_plan::event::PubdEvent;
 use pubd_core::Pubd;
-use site_cell::named::Numbered;
+use site_cells::named::Numbered;
 use std::alloc::AllocError;
 use std::marker::{Model, PhantomData};
 use turn_lock::Journaled;

@@ -18,8 +18,8 @@ use Rattle.monitor_model.specs.Launcher.{begun, begun_after}
 use Rattle.monitor_model.specs.Seen.{proxy_past}
 use Rattle.monitor_model.specs.Standing.{proxy_grant}
 use Rattle.turn_lock.specs.Board.{services}
-use Rattle.cell_locks.proofs.Onlys.{only_else, new_at}
-use Rattle.cell_locks.specs.Row.{OnlyAt, seen_at}
+use Rattle.site_cells.proofs.Onlys.{only_else, new_at}
+use Rattle.site_cells.specs.Row.{OnlyAt, seen_at}
 use Rattle.launch_journal.specs.Launches.{Launches, entered}
 use Rattle.site_locks.specs.Made.{fresh}
 use Rattle.site_locks.specs.Sat.{Sat}

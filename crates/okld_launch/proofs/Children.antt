@@ -6,7 +6,7 @@ use Rattle.okws_outer.specs.Lives.{Asks, Life}
 use Rattle.okws_outer.specs.declared.child.Ended.{Ended}
 use Rattle.okws_outer.specs.declared.child.Ended.TheVariants.{Yes}
 use Rattle.monitor_model.specs.Cell.{last_booted}
-use Rattle.cell_locks.specs.Row.{OnlyAt, link_at, seen_at}
+use Rattle.site_cells.specs.Row.{OnlyAt, link_at, seen_at}
 use Rattle.launch_crew.specs.Crews.{CrewIs, RunsAs, StaffIs, child_of, crew_of}
 use Rattle.launch_crew.specs.Ended.{family_ended, life_ended, tells_ended}
 use Rattle.launch_crew.specs.Recorded.{Recorded}

@@ -14,8 +14,8 @@ use Rattle.okws_plan.specs.declared.event.LauncherEvent.{LauncherEvent}
 use Rattle.okws_plan.specs.declared.event.LauncherEvent.TheVariants as event
 use Rattle.monitor_model.specs.declared.record.CellEvent.{CellEvent}
 use Rattle.monitor_model.specs.Launches.{is_failed}
-use Rattle.cell_locks.specs.Row.{CellsSeen, IsNew, link_at, seen_at}
-use Rattle.cell_locks.proofs.Onlys.{new_at}
+use Rattle.site_cells.specs.Row.{CellsSeen, IsNew, link_at, seen_at}
+use Rattle.site_cells.proofs.Onlys.{new_at}
 use Rattle.launch_journal.specs.Launches.{Launches, entered}
 use Rattle.launch_crew.specs.Crews.{CrewIs, StaffIs, child_of, crew_of}
 use Rattle.launch_crew.specs.Ended.{Attended, Attends}

@@ -7,7 +7,7 @@ use Rattle.monitor_model.specs.declared.record.End.{End}
 use Rattle.monitor_model.specs.declared.record.End.TheVariants as end
 use Rattle.monitor_model.specs.Cell.{CellLaw, MayStand, after_end, heard, incarnation, said}
 use Rattle.monitor_model.specs.Sent.{broken_in}
-use Rattle.site_cell.specs.Taken.{last_end}
+use Rattle.site_cells.specs.Taken.{last_end}
 use Rattle.okld_launch.specs.Heard.{IsBehind}
 
 -- ---- an incarnation that is behind

@@ -23,9 +23,9 @@ use Rattle.monitor_model.specs.Cell.{CellLaw, heard, incarnation, last_booted}
 use Rattle.monitor_model.specs.First.{is_boot_of}
 use Rattle.monitor_model.specs.Merged.{cell_items, cell_past, is_at_cell}
 use Rattle.monitor_model.specs.Sent.{IsGiven, broken_in}
-use Rattle.site_cell.specs.Taken.{HasTaken}
-use Rattle.site_cell.proofs.Taken.{quiet_taken}
-use Rattle.cell_locks.specs.Row.{CellsSeen, seen_at}
+use Rattle.site_cells.specs.Taken.{HasTaken}
+use Rattle.site_cells.proofs.Taken.{quiet_taken}
+use Rattle.site_cells.specs.Row.{CellsSeen, seen_at}
 use Rattle.launch_crew.specs.Crews.{CrewIs, running_at}
 use Rattle.launch_crew.specs.Finished.{EndsAt, is_end_of, runs_as}
 use Rattle.okld_launch.specs.Kin.{AreKin, IsEnd, IsStart, is_boot, is_start_of}

@@ -7,7 +7,7 @@ use Rattle.okws_plan.specs.declared.script.Place.{Place}
 use Rattle.okws_plan.specs.declared.script.Place.TheVariants.{Proxy, Pubd, Oklogd}
 use Rattle.monitor_model.specs.Cell.{incarnation, last_booted}
 use Rattle.monitor_model.specs.Launcher.{begun}
-use Rattle.cell_locks.specs.Row.{CellsSeen, seen_at, OnlyAt}
+use Rattle.site_cells.specs.Row.{CellsSeen, seen_at, OnlyAt}
 use Rattle.site_locks.specs.Sat.{Sat}
 use Rattle.launch_crew.specs.Crews.{CrewIs, child_of, up_of, stands_at, lasts_at, Below, Under, RunsAs, IsUp}
 use Rattle.okld_launch.specs.Launchers.{LauncherIs, up_in, TriedAreBegun, IsKept, IsLauncher}

@@ -9,7 +9,7 @@ use Rattle.okws_outer.specs.Families.{Family}
 use Rattle.okws_outer.specs.Lives.{Life}
 use Rattle.okws_outer.specs.Wire.{Wire}
 use Rattle.monitor_model.specs.Launcher.{begun}
-use Rattle.cell_locks.specs.Row.{CellsSeen}
+use Rattle.site_cells.specs.Row.{CellsSeen}
 use Rattle.launch_journal.specs.Launches.{Launches, entered}
 use Rattle.launch_crew.specs.Crews.{CrewIs, child_of}
 use Rattle.launch_crew.specs.Listed.{CellsGo}

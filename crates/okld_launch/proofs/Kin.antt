@@ -21,7 +21,7 @@ use Rattle.monitor_model.specs.Cell.{last_booted}
 use Rattle.monitor_model.specs.First.{is_boot_of}
 use Rattle.monitor_model.specs.Launcher.{begun}
 use Rattle.monitor_model.specs.Merged.{is_at_cell}
-use Rattle.cell_locks.specs.Row.{CellsSeen, seen_at}
+use Rattle.site_cells.specs.Row.{CellsSeen, seen_at}
 use Rattle.site_locks.specs.Sat.{Sat}
 use Rattle.launch_crew.specs.Crews.{CrewIs, child_of, running_at}
 use Rattle.launch_crew.specs.Listed.{CellsGo}

@@ -20,7 +20,7 @@ use Rattle.monitor_model.specs.declared.record.Own.{Own}
 use Rattle.monitor_model.specs.declared.record.Own.TheVariants as own
 use Rattle.monitor_model.specs.Cell.{last_booted}
 use Rattle.monitor_model.specs.Launcher.{begun}
-use Rattle.cell_locks.specs.Row.{CellsSeen, link_at, seen_at}
+use Rattle.site_cells.specs.Row.{CellsSeen, link_at, seen_at}
 use Rattle.launch_crew.specs.Crews.{CrewIs, StaffIs, child_of, crew_of, running_at}
 use Rattle.launch_crew.specs.Ended.{Attended, Attends}
 use Rattle.launch_crew.specs.Listed.{CellsGo, of_cells}

@@ -12,7 +12,7 @@ use Rattle.okws_plan.specs.declared.script.Place.{Place}
 use Rattle.monitor_model.specs.declared.record.Own.TheVariants as own
 use Rattle.monitor_model.specs.Launcher.{begun}
 use Rattle.monitor_model.specs.Launches.{with_cleared, with_installs, with_revokes}
-use Rattle.cell_locks.specs.Row.{CellsSeen}
+use Rattle.site_cells.specs.Row.{CellsSeen}
 use Rattle.launch_journal.specs.Launches.{Launches, entered}
 use Rattle.launch_crew.specs.Crews.{CrewIs}
 use Rattle.launch_crew.specs.Ended.{Attended, tells_ended}

@@ -15,7 +15,7 @@ use Rattle.monitor_model.specs.First.{is_boot_of}
 use Rattle.monitor_model.specs.Launcher.{begun}
 use Rattle.monitor_model.specs.Merged.{cell_past}
 use Rattle.monitor_model.specs.Sent.{IsGiven, broken_in}
-use Rattle.site_cell.specs.Taken.{HasTaken}
+use Rattle.site_cells.specs.Taken.{HasTaken}
 use Rattle.launch_crew.specs.Finished.{IsFront, is_end_of}
 use Rattle.okld_launch.specs.Kin.{AreAlone, IsStart, is_start_of}
 

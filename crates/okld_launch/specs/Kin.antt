@@ -15,7 +15,7 @@ use Rattle.monitor_model.specs.declared.record.Own.{Own}
 use Rattle.monitor_model.specs.declared.record.Own.TheVariants as own
 use Rattle.monitor_model.specs.Cell.{boot_frame}
 use Rattle.monitor_model.specs.Launcher.{begun}
-use Rattle.cell_locks.specs.Row.{CellsSeen}
+use Rattle.site_cells.specs.Row.{CellsSeen}
 use Rattle.launch_crew.specs.Crews.{CrewIs, running_at}
 use Rattle.launch_crew.specs.Finished.{EndsAt, IsFront, is_end_of, runs_as}
 

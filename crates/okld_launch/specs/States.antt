@@ -4,7 +4,7 @@ use Rattle.okws_base.specs.declared.limit.TheConstants.{MOST_INCARNATIONS, MOST_
 use Rattle.okws_plan.specs.declared.configuration.Config.{Config}
 use Rattle.monitor_model.specs.Cell.{incarnation, last_booted}
 use Rattle.monitor_model.specs.Launcher.{begun}
-use Rattle.cell_locks.specs.Row.{seen_at}
+use Rattle.site_cells.specs.Row.{seen_at}
 use Rattle.launch_crew.specs.Coming.{came_up}
 use Rattle.launch_crew.specs.Crews.{Under, IsQuiet, StandsAt, RunsAs, child_of}
 use Rattle.launch_crew.specs.Told.{TellsMore}

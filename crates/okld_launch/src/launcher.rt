@@ -14,7 +14,6 @@ ghost use Rattle.okld_launch.specs.Kin.{AreKin};
 ghost use Rattle.okld_launch.specs.Pieces.{IsClosed, IsWhole};
 
 use crate::named::Staffed;
-use cell_locks::named::CellNames;
 use launch_crew::crew::Crew;
 use launch_journal::LaunchJournal;
 use okws_base::journal::{Entry, Past};
@@ -23,6 +22,7 @@ use okws_outer::keeper::Keeper;
 use okws_outer::stream::Sink;
 use okws_plan::configuration::Config;
 use okws_plan::event::LauncherEvent;
+use site_cells::lock_names::CellNames;
 use site_locks::named::Site;
 use std::alloc::Global;
 use std::marker::Model;

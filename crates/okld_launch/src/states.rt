@@ -11,12 +11,12 @@ ghost use Rattle.okld_launch.specs.States.{GoesOn};
 
 use crate::launcher::Launcher;
 use crate::named::Staffed;
-use cell_locks::locks::CellLocks;
-use cell_locks::named::CellNames;
 use launch_crew::answer::Missed;
 use okws_outer::children::Children;
 use okws_outer::keeper::Keeper;
 use okws_outer::stream::Sink;
+use site_cells::lock_names::CellNames;
+use site_cells::locks::CellLocks;
 use site_locks::locks::Locks;
 use site_locks::named::Site;
 use std::marker::Model;

@@ -20,7 +20,7 @@ use Rattle.monitor_model.specs.First.{Came, before_any, is_talk}
 use Rattle.monitor_model.specs.Merged.{cell_items, is_at_cell, is_launch, is_okd_launch, okd_item}
 use Rattle.monitor_model.specs.Pieces.{is_accept}
 use Rattle.named_columns.specs.Launched.{by_entry}
-use Rattle.site_cell.specs.Held.{by_event}
+use Rattle.site_cells.specs.Held.{by_event}
 use Rattle.site_run.specs.Opening.{Opening, is_up, ups_of}
 use Rattle.okws_serve.specs.Opened.{came_in}
 

@@ -22,8 +22,8 @@ use Rattle.monitor_model.specs.Seen.{Seen}
 use Rattle.turn_lock.specs.Rows.{NoneFrom}
 use Rattle.turn_lock.specs.Seats.{SeatIs}
 use Rattle.named_columns.specs.Launched.{by_entry}
-use Rattle.site_cell.specs.Held.{by_event}
-use Rattle.cell_locks.specs.Row.{CellsSeen, seen_at}
+use Rattle.site_cells.specs.Held.{by_event}
+use Rattle.site_cells.specs.Row.{CellsSeen, seen_at}
 use Rattle.site_locks.specs.Sat.{Sat}
 use Rattle.okld_launch.specs.Entering.{entries_of}
 use Rattle.launch_turns.specs.Deeds.{by_deed, entries, up_in}

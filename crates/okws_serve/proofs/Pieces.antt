@@ -21,7 +21,7 @@ use Rattle.monitor_model.specs.Pieces.{is_accept_item, is_ordered}
 use Rattle.monitor_model.specs.Seen.{Seen}
 use Rattle.monitor_model.specs.Worker.{IsWorker, Piece, Accepted, Published, Launched, Wants}
 use Rattle.monitor_model.proofs.Lived.{lives_are_pieces}
-use Rattle.site_cell.specs.Held.{by_event}
+use Rattle.site_cells.specs.Held.{by_event}
 use Rattle.launch_turns.specs.Deeds.{ended_in, entries, up_in}
 use Rattle.worker_lives.specs.Beginning.{IsOfTurn, turned_alone}
 use Rattle.worker_lives.specs.Ending.{crashes_came, launches_end}

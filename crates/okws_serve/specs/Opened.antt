@@ -14,8 +14,8 @@ use Rattle.monitor_model.specs.First.{Came, LaunchesComeFirst}
 use Rattle.monitor_model.specs.Launches.{is_begun_of}
 use Rattle.monitor_model.specs.Pieces.{worker_list}
 use Rattle.named_columns.specs.Launched.{by_entry}
-use Rattle.site_cell.specs.Held.{by_event}
-use Rattle.cell_locks.specs.Row.{seen_at}
+use Rattle.site_cells.specs.Held.{by_event}
+use Rattle.site_cells.specs.Row.{seen_at}
 use Rattle.launch_turns.specs.Deeds.{by_deed}
 use Rattle.okld_launch.specs.Entering.{entries_of}
 use Rattle.launch_turns.specs.Standing.{BootsStand, UpsStand}

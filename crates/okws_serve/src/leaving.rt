@@ -11,7 +11,6 @@ ghost use Rattle.okws_serve.specs.Manned.{doors_of, lives_of, AllDone, AreAt, at
 ghost use Rattle.okws_serve.specs.Posts.{DoorIs};
 
 use crate::post::{ConsolePost, DoorPost, Post, PostOf};
-use cell_locks::named::CellNames;
 use okld_launch::named::Staffed;
 use okws_outer::children::Children;
 use okws_outer::conn::Conn;
@@ -19,6 +18,7 @@ use okws_outer::door::Door;
 use okws_outer::gate::Gate;
 use okws_outer::keeper::Keeper;
 use okws_outer::stream::Sink;
+use site_cells::lock_names::CellNames;
 use site_locks::named::Site;
 use site_run::places::Doors;
 use site_run::row::Chairs;

@@ -5,7 +5,6 @@ ghost use Rattle.okws_base.specs.declared.limit.TheConstants.{MOST_CONNECTIONS};
 ghost use Rattle.okws_serve.specs.Posts.{AttendedIf, OverseenIf, WorksAt, IsSteered};
 
 use admin_console::reader::Reader;
-use cell_locks::named::CellNames;
 use okld_launch::named::Staffed;
 use okws_outer::children::Children;
 use okws_outer::conn::Conn;
@@ -14,6 +13,7 @@ use okws_outer::gate::Gate;
 use okws_outer::keeper::Keeper;
 use okws_outer::stream::Sink;
 use okws_plan::configuration::Config;
+use site_cells::lock_names::CellNames;
 use site_locks::named::Site;
 use site_run::room::Desk;
 use site_worker::console::Overseen;

@@ -23,8 +23,8 @@ use Rattle.monitor_model.specs.Worker.{Outcome, Unowned, IsDown}
 use Rattle.service_cell.specs.Steps.{crash_end}
 use Rattle.service_cell.specs.declared.answer.Spoken.{Spoken}
 use Rattle.service_cell.specs.declared.answer.Spoken.TheVariants as spoken
-use Rattle.cell_locks.specs.Row.{seen_at}
-use Rattle.cell_locks.specs.Turns.{EndsInReply, reply_frame}
+use Rattle.site_cells.specs.Row.{seen_at}
+use Rattle.site_cells.specs.Turns.{EndsInReply, reply_frame}
 use Rattle.http_front.specs.Replies.{Replied}
 use Rattle.door_worker.specs.Asking.{Asked}
 use Rattle.door_worker.specs.Responses.{outcome_response}

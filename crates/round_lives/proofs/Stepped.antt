@@ -22,8 +22,8 @@ use Rattle.monitor_model.specs.Launcher.{begun}
 use Rattle.monitor_model.specs.Seen.{Seen, AtOkd, AtPubd, noted}
 use Rattle.monitor_model.specs.Worker.{Outcome, Spoke, Piece, Accepted, Published, Launched, Wants}
 use Rattle.service_cell.specs.declared.answer.Spoken.{Spoken}
-use Rattle.site_cell.specs.Held.{by_event}
-use Rattle.cell_locks.specs.Row.{CellsSeen, seen_at}
+use Rattle.site_cells.specs.Held.{by_event}
+use Rattle.site_cells.specs.Row.{CellsSeen, seen_at}
 use Rattle.door_worker.specs.Asking.{Asked}
 use Rattle.launch_turns.specs.Deeds.{entries}
 use Rattle.okld_launch.specs.declared.answer.Launched.{Launched as Launch}

@@ -18,7 +18,7 @@ use Rattle.monitor_model.specs.Launcher.{begun}
 use Rattle.monitor_model.specs.Seen.{Seen, AtOkd, noted}
 use Rattle.monitor_model.specs.Tied.{piece_visits}
 use Rattle.monitor_model.specs.Worker.{Outcome, Spoke, Piece, Accepted, Launched, Wants}
-use Rattle.cell_locks.specs.Row.{CellsSeen, seen_at}
+use Rattle.site_cells.specs.Row.{CellsSeen, seen_at}
 use Rattle.door_worker.specs.Asking.{Asked}
 use Rattle.launch_turns.specs.Deeds.{entries}
 use Rattle.launch_turns.specs.Turns.{TendsBy}

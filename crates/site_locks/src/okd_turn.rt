@@ -14,7 +14,7 @@ ghost use Rattle.site_locks.specs.Turns.{Enters, Sees, EntersAny, Stays, past_af
 use monitor_model::verdict::Way;
 use named_columns::okd::SiteOkd;
 use okws_base::items::Items;
-use site_cell::named::Numbered;
+use site_cells::named::Numbered;
 use std::alloc::AllocError;
 use std::sync::Wait;
 use turn_lock::{Seat, Turn};

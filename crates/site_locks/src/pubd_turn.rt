@@ -19,7 +19,7 @@ use monitor_model::verdict::{Got, Published, Push};
 use named_columns::pubd::SitePubd;
 use okws_base::items::Items;
 use okws_base::limit::MOST_EDITIONS;
-use site_cell::named::Numbered;
+use site_cells::named::Numbered;
 use std::alloc::AllocError;
 use std::sync::Wait;
 use turn_lock::{Seat, Turn};

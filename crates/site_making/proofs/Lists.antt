@@ -1,7 +1,7 @@
 -- Lists that grow at their ends.
 use Rattle.std.proofs.Common.{◌≡◌, ℕ, suc, ◌+◌, ◌≤◌, Bool, true, List, [], ◌∷◌, ◌++◌, length, map, reverse, subst, arith}
 use Rattle.okws_plan.specs.declared.configuration.Config.{Config}
-use Rattle.cell_locks.specs.Row.{Rise}
+use Rattle.site_cells.specs.Row.{Rise}
 use Rattle.site_locks.specs.Sat.{RiseFrom}
 use Rattle.turn_lock.specs.Rows.{AllNone}
 use Rattle.turn_lock.proofs.Rows.{turned_push}

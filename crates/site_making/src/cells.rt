@@ -3,14 +3,14 @@
 ghost use Rattle.std.specs.Prelude.{◌≡◌, ◌≤◌, [], length, map, IfOk, vec_len};
 ghost use Rattle.std.specs.Arc.{arc_value};
 ghost use Rattle.okws_base.specs.declared.limit.TheConstants.{MOST_SERVICES};
-ghost use Rattle.cell_locks.specs.Row.{Rise};
+ghost use Rattle.site_cells.specs.Row.{Rise};
 ghost use Rattle.turn_lock.specs.Rows.{AllNone};
 
 use named_columns::named::Backed;
 use okws_outer::stream::Link;
 use okws_plan::configuration::Config;
 use service_cell::cell::Cell;
-use site_cell::cell::SiteCell;
+use site_cells::cell::SiteCell;
 use site_columns::opening::shared;
 use std::alloc::{AllocError, Global};
 use std::sync::Arc;

@@ -9,11 +9,11 @@ ghost use Rattle.site_making.specs.Making.{IsServable};
 
 use crate::cells::cells;
 use crate::columns::columns;
-use cell_locks::making::{NewCells, make_cells};
 use named_columns::named::Backed;
 use okws_outer::keeper::Keeper;
 use okws_outer::stream::{Link, Sink};
 use okws_plan::configuration::Config;
+use site_cells::making::{NewCells, make_cells};
 use site_locks::making::Made;
 use std::alloc::{AllocError, Global};
 use std::sync::Arc;

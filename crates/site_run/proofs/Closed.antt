@@ -18,8 +18,8 @@ use Rattle.log_daemon.specs.Stopped.{is_stopped}
 use Rattle.log_daemon.specs.declared.daemon.WriteOut.{WriteOut}
 use Rattle.log_daemon.specs.declared.daemon.WriteOut.TheVariants.{Written, LogFault, Stopped}
 use Rattle.monitor_model.specs.Logd.{log_text}
-use Rattle.cell_locks.specs.Closing.{HasNumber}
-use Rattle.cell_locks.specs.Row.{CellsSeen}
+use Rattle.site_cells.specs.Closing.{HasNumber}
+use Rattle.site_cells.specs.Row.{CellsSeen}
 use Rattle.site_locks.specs.Closing.{SomeIs}
 use Rattle.site_locks.specs.Sat.{Sat}
 use Rattle.turn_lock.specs.Seats.{TurnIs, SeatIs, AllRest, SomeHas}

@@ -18,9 +18,9 @@ use Rattle.monitor_model.specs.Columns.{WithinCount}
 use Rattle.monitor_model.specs.Launches.{failures, is_failed, is_fault_event}
 use Rattle.monitor_model.specs.Merged.{cell_past}
 use Rattle.monitor_model.specs.Sent.{is_link_fault}
-use Rattle.site_cell.specs.Held.{by_event}
-use Rattle.cell_locks.specs.Closing.{AllCellsGrow, CellsGrow}
-use Rattle.cell_locks.specs.Row.{CellsSeen, link_at, seen_at}
+use Rattle.site_cells.specs.Held.{by_event}
+use Rattle.site_cells.specs.Closing.{AllCellsGrow, CellsGrow}
+use Rattle.site_cells.specs.Row.{CellsSeen, link_at, seen_at}
 use Rattle.launch_crew.specs.Crews.{CrewIs}
 use Rattle.launch_crew.specs.Finished.{all_out, faults_in, faults_out, has_fault, out_at}
 use Rattle.launch_crew.specs.Told.{TellsMore}

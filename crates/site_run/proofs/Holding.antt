@@ -10,8 +10,8 @@ use Rattle.okws_outer.specs.Doors.{Entrance}
 use Rattle.okws_plan.specs.declared.configuration.Config.{Config}
 use Rattle.turn_lock.specs.BoardSeats.{BoardIs, AllAt, AreRising}
 use Rattle.turn_lock.specs.BoardSeats.{SeatIs as Place}
-use Rattle.cell_locks.specs.Closing.{HasNumber}
-use Rattle.cell_locks.specs.Row.{CellsSeen, IsNew, AreNew}
+use Rattle.site_cells.specs.Closing.{HasNumber}
+use Rattle.site_cells.specs.Row.{CellsSeen, IsNew, AreNew}
 use Rattle.site_locks.specs.Closing.{SomeIs}
 use Rattle.site_locks.specs.Made.{fresh, AreFreshFrom}
 use Rattle.site_locks.specs.Sat.{Sat}

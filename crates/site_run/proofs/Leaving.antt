@@ -26,11 +26,11 @@ use Rattle.monitor_model.specs.Seen.{Seen, proxy_past}
 use Rattle.monitor_model.specs.Tied.{EndsIn}
 use Rattle.monitor_model.proofs.Tied.{others_leave_entries}
 use Rattle.named_columns.specs.Launched.{by_entry}
-use Rattle.site_cell.specs.Held.{by_event}
+use Rattle.site_cells.specs.Held.{by_event}
 use Rattle.turn_lock.proofs.Grows.{of-grows, own-on, owns-at}
 use Rattle.turn_lock.specs.Seats.{TurnIs, SeatIs, AllClosed}
-use Rattle.cell_locks.specs.Closing.{CellsGrow, AllCellsGrow}
-use Rattle.cell_locks.specs.Row.{CellsSeen}
+use Rattle.site_cells.specs.Closing.{CellsGrow, AllCellsGrow}
+use Rattle.site_cells.specs.Row.{CellsSeen}
 use Rattle.site_locks.proofs.Seeing.{grows_foreign}
 use Rattle.turn_lock.specs.Board.{UpTo}
 use Rattle.site_locks.specs.Closing.{AllGrown, AllSaw, RowGrown, RowsGrown}

@@ -12,7 +12,7 @@ use Rattle.monitor_model.specs.declared.record.Record.{Record}
 use Rattle.monitor_model.specs.Legality.{ListsMakeJournals}
 use Rattle.monitor_model.specs.Merged.{IsOwn, LaunchesAlone, are_below, is_cell_below, list_of, lists}
 use Rattle.named_columns.specs.Launched.{by_entry}
-use Rattle.site_cell.specs.Held.{by_event}
+use Rattle.site_cells.specs.Held.{by_event}
 use Rattle.turn_lock.specs.Rows.{NoneFrom}
 use Rattle.site_run.specs.Journals.{NameNumbers}
 use Rattle.site_run.proofs.Seating.{push_length}

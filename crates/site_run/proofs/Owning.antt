@@ -33,9 +33,9 @@ use Rattle.monitor_model.proofs.Tied as tied
 use Rattle.monitor_model.proofs.Went.{begins, dialog_went}
 use Rattle.service_cell.specs.Dialogs.{HasDialog}
 use Rattle.service_cell.specs.Standing.{Standing, speaker}
-use Rattle.site_cell.specs.Held.{by_event}
-use Rattle.cell_locks.proofs.Onlys.{only_else}
-use Rattle.cell_locks.specs.Row.{CellsSeen, OnlyAt, seen_at}
+use Rattle.site_cells.specs.Held.{by_event}
+use Rattle.site_cells.proofs.Onlys.{only_else}
+use Rattle.site_cells.specs.Row.{CellsSeen, OnlyAt, seen_at}
 use Rattle.service_cell.specs.declared.answer.Spoken.{Spoken}
 use Rattle.service_cell.specs.declared.answer.Spoken.TheVariants as spoken
 use Rattle.door_worker.specs.Asking.{Asked}

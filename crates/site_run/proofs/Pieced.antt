@@ -16,8 +16,8 @@ use Rattle.monitor_model.specs.Causes.{has_up}
 use Rattle.monitor_model.specs.Launches.{IsEnding, all_pieces, attempts, found_at, is_launch_at, is_launch_event, is_retired, retires, retired_due}
 use Rattle.monitor_model.specs.Merged.{cell_past, is_at_cell}
 use Rattle.monitor_model.specs.Placed.{EachFrom}
-use Rattle.cell_locks.specs.Closing.{AllCellsGrow, CellsGrow}
-use Rattle.cell_locks.specs.Row.{CellsSeen, seen_at}
+use Rattle.site_cells.specs.Closing.{AllCellsGrow, CellsGrow}
+use Rattle.site_cells.specs.Row.{CellsSeen, seen_at}
 use Rattle.site_locks.specs.Sat.{Sat}
 use Rattle.launch_crew.specs.Crews.{CrewIs, running_at}
 use Rattle.launch_crew.specs.Listed.{EndsPieces, of_cells}

@@ -4,7 +4,7 @@ use Rattle.std.specs.Prelude.{Result, Ok, Err, OnOk, false}
 use Rattle.std.specs.Result.{is_err}
 use Rattle.turn_lock.specs.Rows.{RestsAt}
 use Rattle.turn_lock.specs.Seats.{TurnIs, SeatIs}
-use Rattle.cell_locks.specs.Row.{CellsSeen}
+use Rattle.site_cells.specs.Row.{CellsSeen}
 use Rattle.site_locks.specs.Sat.{Sat}
 use Rattle.site_worker.specs.Lives.{Life}
 use Rattle.launch_turns.specs.declared.deed.Deed.{Deed}

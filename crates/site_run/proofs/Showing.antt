@@ -22,11 +22,11 @@ use Rattle.monitor_model.specs.Seen.{Seen, noted}
 use Rattle.service_cell.specs.Dialogs.{HasDialog}
 use Rattle.service_cell.specs.Standing.{Standing}
 use Rattle.service_cell.specs.Steps.{crash_end}
-use Rattle.site_cell.specs.Held.{by_event}
+use Rattle.site_cells.specs.Held.{by_event}
 use Rattle.admin_console.specs.declared.controls.Publishing.{Publishing}
 use Rattle.admin_console.specs.declared.controls.Publishing.TheVariants as publishing
-use Rattle.cell_locks.proofs.Onlys.{only_else}
-use Rattle.cell_locks.specs.Row.{CellsSeen, OnlyAt, seen_at}
+use Rattle.site_cells.proofs.Onlys.{only_else}
+use Rattle.site_cells.specs.Row.{CellsSeen, OnlyAt, seen_at}
 use Rattle.service_cell.specs.declared.answer.Spoken.{Spoken}
 use Rattle.service_cell.specs.declared.answer.Spoken.TheVariants as spoken
 use Rattle.door_worker.specs.Asking.{Asked}

@@ -21,9 +21,9 @@ use Rattle.monitor_model.specs.Missing.{AreTrulyMissed, MissesAreTrue}
 use Rattle.monitor_model.specs.Placed.{EachFrom}
 use Rattle.monitor_model.specs.Tied.{AllEnded}
 use Rattle.monitor_model.proofs.Tied.{cell_laws_are_parts}
-use Rattle.site_cell.specs.Held.{by_event}
+use Rattle.site_cells.specs.Held.{by_event}
 use Rattle.turn_lock.specs.Rows.{NoneFrom}
-use Rattle.cell_locks.specs.Row.{seen_at}
+use Rattle.site_cells.specs.Row.{seen_at}
 use Rattle.site_worker.specs.Lives.{Life}
 use Rattle.site_run.proofs.Leaving.{cell_at, tail_none}
 use Rattle.site_run.proofs.Showing.{OwnShown, Shows, each_more, grown_shown}

@@ -16,9 +16,9 @@ use Rattle.monitor_model.specs.Merged.{okd_item}
 use Rattle.monitor_model.specs.Seen.{proxy_past}
 use Rattle.named_columns.specs.Launched.{by_entry}
 use Rattle.turn_lock.proofs.Grows.{grows_on, grows-same}
-use Rattle.site_cell.specs.Held.{by_event}
-use Rattle.cell_locks.specs.Row.{CellsSeen, OnlyAt, seen_at}
-use Rattle.cell_locks.proofs.Onlys.{only_else, only_length, only_number}
+use Rattle.site_cells.specs.Held.{by_event}
+use Rattle.site_cells.specs.Row.{CellsSeen, OnlyAt, seen_at}
+use Rattle.site_cells.proofs.Onlys.{only_else, only_length, only_number}
 use Rattle.launch_crew.specs.Coming.{came_up}
 use Rattle.launch_crew.specs.Recorded.{AreOwn}
 use Rattle.launch_crew.proofs.Owns.{sees}

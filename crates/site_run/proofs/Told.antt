@@ -12,7 +12,7 @@ use Rattle.worker_lives.specs.Waiting.{LeadsSo}
 use Rattle.worker_lives.proofs.Others.{foreign_of}
 use Rattle.worker_lives.proofs.Waiting.{leads_beside}
 use Rattle.round_lives.proofs.Ended.{ends_both}
-use Rattle.cell_locks.specs.Row.{CellsSeen}
+use Rattle.site_cells.specs.Row.{CellsSeen}
 use Rattle.site_locks.specs.Sat.{Sat}
 use Rattle.launch_turns.specs.Deeds.{by_deed, entries, up_in}
 use Rattle.launch_turns.specs.declared.deed.Deed.{Deed}

@@ -13,7 +13,7 @@ use Rattle.okws_plan.specs.declared.event.OkdEvent.{OkdEvent}
 use Rattle.named_columns.specs.Launched.{by_entry}
 use Rattle.turn_lock.proofs.Grows.{own-foreign}
 use Rattle.turn_lock.specs.Seats.{SeatIs}
-use Rattle.cell_locks.specs.Row.{CellsSeen}
+use Rattle.site_cells.specs.Row.{CellsSeen}
 use Rattle.site_locks.specs.Made.{fresh}
 use Rattle.site_locks.specs.Sat.{Sat, seen_of}
 use Rattle.site_worker.specs.Lives.{Life, life_of}

@@ -12,9 +12,9 @@ use Rattle.named_columns.specs.Launched.{by_entry}
 use Rattle.turn_lock.specs.Seats.{TurnIs, SeatIs}
 use Rattle.turn_lock.proofs.Grows.{grows_on, of-grows}
 use Rattle.turn_lock.proofs.Views.{of-append}
-use Rattle.site_cell.specs.Held.{by_event}
-use Rattle.cell_locks.specs.Row.{CellsSeen, seen_at}
-use Rattle.cell_locks.proofs.Onlys.{new_at}
+use Rattle.site_cells.specs.Held.{by_event}
+use Rattle.site_cells.specs.Row.{CellsSeen, seen_at}
+use Rattle.site_cells.proofs.Onlys.{new_at}
 use Rattle.site_locks.specs.Made.{fresh}
 use Rattle.site_locks.specs.Sat.{Sat}
 use Rattle.launch_turns.specs.Deeds.{by_deed}

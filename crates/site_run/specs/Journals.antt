@@ -14,7 +14,7 @@ use Rattle.monitor_model.specs.declared.record.Record.{Record}
 use Rattle.monitor_model.specs.declared.sent.Sent.{Sent}
 use Rattle.named_columns.specs.Counts.{capped, accepts, ups, publications, logged}
 use Rattle.named_columns.specs.Launched.{by_entry, LaunchedBy}
-use Rattle.site_cell.specs.Held.{by_event}
+use Rattle.site_cells.specs.Held.{by_event}
 use Rattle.turn_lock.specs.Rows.{NoneFrom}
 use Rattle.site_run.specs.declared.ended.Counts.{Counts}
 

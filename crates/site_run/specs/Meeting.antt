@@ -7,8 +7,8 @@ use Rattle.okws_plan.specs.declared.configuration.Config.{Config}
 use Rattle.okws_plan.specs.declared.event.OkdEvent.{OkdEvent}
 use Rattle.monitor_model.specs.declared.record.CellEvent.{CellEvent}
 use Rattle.named_columns.specs.Launched.{by_entry}
-use Rattle.site_cell.specs.Held.{by_event}
-use Rattle.cell_locks.specs.Row.{CellsSeen, OnlyAt, seen_at}
+use Rattle.site_cells.specs.Held.{by_event}
+use Rattle.site_cells.specs.Row.{CellsSeen, OnlyAt, seen_at}
 use Rattle.site_locks.specs.Sat.{Sat}
 use Rattle.launch_turns.specs.Deeds.{by_deed}
 use Rattle.launch_turns.specs.Standing.{BootsStand, UpsStand}

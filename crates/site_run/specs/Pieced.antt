@@ -11,7 +11,7 @@ use Rattle.monitor_model.specs.Causes.{has_up}
 use Rattle.monitor_model.specs.Launches.{Fate, IsEnding, all_pieces, attempts}
 use Rattle.okws_outer.specs.Families.{Family}
 use Rattle.okws_outer.specs.declared.children.ChildEnd.{ChildEnd}
-use Rattle.cell_locks.specs.Row.{CellsSeen}
+use Rattle.site_cells.specs.Row.{CellsSeen}
 use Rattle.launch_crew.specs.Crews.{CrewIs}
 use Rattle.launch_crew.specs.Ended.{ended_at}
 use Rattle.launch_crew.specs.Listed.{EndsPieces}

@@ -22,10 +22,10 @@ use Rattle.monitor_model.specs.Tied.{EndsIn}
 use Rattle.monitor_model.specs.Worker.{nothing_seen}
 use Rattle.turn_lock.specs.Board.{none_begun}
 use Rattle.turn_lock.specs.Seats.{SeatIs}
-use Rattle.site_cell.specs.Held.{by_event}
-use Rattle.cell_locks.specs.Closing.{CellsGrow}
+use Rattle.site_cells.specs.Held.{by_event}
+use Rattle.site_cells.specs.Closing.{CellsGrow}
 use Rattle.named_columns.specs.Launched.{by_entry}
-use Rattle.cell_locks.specs.Row.{CellsSeen, IsNew, seen_at}
+use Rattle.site_cells.specs.Row.{CellsSeen, IsNew, seen_at}
 use Rattle.site_locks.specs.Closing.{AllGrown, RowsGrown}
 use Rattle.site_locks.specs.Made.{fresh}
 use Rattle.site_locks.specs.Sat.{Sat, seen_of}

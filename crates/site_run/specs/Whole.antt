@@ -5,7 +5,7 @@ use Rattle.turn_lock.specs.Board.{drawn_by}
 use Rattle.turn_lock.specs.BoardSeats.{BoardIs, AllAt}
 use Rattle.turn_lock.specs.BoardSeats.{SeatIs as Place}
 use Rattle.okws_plan.specs.declared.configuration.Config.{Config}
-use Rattle.cell_locks.specs.Row.{CellsSeen, IsNew}
+use Rattle.site_cells.specs.Row.{CellsSeen, IsNew}
 use Rattle.site_locks.specs.Made.{AreFreshFrom}
 use Rattle.site_locks.specs.Sat.{Sat}
 use Rattle.turn_lock.specs.Rows.{AllCount}

@@ -3,19 +3,19 @@
 ghost use Rattle.std.specs.Prelude.{◌≡◌, ◌≤◌, ◌<◌, reverse, IfOk, IfErr, length, vec_len, vec_capacity};
 ghost use Rattle.std.specs.Arc.{arc_value};
 ghost use Rattle.okws_base.specs.declared.limit.TheConstants.{MOST_PROXIES, MOST_SERVICES};
-ghost use Rattle.cell_locks.specs.Row.{IsNew};
+ghost use Rattle.site_cells.specs.Row.{IsNew};
 ghost use Rattle.site_locks.specs.Made.{fresh};
 ghost use Rattle.turn_lock.specs.Seats.{AreFresh};
 ghost use Rattle.launch_turns.specs.Papers.{ArePapers};
 
-use cell_locks::named::CellNames;
-use cell_locks::seats::CellSeats;
 use launch_turns::papers::Papers;
 use launch_turns::resting::Resting;
 use okld_launch::named::Staffed;
 use okws_outer::children::Children;
 use okws_outer::keeper::Keeper;
 use okws_outer::stream::Sink;
+use site_cells::lock_names::CellNames;
+use site_cells::seats::CellSeats;
 use site_locks::locks::Seats;
 use site_locks::named::Site;
 use site_making::order::turned;

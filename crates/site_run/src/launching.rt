@@ -16,8 +16,6 @@ ghost use Rattle.site_run.specs.Tied.{IsNotedWhere, OnlyLaunches, Unused, Waitin
 
 use crate::meeting::{meet_cells, meet_okd};
 use crate::row::{Chairs, Ground};
-use cell_locks::named::CellNames;
-use cell_locks::seats::CellSeats;
 use launch_turns::notes::okd_by;
 use launch_turns::resting::Resting;
 use launch_turns::turns::launch_by;
@@ -30,6 +28,8 @@ use okws_outer::children::Children;
 use okws_outer::gate::Gate;
 use okws_outer::keeper::Keeper;
 use okws_outer::stream::Sink;
+use site_cells::lock_names::CellNames;
+use site_cells::seats::CellSeats;
 use site_locks::locks::Seats;
 use site_locks::named::Site;
 use site_locks::note::OkdNote;

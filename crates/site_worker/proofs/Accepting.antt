@@ -8,7 +8,7 @@ use Rattle.okws_plan.specs.declared.event.OkdEvent.TheVariants as okd
 use Rattle.monitor_model.specs.Okd.{accept_verdict}
 use Rattle.monitor_model.specs.Seen.{AtOkd}
 use Rattle.monitor_model.specs.declared.verdict.Way.{Way}
-use Rattle.cell_locks.specs.Row.{CellsSeen}
+use Rattle.site_cells.specs.Row.{CellsSeen}
 use Rattle.site_worker.specs.Asking.{KeepsPasts, SameBoard}
 use Rattle.site_locks.specs.Sat.{Sat, seen_of}
 use Rattle.turn_lock.specs.Seats.{SeatIs}

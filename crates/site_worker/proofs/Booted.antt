@@ -11,7 +11,7 @@ use Rattle.service_cell.specs.Asking.{Asker}
 use Rattle.service_cell.specs.Standing.{Standing}
 use Rattle.service_cell.specs.declared.answer.Spoken.{Spoken}
 use Rattle.service_cell.specs.declared.answer.Spoken.TheVariants as spoken
-use Rattle.cell_locks.specs.Turns.{HasTalked}
+use Rattle.site_cells.specs.Turns.{HasTalked}
 use Rattle.site_worker.specs.Handling.{WasBooted}
 
 end_low : (how : End) (k n : ℕ) → k ≤ n → after_end how k ≤ n

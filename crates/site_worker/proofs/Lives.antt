@@ -4,7 +4,7 @@ use Rattle.std.specs.Prelude.{slice_index}
 use Rattle.okws_base.specs.Turns.{Behind}
 use Rattle.monitor_model.specs.Seen.{Seen, noted}
 use Rattle.monitor_model.specs.declared.record.Own.TheVariants as own
-use Rattle.cell_locks.specs.Row.{CellsSeen}
+use Rattle.site_cells.specs.Row.{CellsSeen}
 use Rattle.site_locks.specs.Sat.{Sat, seen_of}
 use Rattle.site_locks.specs.Steps.{NotesSpare}
 use Rattle.turn_lock.specs.Seats.{SeatIs}

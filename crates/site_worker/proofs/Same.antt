@@ -9,7 +9,7 @@ use Rattle.okws_outer.specs.Doors.{Entrance}
 use Rattle.monitor_model.specs.Seen.{Seen}
 use Rattle.monitor_model.specs.declared.verdict.Way.{Way}
 use Rattle.monitor_model.specs.declared.verdict.Way.TheVariants as way
-use Rattle.cell_locks.specs.Row.{CellsSeen}
+use Rattle.site_cells.specs.Row.{CellsSeen}
 use Rattle.service_cell.specs.declared.answer.Spoken.{Spoken}
 use Rattle.service_cell.specs.declared.answer.Spoken.TheVariants as spoken
 use Rattle.http_front.specs.declared.kept.Kept.{Kept}

@@ -15,8 +15,8 @@ use Rattle.service_cell.specs.Asking.{Asker}
 use Rattle.service_cell.specs.Steps.{crash_end}
 use Rattle.service_cell.specs.declared.answer.Spoken.{Spoken}
 use Rattle.service_cell.specs.declared.answer.Spoken.TheVariants as spoken
-use Rattle.cell_locks.specs.Row.{seen_at, OnlyAt}
-use Rattle.cell_locks.specs.Turns.{EndsInReply, HasTalked}
+use Rattle.site_cells.specs.Row.{seen_at, OnlyAt}
+use Rattle.site_cells.specs.Turns.{EndsInReply, HasTalked}
 use Rattle.door_worker.specs.declared.handler.Outcome.{Outcome}
 use Rattle.door_worker.specs.declared.handler.Outcome.TheVariants as outcome
 use Rattle.door_worker.specs.Asking.{Asked}

@@ -8,7 +8,7 @@ use Rattle.monitor_model.specs.declared.record.Own.TheVariants as own
 use Rattle.monitor_model.specs.Seen.{Seen, noted}
 use Rattle.turn_lock.specs.Seats.{TurnIs, SeatIs}
 use Rattle.turn_lock.specs.Rows.{RestsAt}
-use Rattle.cell_locks.specs.Row.{CellsSeen}
+use Rattle.site_cells.specs.Row.{CellsSeen}
 use Rattle.site_worker.specs.Asking.{KeepsPasts}
 use Rattle.site_locks.specs.Sat.{Sat, seen_of}
 use Rattle.launch_turns.specs.declared.deed.Deed.{Deed}

@@ -8,7 +8,6 @@ ghost use Rattle.site_worker.specs.Lives.{SameWorker};
 use crate::worker::Worker;
 use admin_console::reader::Reader;
 use admin_console::step::{Stepped, step};
-use cell_locks::named::CellNames;
 use okld_launch::named::Staffed;
 use okws_outer::children::Children;
 use okws_outer::conn::Conn;
@@ -16,6 +15,7 @@ use okws_outer::gate::Gate;
 use okws_outer::keeper::Keeper;
 use okws_outer::stream::Sink;
 use okws_plan::configuration::Config;
+use site_cells::lock_names::CellNames;
 use site_locks::named::Site;
 use std::sync::Wait;
 

@@ -5,7 +5,6 @@ ghost use Rattle.site_worker.specs.Steering.{told_of};
 
 use crate::worker::{TURN_ITEMS, Worker};
 use admin_console::controls::{Controls, Publishing, Relaunching};
-use cell_locks::named::CellNames;
 use monitor_model::verdict::Published;
 use okld_launch::answer::Launched;
 use okld_launch::named::Staffed;
@@ -14,6 +13,7 @@ use okws_outer::children::Children;
 use okws_outer::gate::Gate;
 use okws_outer::keeper::Keeper;
 use okws_outer::stream::Sink;
+use site_cells::lock_names::CellNames;
 use site_locks::named::Site;
 use std::sync::Wait;
 

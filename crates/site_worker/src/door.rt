@@ -8,7 +8,6 @@ ghost use Rattle.site_worker.specs.Rounds.{Attends, Round, TendsAfter, TendsNext
 ghost use Rattle.site_worker.specs.declared.worker.TheConstants.{TURN_ITEMS};
 
 use crate::worker::{ROUND_ITEMS, Worker};
-use cell_locks::named::CellNames;
 use door_worker::serving::{Serving, serve_one};
 use http_front::kept::Kept;
 use http_front::reply::Reply;
@@ -18,6 +17,7 @@ use okws_outer::door::Door;
 use okws_outer::gate::{Gate, Point};
 use okws_outer::keeper::Keeper;
 use okws_outer::stream::Sink;
+use site_cells::lock_names::CellNames;
 use site_locks::named::Site;
 use std::sync::Wait;
 use turn_lock::board::Board;

@@ -6,8 +6,8 @@ ghost use Rattle.http_front.specs.Replies.{Replied};
 ghost use Rattle.http_front.specs.Requests.{HasTarget, path_text};
 ghost use Rattle.monitor_model.specs.Script.{goes_of};
 ghost use Rattle.service_cell.specs.Steps.{crash_end};
-ghost use Rattle.cell_locks.specs.Row.{seen_at};
-ghost use Rattle.cell_locks.specs.Turns.{GivesLast};
+ghost use Rattle.site_cells.specs.Row.{seen_at};
+ghost use Rattle.site_cells.specs.Turns.{GivesLast};
 ghost use Rattle.door_worker.specs.Asking.{Asked, asked_by};
 ghost use Rattle.door_worker.specs.declared.handler.Outcome.TheVariants as outcome;
 ghost use Rattle.site_worker.specs.Lives.{Sees, Spends, Starves};
@@ -15,7 +15,6 @@ ghost use Rattle.site_worker.specs.Handling.{Accepts, Talks, WasBooted, Follows,
 ghost use Rattle.site_worker.specs.declared.worker.TheConstants.{TURN_ITEMS};
 
 use crate::worker::{TURN_ITEMS, Worker};
-use cell_locks::named::CellNames;
 use door_worker::handler::{Handler, Outcome};
 use http_front::reading::Request;
 use http_front::reply::Reply;
@@ -30,6 +29,7 @@ use okws_outer::gate::Gate;
 use okws_outer::keeper::Keeper;
 use okws_outer::stream::Sink;
 use service_cell::answer::Spoken;
+use site_cells::lock_names::CellNames;
 use site_locks::named::Site;
 use std::alloc::AllocError;
 use std::sync::Wait;

@@ -2,7 +2,7 @@
 
 ghost use Rattle.std.specs.Prelude.{◌≡◌, ◌<◌, ◌≤◌, length};
 ghost use Rattle.monitor_model.specs.Cell.{last_booted};
-ghost use Rattle.cell_locks.specs.Row.{seen_at};
+ghost use Rattle.site_cells.specs.Row.{seen_at};
 ghost use Rattle.okld_launch.specs.declared.entered.TheConstants.{MOST_ENTERED};
 ghost use Rattle.launch_turns.specs.Turns.{RelaunchesBy, ReportsBy, TendsBy};
 ghost use Rattle.site_worker.specs.Launching.{launch_starved, crash_starved, tend_starved, Reports, Tends, Asks};
@@ -11,8 +11,6 @@ ghost use Rattle.site_worker.specs.Rounds.{TendsNext};
 ghost use Rattle.site_worker.specs.declared.worker.TheConstants.{TURN_ITEMS};
 
 use crate::worker::Worker;
-use cell_locks::named::CellNames;
-use cell_locks::note::CellNote;
 use launch_turns::turns::{relaunch_by, report_by, tend_by};
 use okld_launch::answer::{Crashed, Launched, Tended};
 use okld_launch::entered::Entered;
@@ -21,6 +19,8 @@ use okws_outer::children::Children;
 use okws_outer::gate::Gate;
 use okws_outer::keeper::Keeper;
 use okws_outer::stream::Sink;
+use site_cells::lock_names::CellNames;
+use site_cells::note::CellNote;
 use site_locks::named::Site;
 use std::sync::Wait;
 

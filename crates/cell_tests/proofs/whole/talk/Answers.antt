@@ -1,5 +1,5 @@
 use Rattle.std.specs.Prelude.{[]}
-use Rattle.site_cell.proofs.Shut.{keeps_dialog}
+use Rattle.site_cells.proofs.Shut.{keeps_dialog}
 use Rattle.cell_tests.proofs.whole.talk.Goals as goal
 
 pub returns : goal.returns

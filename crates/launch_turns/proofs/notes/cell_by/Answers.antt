@@ -1,7 +1,7 @@
 use Rattle.std.proofs.Common.{◌≡◌, ◌∙◌, List, [], sym, ap, subst}
 use Rattle.monitor_model.specs.declared.record.CellEvent.{CellEvent}
 use Rattle.turn_lock.specs.Seats.{SeatIs}
-use Rattle.cell_locks.specs.Notes.{CellNoteIs}
+use Rattle.site_cells.specs.Notes.{CellNoteIs}
 use Rattle.launch_turns.specs.Resting.{RestingIs}
 use Rattle.launch_turns.specs.Standing.{BootsStand}
 use Rattle.launch_turns.specs.declared.deed.Deed.{Deed}

@@ -1,8 +1,8 @@
 use Rattle.std.proofs.Common.{rules, ◌≡◌, ◌+◌, ◌++◌, ◌∷◌, [], ℕ, List, map, length, sym, subst, arith}
 use Rattle.std.proofs.lemmas.List.{length-map}
 use Rattle.monitor_model.specs.declared.record.CellEvent.{CellEvent}
-use Rattle.site_cell.specs.Held.{Held}
-use Rattle.cell_locks.specs.Row.{Rise}
+use Rattle.site_cells.specs.Held.{Held}
+use Rattle.site_cells.specs.Row.{Rise}
 use Rattle.turn_lock.specs.Rows.{AllNone}
 use Rattle.turn_lock.proofs.Rows.{pushed_map}
 use Rattle.site_making.proofs.Lists.{none_push, services_push}

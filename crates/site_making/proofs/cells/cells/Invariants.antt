@@ -1,6 +1,6 @@
 use Rattle.std.proofs.Common.{◌≡◌, map}
 use Rattle.std.specs.Prelude.{vec_len, vec_capacity}
-use Rattle.cell_locks.specs.Row.{Rise}
+use Rattle.site_cells.specs.Row.{Rise}
 use Rattle.turn_lock.specs.Rows.{AllNone}
 use Rattle.site_making.proofs.cells.cells.Given as goal
 

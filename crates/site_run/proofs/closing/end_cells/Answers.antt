@@ -1,8 +1,8 @@
 use Rattle.std.proofs.Common.{rules, ◌≡◌, ◌+◌, ◌++◌, ◌∷◌, [], ℕ, suc, List, map, reverse, length, refl, sym, ap, ◌∙◌, subst, arith, append-nil}
 use Rattle.monitor_model.specs.declared.record.CellEvent.{CellEvent}
-use Rattle.site_cell.specs.Held.{Held, by_event}
-use Rattle.cell_locks.specs.Closing.{AllCellsGrow}
-use Rattle.cell_locks.specs.Row.{Rise}
+use Rattle.site_cells.specs.Held.{Held, by_event}
+use Rattle.site_cells.specs.Closing.{AllCellsGrow}
+use Rattle.site_cells.specs.Row.{Rise}
 use Rattle.turn_lock.specs.Rows.{NoneFrom}
 use Rattle.turn_lock.proofs.Rows.{turned_push}
 use Rattle.turn_lock.proofs.Spots.{empty_of}

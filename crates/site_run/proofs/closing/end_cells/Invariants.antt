@@ -1,9 +1,9 @@
 use Rattle.std.proofs.Common.{◌≡◌, ◌≤◌, ◌+◌, ◌++◌, map, reverse, length}
 use Rattle.std.specs.Prelude.{vec_len, vec_capacity}
-use Rattle.cell_locks.specs.Closing.{AllCellsGrow}
-use Rattle.cell_locks.specs.Row.{Rise}
+use Rattle.site_cells.specs.Closing.{AllCellsGrow}
+use Rattle.site_cells.specs.Row.{Rise}
 use Rattle.turn_lock.specs.Rows.{NoneFrom}
-use Rattle.site_cell.specs.Held.{by_event}
+use Rattle.site_cells.specs.Held.{by_event}
 use Rattle.site_run.specs.Journals.{AllCells}
 use Rattle.site_run.proofs.closing.end_cells.Given as goal
 

@@ -1,5 +1,5 @@
 use Rattle.std.proofs.Common.{rules, arith, ◌≡◌, ◌∙◌, ◌<◌, ◌≤◌, length, refl, subst}
-use Rattle.cell_locks.specs.Notes.{CellNoteIs}
+use Rattle.site_cells.specs.Notes.{CellNoteIs}
 use Rattle.site_run.specs.Meeting.{MeetsCell}
 use Rattle.site_run.proofs.Taken.{all_go, next_go, none_go}
 use Rattle.site_run.proofs.meeting.meet_cell.Goals as goal

@@ -1,5 +1,5 @@
 use Rattle.std.proofs.Common.{rules, ◌≡◌, ◌+◌, length, sym, ap, ◌∙◌, subst}
-use Rattle.cell_locks.specs.Row.{AreNew}
+use Rattle.site_cells.specs.Row.{AreNew}
 use Rattle.turn_lock.specs.Rows.{AllCount}
 use Rattle.site_run.specs.Whole.{AreNewFrom}
 use Rattle.site_run.proofs.Holding.{new_turned}

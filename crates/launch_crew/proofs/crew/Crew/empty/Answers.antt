@@ -1,7 +1,7 @@
 use Rattle.std.proofs.Common.{◌∙◌}
 use Rattle.std.specs.Prelude.{option_map}
 use Rattle.launch_crew.specs.Crews.{running_at}
-use Rattle.cell_locks.specs.Row.{link_at}
+use Rattle.site_cells.specs.Row.{link_at}
 use Rattle.launch_crew.proofs.Ended.{linked_map}
 use Rattle.launch_crew.proofs.Finishing.{ends_of_child}
 use Rattle.launch_crew.proofs.Stopping.{emptied_alike, ended_alike, has_stopped}

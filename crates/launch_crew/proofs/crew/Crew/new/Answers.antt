@@ -1,5 +1,5 @@
 use Rattle.std.proofs.Common.{◌∙◌, ap}
-use Rattle.cell_locks.specs.Row.{link_at}
+use Rattle.site_cells.specs.Row.{link_at}
 use Rattle.launch_crew.specs.Crews.{StaffIs, crew_of, running_at}
 use Rattle.launch_crew.specs.Recorded.{Recorded}
 use Rattle.launch_crew.proofs.Ended.{attended_none, none_yet}

@@ -1,12 +1,12 @@
 use Rattle.std.proofs.Common.{◌≡◌, ◌∙◌, ◌≤◌, List, [], length, true, refl, sym, subst, arith}
 use Rattle.monitor_model.specs.declared.record.Own.{Own}
 use Rattle.monitor_model.specs.Cell.{incarnation as incarnation_of}
-use Rattle.cell_locks.specs.Row.{CellsSeen, seen_at}
+use Rattle.site_cells.specs.Row.{CellsSeen, seen_at}
 use Rattle.site_locks.specs.Sat.{Sat}
 use Rattle.launch_crew.specs.Crews.{Below, crew_of}
 use Rattle.launch_crew.proofs.Children.{emptied_finishes, finishes_on}
 use Rattle.launch_crew.proofs.Emptying.{below_emptied, emptied_so_far}
-use Rattle.cell_locks.proofs.Onlys.{only_else}
+use Rattle.site_cells.proofs.Onlys.{only_else}
 use Rattle.okws_outer.specs.Families.{Family}
 use Rattle.launch_crew.specs.Ended.{family_ended}
 use Rattle.launch_crew.proofs.Ended.{all_idle, attended_emptied, family_tells, idle_so_far, stays_emptied, stays_on}

@@ -1,7 +1,7 @@
 use Rattle.std.proofs.Common.{◌≡◌, ℕ, ◌<◌, ◌≤◌, ◌+◌, List, None, length}
 use Rattle.okws_outer.specs.declared.children.ChildEnd.{ChildEnd}
 use Rattle.monitor_model.specs.Cell.{incarnation as incarnation_of}
-use Rattle.cell_locks.specs.Row.{seen_at}
+use Rattle.site_cells.specs.Row.{seen_at}
 use Rattle.launch_crew.specs.Crews.{Below, child_of, crew_of}
 use Rattle.launch_crew.specs.Ended.{Attended, StaysEnded}
 use Rattle.launch_crew.specs.Listed.{CellsGo}

@@ -3,9 +3,9 @@ use Rattle.okws_outer.specs.Families.{child_named}
 use Rattle.frame_codec.specs.Spelling.{server_spelling}
 use Rattle.frame_codec.specs.declared.frame.ServerFrame.{ServerFrame}
 use Rattle.frame_codec.specs.declared.frame.ServerFrame.TheVariants as frame
-use Rattle.site_cell.specs.Held.{has_booted}
+use Rattle.site_cells.specs.Held.{has_booted}
 use Rattle.monitor_model.specs.Cell.{incarnation}
-use Rattle.cell_locks.specs.Row.{link_at, seen_at}
+use Rattle.site_cells.specs.Row.{link_at, seen_at}
 use Rattle.launch_crew.proofs.Counting.{all_booted, all_unbooted}
 use Rattle.launch_crew.proofs.Recording.{cell_booted, cell_seen, booted, booted_last, faulted, faulted_front, faulted_untaken, faulted_whose, refused, refused_front, refused_untaken, refused_whose}
 use Rattle.monitor_model.specs.declared.record.CellEvent.TheVariants as cell

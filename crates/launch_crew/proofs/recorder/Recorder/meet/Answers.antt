@@ -1,9 +1,9 @@
 use Rattle.std.proofs.Common.{◌∙◌, ℕ, ◌≤◌, refl, ap, subst}
 use Rattle.okws_base.specs.Turns.{GrowsBy}
 use Rattle.monitor_model.specs.Cell.{last_booted}
-use Rattle.site_cell.specs.Held.{by_event}
-use Rattle.cell_locks.proofs.Stays.{last_grown}
-use Rattle.cell_locks.specs.Row.{seen_at, link_at}
+use Rattle.site_cells.specs.Held.{by_event}
+use Rattle.site_cells.proofs.Stays.{last_grown}
+use Rattle.site_cells.specs.Row.{seen_at, link_at}
 use Rattle.launch_crew.specs.Finished.{all_out}
 use Rattle.launch_crew.specs.Recorded.{Recorded}
 use Rattle.launch_crew.proofs.Counting.{all_met}

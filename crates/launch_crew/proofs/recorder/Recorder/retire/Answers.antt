@@ -1,7 +1,7 @@
 use Rattle.std.proofs.Common.{◌≡◌, ◌∙◌, ℕ, ◌+◌, ◌≤◌, refl, sym, ap, subst}
 use Rattle.std.specs.Prelude.{◌&&◌}
-use Rattle.site_cell.specs.Held.{is_broken}
-use Rattle.cell_locks.specs.Row.{seen_at, link_at}
+use Rattle.site_cells.specs.Held.{is_broken}
+use Rattle.site_cells.specs.Row.{seen_at, link_at}
 use Rattle.launch_crew.specs.Finished.{all_out, one_if}
 use Rattle.launch_crew.proofs.Counting.{all_emptied}
 use Rattle.launch_crew.proofs.Recording.{cell_retired, cell_seen, retired_there, retired_none}

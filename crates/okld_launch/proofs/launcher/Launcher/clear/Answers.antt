@@ -8,7 +8,7 @@ use Rattle.launch_crew.specs.Told.{TellsMore}
 use Rattle.launch_crew.proofs.Children.{more_emptied}
 use Rattle.okld_launch.proofs.Failing.{told_more}
 use Rattle.okld_launch.proofs.Caused.{cleared_caused, cleared_none}
-use Rattle.cell_locks.specs.Row.{CellsSeen}
+use Rattle.site_cells.specs.Row.{CellsSeen}
 use Rattle.monitor_model.specs.Launches.{with_cleared, with_retired, with_revokes}
 use Rattle.launch_crew.specs.Listed.{of_cells, AreCounted, CellsGo}
 use Rattle.launch_crew.proofs.Retiring.{counted_of}

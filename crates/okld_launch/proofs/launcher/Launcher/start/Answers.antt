@@ -19,7 +19,7 @@ use Rattle.okld_launch.proofs.Children.{stays_same}
 use Rattle.okws_plan.specs.declared.configuration.Config.{Config}
 use Rattle.okld_launch.proofs.KinChange.{kin_tried, words_at}
 use Rattle.monitor_model.specs.Cell.{last_booted}
-use Rattle.cell_locks.specs.Row.{seen_at}
+use Rattle.site_cells.specs.Row.{seen_at}
 use Rattle.okld_launch.specs.Kin.{Unstarted}
 use Rattle.okld_launch.proofs.Faults.{faults_failed, faults_tried, unlinked_at}
 use Rattle.okld_launch.proofs.launcher.Launcher.start.Goals as goal

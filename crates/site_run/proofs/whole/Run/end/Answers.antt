@@ -6,8 +6,8 @@ use Rattle.okws_plan.specs.declared.event.LauncherEvent.{LauncherEvent}
 use Rattle.turn_lock.specs.Rows.{AllCount, NoneFrom}
 use Rattle.okws_outer.specs.Families.{Family}
 use Rattle.monitor_model.specs.declared.record.Record.{Record}
-use Rattle.site_cell.specs.Held.{by_event}
-use Rattle.cell_locks.specs.Closing.{HasNumber}
+use Rattle.site_cells.specs.Held.{by_event}
+use Rattle.site_cells.specs.Closing.{HasNumber}
 use Rattle.named_columns.specs.Launched.{by_entry}
 use Rattle.launch_turns.specs.Deeds.{up_in}
 use Rattle.okld_launch.specs.Failures.{FailuresAreTold, children_rise}

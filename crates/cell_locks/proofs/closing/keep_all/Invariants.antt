@@ -1,6 +1,0 @@
-use Rattle.std.proofs.Common.{◌≡◌, map, take}
-use Rattle.site_cell.specs.Held.{events_in}
-use Rattle.cell_locks.proofs.closing.keep_all.Given as goal
-
-abbrev pub invariant-loop-cell : goal.invariant-loop-cell
-invariant-loop-cell g l = map (λ c. c.standing.past) (take l.cell-index l.cells) ≡ map events_in (map (λ c. c.entered) (take l.cell-index l.cells))

@@ -1,5 +1,0 @@
-pub mod Row
-pub mod Turns
-pub mod Making
-pub mod Closing
-pub mod Notes

@@ -1,0 +1,12 @@
+pub mod Taken
+pub mod Shut
+pub mod Stays
+pub mod EnteredEvents
+pub mod Seated
+pub mod Places
+pub mod Names
+pub mod Joins
+pub mod Replies
+pub mod Onlys
+pub mod Notes
+pub mod Fitting

@@ -7,7 +7,7 @@ use Rattle.std.proofs.lemmas.Bool.{and_parts, leb-true}
 use Rattle.std.proofs.lemmas.Option.{cond_some, option_and_then_some, none-some, same_Some}
 use Rattle.plain_text.specs.Decimals.{decimal_value}
 use Rattle.okws_base.specs.declared.limit.TheConstants.{MOST_CONNECTIONS, MOST_DOORS}
-use Rattle.okws_drill.specs.declared.words.TheConstants.{MOST_EVENTS}
+use Rattle.play_script.specs.declared.words.TheConstants.{MOST_EVENTS}
 use Rattle.command_line.specs.Asked.{Asked, Checks, Plays, Drills, asked, check_of, play_of, drill_of, drill_numbers, serve_of, serve_config, command_of, port_in, doors_in, connections_in, served_by, one_word, two_words, own_alone, are_server_options}
 use Rattle.command_line.specs.Numbers.{is_plain, number_in}
 use Rattle.command_line.specs.Parts.{Parts, parts_of, value_of}

@@ -18,15 +18,15 @@ use Rattle.monitor_model.specs.Script.{Plays, refusal}
 use Rattle.monitor_model.specs.Stage.{Stage, first_stage}
 use Rattle.play_script.specs.Rule.{script_rule_number}
 use Rattle.play_script.specs.declared.rule.ScriptRule.{ScriptRule}
-use Rattle.okws_drill.specs.Course.{Taken, course, incarnation_of}
-use Rattle.okws_drill.specs.Refusal.{NeverRefused}
-use Rattle.okws_drill.specs.Script.{act_lines, asks, dialog_lines, drill_script, first_lines, group, groups, reply_frame, says, token_seed}
-use Rattle.okws_drill.specs.Site.{is_drilled_site}
-use Rattle.okws_drill.specs.Words.{act_of, drill_word, number_of, service_of}
-use Rattle.okws_drill.specs.declared.words.TheConstants.{MOST_EVENTS}
-use Rattle.okws_drill.specs.declared.course.Course.{Course}
-use Rattle.okws_drill.specs.declared.words.Act.{Act}
-use Rattle.okws_drill.specs.declared.words.Act.TheVariants.{Publish, Relaunch, Select, Insert, Delete, OpenAsFirst, Get, Log}
+use Rattle.play_script.specs.Course.{Taken, course, incarnation_of}
+use Rattle.play_script.specs.DrillRefusal.{NeverRefused}
+use Rattle.play_script.specs.Script.{act_lines, asks, dialog_lines, drill_script, first_lines, group, groups, reply_frame, says, token_seed}
+use Rattle.play_script.specs.Site.{is_drilled_site}
+use Rattle.play_script.specs.Words.{act_of, drill_word, number_of, service_of}
+use Rattle.play_script.specs.declared.words.TheConstants.{MOST_EVENTS}
+use Rattle.play_script.specs.declared.course.Course.{Course}
+use Rattle.play_script.specs.declared.words.Act.{Act}
+use Rattle.play_script.specs.declared.words.Act.TheVariants.{Publish, Relaunch, Select, Insert, Delete, OpenAsFirst, Get, Log}
 use Rattle.okws_play.specs.Played.{PlayedLine}
 use Rattle.okws_play.specs.Run.{Run, at_stage}
 use Rattle.okws_server.specs.Drill.{CanBePlayed, GoesThrough, Leads}

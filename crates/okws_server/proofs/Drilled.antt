@@ -13,11 +13,11 @@ use Rattle.config_reader.specs.Meaning.{meaning}
 use Rattle.monitor_model.specs.Played.{IsFaultless}
 use Rattle.monitor_model.specs.Stage.{first_stage}
 use Rattle.monitor_model.specs.declared.record.Record.{Record}
-use Rattle.okws_drill.specs.Script.{drill_script}
-use Rattle.okws_drill.specs.Site.{is_drilled_site}
-use Rattle.okws_drill.specs.Summary.{TalliesCount, frames_in, kinds_of, rules_of, summary, summary_of}
-use Rattle.okws_drill.specs.Tally.{tally_of}
-use Rattle.okws_drill.specs.declared.site.TheConstants.{SITE}
+use Rattle.play_script.specs.Script.{drill_script}
+use Rattle.play_script.specs.Site.{is_drilled_site}
+use Rattle.play_script.specs.Summary.{TalliesCount, frames_in, kinds_of, rules_of, summary, summary_of}
+use Rattle.play_script.specs.Tally.{tally_of}
+use Rattle.play_script.specs.declared.site.TheConstants.{SITE}
 use Rattle.okws_play.specs.Run.{Run}
 use Rattle.okws_server.specs.Drill.{Drilled, IsDrilled, Leads}
 use Rattle.okws_server.specs.Headline.{IsMonitored}

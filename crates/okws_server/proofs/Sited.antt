@@ -13,8 +13,8 @@ use Rattle.config_reader.specs.After.{declared, with_plan}
 use Rattle.config_reader.specs.Broken.{can_hold, has_bad_row_name, has_bad_table_name, has_too_many_queries, has_too_many_tables, statement_at, takes_query, takes_table}
 use Rattle.config_reader.specs.Meaning.{meaning}
 use Rattle.config_reader.specs.declared.error.Refusal.{Refusal}
-use Rattle.okws_drill.specs.Site.{is_drilled_site}
-use Rattle.okws_drill.specs.declared.site.TheConstants.{SITE}
+use Rattle.play_script.specs.Site.{is_drilled_site}
+use Rattle.play_script.specs.declared.site.TheConstants.{SITE}
 
 -- what is read is a site of drills
 abbrev is_sited : Result Config Refusal → Bool

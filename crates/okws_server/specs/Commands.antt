@@ -6,7 +6,7 @@ use Rattle.command_line.specs.Usage.{TellsUsage}
 use Rattle.okws_outer.specs.Conns.{ConnWire}
 use Rattle.okws_outer.specs.Streams.{Rose}
 use Rattle.monitor_model.specs.declared.record.Record.{Record}
-use Rattle.okws_drill.specs.declared.words.TheConstants.{MOST_EVENTS}
+use Rattle.play_script.specs.declared.words.TheConstants.{MOST_EVENTS}
 use Rattle.okws_server.specs.Drill.{Drilled}
 use Rattle.okws_server.specs.Ending.{Told, no_memory_line}
 use Rattle.okws_server.specs.Headline.{IsEmptyRecord}

@@ -12,9 +12,9 @@ use Rattle.monitor_model.specs.Script.{Plays, refusal}
 use Rattle.monitor_model.specs.Stage.{Stage}
 use Rattle.monitor_model.specs.declared.record.Record.{Record}
 use Rattle.play_script.specs.Reading.{LineKeeps}
-use Rattle.okws_drill.specs.Script.{drill_script}
-use Rattle.okws_drill.specs.Summary.{summary, frames_in}
-use Rattle.okws_drill.specs.declared.site.TheConstants.{SITE}
+use Rattle.play_script.specs.Script.{drill_script}
+use Rattle.play_script.specs.Summary.{summary, frames_in}
+use Rattle.play_script.specs.declared.site.TheConstants.{SITE}
 use Rattle.okws_play.specs.Run.{Run, IsShortLine, at_stage}
 use Rattle.okws_server.specs.Ending.{Told, no_memory_line}
 use Rattle.okws_server.specs.Headline.{IsMonitored, IsEmptyRecord}

@@ -7,10 +7,10 @@ ghost use Rattle.config_reader.specs.Ruled.{AreRuled};
 ghost use Rattle.okws_base.specs.Runs.{Each};
 ghost use Rattle.okws_outer.specs.Streams.{Rose};
 ghost use Rattle.monitor_model.specs.Stage.{first_stage};
-ghost use Rattle.okws_drill.specs.Script.{drill_script, token_seed};
-ghost use Rattle.okws_drill.specs.Site.{is_drilled_site};
-ghost use Rattle.okws_drill.specs.declared.site.TheConstants.{SITE};
-ghost use Rattle.okws_drill.specs.declared.words.TheConstants.{MOST_EVENTS};
+ghost use Rattle.play_script.specs.Script.{drill_script, token_seed};
+ghost use Rattle.play_script.specs.Site.{is_drilled_site};
+ghost use Rattle.play_script.specs.declared.site.TheConstants.{SITE};
+ghost use Rattle.play_script.specs.declared.words.TheConstants.{MOST_EVENTS};
 ghost use Rattle.okws_server.specs.Drill.{CanBePlayed, Drilled, GoesThrough, IsDrilled, Leads};
 
 use crate::ending::{out_status, print_no_memory};
@@ -22,17 +22,17 @@ use monitor_model::laws::{
     script_runs_enter_all, script_runs_take_all, script_runs_tell_all,
 };
 use monitor_model::record::Record;
-use okws_drill::frames::TOKEN_SEED;
-use okws_drill::laws::{drills_are_never_refused, tallies_count};
-use okws_drill::script::{Drill, first_lines};
-use okws_drill::site::SITE;
-use okws_drill::summary::summary;
-use okws_drill::tally::Tally;
 use okws_outer::printing::print;
 use okws_outer::stream::Sink;
 use okws_plan::configuration::Config;
 use okws_plan::script::Line;
 use okws_play::Play;
+use play_script::drill_laws::{drills_are_never_refused, tallies_count};
+use play_script::frames::TOKEN_SEED;
+use play_script::script::{Drill, first_lines};
+use play_script::site::SITE;
+use play_script::summary::summary;
+use play_script::tally::Tally;
 use std::alloc::{AllocError, Global};
 use std::sync::Arc;
 

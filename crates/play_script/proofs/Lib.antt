@@ -2,3 +2,14 @@ pub mod Targets
 pub mod Plain
 pub mod Named
 pub mod Spelled
+pub mod Courses
+pub mod Rules
+pub mod Sayable
+pub mod Telling
+pub mod Tallies
+pub mod Safe
+pub mod Rests
+pub mod Launching
+pub mod Speaking
+pub mod FramesSaid
+pub mod Unrefused

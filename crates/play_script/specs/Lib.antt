@@ -4,3 +4,10 @@ pub mod Directive
 pub mod Reading
 pub mod Refusal
 pub mod Spelling
+pub mod Site
+pub mod Words
+pub mod Course
+pub mod Script
+pub mod Tally
+pub mod Summary
+pub mod DrillRefusal

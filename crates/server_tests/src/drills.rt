@@ -2,12 +2,12 @@
 //! is played, which the tests of runs do.
 
 use crate::holding::{MEMORY, holds, same};
-use okws_drill::script::Drill;
-use okws_drill::summary::summary;
-use okws_drill::tally::Tally;
-use okws_drill::words::{Act, act_of, drill_seed, number_of, service_of, word_at};
 use okws_outer::stream::{Put, Sink};
 use okws_plan::script::Line;
+use play_script::script::Drill;
+use play_script::summary::summary;
+use play_script::tally::Tally;
+use play_script::words::{Act, act_of, drill_seed, number_of, service_of, word_at};
 
 // Five words of RFC 8439's first test vector, and what they ask for.
 #[test]

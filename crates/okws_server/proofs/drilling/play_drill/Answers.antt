@@ -1,7 +1,7 @@
 use Rattle.std.proofs.Common.{◌≡◌, ap, arith, refl, subst, ℕ}
-use Rattle.okws_drill.specs.Course.{Taken, course}
-use Rattle.okws_drill.specs.Script.{drill_script, group}
-use Rattle.okws_drill.specs.Words.{drill_word}
+use Rattle.play_script.specs.Course.{Taken, course}
+use Rattle.play_script.specs.Script.{drill_script, group}
+use Rattle.play_script.specs.Words.{drill_word}
 use Rattle.okws_server.specs.Drill.{GoesThrough, Leads}
 use Rattle.okws_server.proofs.DrillLines.{drill_begun, drill_on, drill_through, first_lines_can, first_through, word_can, word_lines, word_taken, word_through}
 use Rattle.okws_server.proofs.drilling.play_drill.Goals as goal

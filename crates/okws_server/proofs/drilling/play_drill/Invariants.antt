@@ -1,5 +1,5 @@
 use Rattle.std.proofs.Common.{◌≡◌}
-use Rattle.okws_drill.specs.Script.{drill_script}
+use Rattle.play_script.specs.Script.{drill_script}
 use Rattle.okws_server.specs.Drill.{Leads}
 use Rattle.okws_server.proofs.drilling.play_drill.Given as goal
 

@@ -1,6 +1,6 @@
 use Rattle.std.proofs.Common.{◌≡◌, ◌∙◌, ap, refl, subst, sym}
 use Rattle.monitor_model.specs.Stage.{first_stage}
-use Rattle.okws_drill.specs.Site.{is_drilled_site}
+use Rattle.play_script.specs.Site.{is_drilled_site}
 use Rattle.okws_play.specs.Run.{Run}
 use Rattle.okws_server.proofs.Drilled.{drill_start, drilled_by}
 use Rattle.okws_server.proofs.Off.{fails_any}

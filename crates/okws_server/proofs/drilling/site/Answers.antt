@@ -2,7 +2,7 @@ use Rattle.std.proofs.Common.{subst}
 use Rattle.config_reader.specs.Answers.{Fails}
 use Rattle.config_reader.specs.Meaning.{meaning}
 use Rattle.config_reader.specs.declared.error.ConfigError.{ConfigError}
-use Rattle.okws_drill.specs.declared.site.TheConstants.{SITE}
+use Rattle.play_script.specs.declared.site.TheConstants.{SITE}
 use Rattle.okws_server.proofs.Sited.{site_drilled, site_not_refused}
 use Rattle.okws_server.proofs.drilling.site.Goals as goal
 

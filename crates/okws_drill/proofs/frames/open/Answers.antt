@@ -1,6 +1,0 @@
-use Rattle.std.proofs.Common.{arith}
-use Rattle.okws_drill.proofs.Sayable.{open_has}
-use Rattle.okws_drill.proofs.frames.open.Goals as goal
-
-pub returns-clause-spelling : goal.returns-clause-spelling
-returns-clause-spelling c = open_has c.token-shown.result (omega arith) c.len-size.ensures.fits

@@ -2,9 +2,9 @@
 
 ghost use Rattle.std.specs.Prelude.{◌≡◌, None, IfOk};
 
-use crate::trying::{pull_from, put_to, reading_ahead};
 use okws_outer::conn::Conn;
 use okws_outer::stream::{Pull, Put};
+use real_network::trying::{pull_from, put_to, reading_ahead};
 use std::alloc::{AllocError, Global};
 use std::io::{BufReader, Read, Write};
 

@@ -2,11 +2,11 @@
 
 ghost use Rattle.std.specs.Prelude.{◌≡◌, [], None};
 
-use crate::trying::{count, pull_from};
 use okws_base::items::Items;
 use okws_base::told::Told;
 use okws_outer::files::{FilePath, Files};
 use okws_outer::stream::{Pull, Source};
+use real_network::trying::{count, pull_from};
 use std::fs;
 use std::io::Read;
 

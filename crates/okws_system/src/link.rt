@@ -2,8 +2,8 @@
 
 ghost use Rattle.std.specs.Prelude.{◌≡◌, None, false, IfOk};
 
-use crate::trying::{pull_from, put_to, reading_ahead};
 use okws_outer::stream::{Link, Pull, Put};
+use real_network::trying::{pull_from, put_to, reading_ahead};
 use std::alloc::{AllocError, Global};
 use std::io::{BufReader, Read, Write};
 

@@ -51,18 +51,6 @@ pub(crate) fn ended(errors: Stderr, whose: ChildName, status: ExitStatus) {
     };
 }
 
-/// Tells on which port connections are accepted.
-pub(crate) fn listening(errors: Stderr, port: u16) {
-    let _ = eprintln!(errors; "okws: listening on 127.0.0.1:{port}");
-}
-
-/// Tells how many calls of doors failed, where some did.
-pub(crate) fn door_faults(errors: Stderr, faults: u64) {
-    if faults > 0 {
-        let _ = eprintln!(errors; "okws: doors: {faults} faults");
-    }
-}
-
 /// Tells that the log could not be opened.
 pub(crate) fn no_log(errors: Stderr, why: &io::Error) {
     let mut text = [0u8; LONGEST];

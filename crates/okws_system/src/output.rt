@@ -2,8 +2,8 @@
 
 ghost use Rattle.std.specs.Prelude.{◌≡◌, None};
 
-use crate::trying::put_to;
 use okws_outer::stream::{Put, Sink};
+use real_network::trying::put_to;
 use std::io::Write;
 
 /// A writer, whose writes that failed, or that took nothing, are counted.

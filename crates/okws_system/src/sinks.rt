@@ -4,11 +4,11 @@ ghost use Rattle.std.specs.Prelude.{◌≡◌, [], None};
 
 use crate::notice;
 use crate::output::Writing;
-use crate::trying::count;
 use okws_base::told::{Says, Told};
 use okws_outer::error::Fault;
 use okws_outer::sinks::{SinkEnd, SinkStart, Sinks};
 use okws_outer::stream::{Put, Sink};
+use real_network::trying::count;
 use std::fs::{File, Files, OpenOptions};
 use std::io::Stderr;
 

@@ -7,7 +7,7 @@ use okws_outer::conn::Conn;
 use okws_outer::door::Door;
 use okws_outer::network::Network;
 use okws_outer::stream::{Pull, Put};
-use okws_system::network::{RealDoor, RealNetwork};
+use real_network::network::{RealDoor, RealNetwork};
 use std::io;
 use std::io::{Read, Write};
 use std::net::{Net, SocketAddr, TcpStream};

@@ -11,7 +11,7 @@ use okws_outer::keeper::Keeper;
 use okws_outer::stores::Stores;
 use okws_plan::configuration::{Column, Table};
 use okws_plan::statement::{Action, Answer, Operand, Statement};
-use okws_system::stores::{FileKeeper, RealStores};
+use real_stores::stores::{FileKeeper, RealStores};
 use std::alloc::Global;
 use std::process::Abort;
 use std::{fs, process};

@@ -1,7 +1,7 @@
 use denote.Exit.{yes}
 use denote.Param.Send.{arg_send, param_send}
 use Rattle.okws_program.proofs.main.Goals as goal
-use Rattle.okws_system.proofs.FileCrosses.{FileKeeper-send}
+use Rattle.real_stores.proofs.FileCrosses.{FileKeeper-send}
 
 -- the stores' keepers go to the worker threads
 pub okws-status-requires-send-W-Equipment-Stores-Keeper : goal.okws-status-requires-send-W-Equipment-Stores-Keeper

@@ -1,7 +1,0 @@
-use Rattle.std.proofs.Common.{refl, ◌∙◌}
-use Rattle.std.proofs.Math.Seq.{map-set_same}
-use Rattle.okws_system.specs.Entrances.{entrance_of}
-use Rattle.okws_system.proofs.network.shut.Goals as goal
-
-pub loop-door-preserved : goal.loop-door-preserved
-loop-door-preserved c = map-set_same entrance_of c.loop-door.doors c.loop-door.door-index _ _ refl ∙ c.loop-door.invariant

@@ -1,6 +1,0 @@
-use Rattle.std.proofs.Common.{◌≡◌, map}
-use Rattle.okws_system.specs.Entrances.{entrance_of}
-use Rattle.okws_system.proofs.network.shut.Given as goal
-
-abbrev pub invariant-loop-door : goal.invariant-loop-door
-invariant-loop-door l = map entrance_of l.doors ≡ map entrance_of l.fn.doors

@@ -1,2 +1,0 @@
-pub mod Entrances
-pub mod Filed

@@ -30,11 +30,18 @@ use std::sync::ledger::{Blank, Ledger};
 /// rows that have the value there, and the logarithm of the table's rows; another one in line with
 /// the table's rows. An ordered SELECT sorts its hits besides. A SELECT that is pinned copies no values; the first write to its table while it is
 /// pinned copies the table's rows.
-#[derive(Drop)]
 pub struct IndexKeeper {
     tables: Vec<Table>,
     rows: Vec<SharedRows>,
     ghost whole: { length rows.items ≡ length tables.items },
+}
+
+impl Drop for IndexKeeper {
+    fn drop(self) {
+        let IndexKeeper { tables, rows } = self;
+        drop(tables);
+        drop(rows);
+    }
 }
 
 impl IndexKeeper {

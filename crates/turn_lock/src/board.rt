@@ -1,7 +1,7 @@
 //! The board and its seats.
 ghost use Rattle.std.specs.Prelude.{◌≡◌, ◌≢◌, ℕ, List, ◌<◌, ◌≤◌, ◌+◌, ◌-◌, [], ◌∷◌, ◌++◌, map, length, vec_len, vec_capacity, IfOk, slice_index, slice_set};
 ghost use Rattle.turn_lock.specs.Board.{services, spent_number, opening_view, dealer, dealt, part_of, view_of, none_begun, AllUnder, AllSaw, AllDrew};
-ghost use Rattle.turn_lock.specs.BoardSeats.{parts, MayDraw, AreFresh, AreRising, AllAt, SeatsSaw, SeatsDrew};
+ghost use Rattle.turn_lock.specs.BoardSeats.{parts, seat_of, IsSeat, MayDraw, AreFresh, AreRising, AllAt, SeatsSaw, SeatsDrew};
 
 use crate::board_rule::{Current, Deal, Draw, Raise, Rises, TakeIn, View};
 use atomic_table::Table;
@@ -14,10 +14,16 @@ const DRAWN: usize = 0;
 type Place = atomic_table::Seat<u8, View>;
 
 /// The board. Contracts see which one it is, and for how many seats it was made.
-#[derive(Drop)]
 pub struct Board {
     table: Table<u8, View, u16, Rises, Global>,
     ghost sizes: { (table.shared.table_id.words ≡ 65) × (table.shared.table_id.slots ≡ 0) },
+}
+
+impl Drop for Board {
+    fn drop(self) {
+        let Board { table } = self;
+        drop(table);
+    }
 }
 
 impl Model for Board {
@@ -30,11 +36,17 @@ impl Model for Board {
 
 /// A seat at the board. Contracts see its number, what it has seen of each service, and the numbers that
 /// it drew.
-#[derive(Drop)]
 pub struct Seat {
     number: u16,
     place: Place,
     ghost numbered: { number ≡ place.me.0.part.number },
+}
+
+impl Drop for Seat {
+    fn drop(self) {
+        let Seat { number: _, place } = self;
+        drop(place);
+    }
 }
 
 impl Model for Seat {
@@ -53,6 +65,15 @@ impl Seat {
         ensures { result ≡ self.now.number }
     {
         self.number
+    }
+
+    // Its place at the table.
+    fn into_place(self) -> Place
+        ensures seat { seat_of result ≡ self }
+        ensures is { IsSeat result }
+    {
+        let Seat { number: _, place } = self;
+        place
     }
 }
 
@@ -156,7 +177,7 @@ impl Board {
         ensures seat { seat.new ≡ record seat.old { olds = parts other ++ seat.old.olds } }
     {
         let words = &self.table.shared;
-        words.join_seat::<TakeIn>(&mut seat.place, other.place);
+        words.join_seat::<TakeIn>(&mut seat.place, other.into_place());
     }
 
     /// Ends the board by a seat into which the others were joined, and gives the count of numbers drawn. No
@@ -167,7 +188,8 @@ impl Board {
         ensures seen { (greatest : List ℕ) × AllSaw self.count greatest (parts seat) }
         ensures drawn { (hand : ℕ → ℕ) × AllDrew hand result (parts seat) × ((k : ℕ) → k < result → hand k < self.count) }
     {
-        let closed = self.table.close_with(seat.place);
+        let Board { table } = self;
+        let closed = table.close_with(seat.into_place());
         let count = closed.word(DRAWN);
         closed.free();
         count

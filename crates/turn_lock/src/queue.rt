@@ -34,18 +34,40 @@ fn bell_of(ticket: u64) -> usize
 pub type Place<V> = atomic_table::Seat<Option<V>, View<<V as Journaled>::Entry>>;
 
 /// A seat at the table, and its number.
-#[derive(Drop)]
 pub struct Spot<V: Journaled> {
     pub number: u16,
     pub place: Place<V>,
     ghost numbered: { number ≡ place.me.0.part.number },
 }
 
+impl<V: Journaled> Drop for Spot<V> {
+    fn drop(self) {
+        let Spot { number: _, place } = self;
+        drop(place);
+    }
+}
+
+impl<V: Journaled> Spot<V> {
+    // The seat without its number.
+    fn into_place(self) -> Place<V>
+        ensures { result ≡ self.place }
+    {
+        let Spot { number: _, place } = self;
+        place
+    }
+}
+
 /// The table of one lock.
-#[derive(Drop)]
 pub struct Queue<V: Journaled> {
     pub table: Table<Option<V>, View<V::Entry>, (u16, u16), Tickets, Global>,
     ghost sizes: { (table.shared.table_id.words ≡ 10) × (table.shared.table_id.slots ≡ 1) },
+}
+
+impl<V: Journaled + Drop> Drop for Queue<V> {
+    fn drop(self) {
+        let Queue { table } = self;
+        drop(table);
+    }
 }
 
 impl<V: Journaled> Queue<V> {
@@ -244,7 +266,7 @@ impl<V: Journaled> Queue<V> {
         ensures told { (log : List V.Entry) → AllTold V.by log (parts_of spot.new.place.me.0) → AllTold V.by log (parts_of spot.old.place.me.0) × AllTold V.by log (parts_of other.place.me.0) }
         ensures numbers { (k : ℕ) → HasNumber k (parts_of spot.old.place.me.0) ⊎ HasNumber k (parts_of other.place.me.0) → HasNumber k (parts_of spot.new.place.me.0) }
     {
-        self.learn(&mut spot.place, other.place);
+        self.learn(&mut spot.place, other.into_place());
     }
 
     /// Takes in what a note has seen.
@@ -257,7 +279,7 @@ impl<V: Journaled> Queue<V> {
         ensures begins { StartsWith (seen_of spot.new.place) (seen_of spot.old.place) × StartsWith (seen_of spot.new.place) (seen_of note.place) }
         ensures own { StartsWith (own_of spot.new.place) (of V.by (number_of spot.new.place) (seen_of spot.new.place)) }
     {
-        self.see(&mut spot.place, note.place);
+        self.see(&mut spot.place, note.into_place());
     }
 
     /// Ends the lock, by a seat into which all others were joined, and gives the value.
@@ -269,7 +291,8 @@ impl<V: Journaled> Queue<V> {
         ensures none { (k : ℕ) → self.table.shared.key.0 ≤ k → of V.by k (reverse (V.journal result)) ≡ [] }
         ensures label { V.label result ≡ spot.place.me.0.tag }
     {
-        let mut closed = self.table.close_with(spot.place);
+        let Queue { table } = self;
+        let mut closed = table.close_with(spot.into_place());
         let slot = closed.take(0);
         closed.free();
         match slot {

@@ -4,12 +4,9 @@ ghost use Rattle.std.specs.Prelude.{◌≡◌, ◌<◌, ◌≤◌, ◌+◌, ℕ,
 ghost use Rattle.okws_base.specs.Turns.{of};
 ghost use Rattle.named_columns.specs.Held.{HeldProxy};
 ghost use Rattle.named_columns.specs.Launched.{by_entry};
-ghost use Rattle.turn_lock.specs.Board.{AllSaw as PartsSaw, AllDrew as PartsDrew};
-ghost use Rattle.turn_lock.specs.BoardSeats.{parts};
-ghost use Rattle.turn_lock.specs.Rows.{NoneFrom, GrownRow};
-ghost use Rattle.turn_lock.specs.Seats.{AllGrow, sights};
+ghost use Rattle.turn_lock.specs.Rows.{NoneFrom};
 ghost use Rattle.site_locks.specs.Sat.{Sat, RiseFrom};
-ghost use Rattle.site_locks.specs.Closing.{AllGrown, RowsGrown, AllSaw, AllDrew, SomeIs, EndsAre, AreOf, RestAt, TakesIn, HasAll};
+ghost use Rattle.site_locks.specs.Closing.{AllGrown, RowsGrown, AllSaw, AllDrew, SomeIs, EndsAre, AreOf, RestAt, TakesIn};
 
 use crate::locks::{Locks, Seats};
 use crate::named::Site;
@@ -23,16 +20,16 @@ use okws_base::journal::Past;
 use okws_outer::keeper::Keeper;
 use okws_outer::stream::Sink;
 use std::marker::Model;
-use turn_lock::{Seat, end_row, join_row};
+use turn_lock::{Seat, join_row};
 
 // The seats into which those of all numbers are joined.
 #[derive(Drop)]
-struct Ends<N: Backed, K: Keeper, S: Sink> {
-    okd: Seat<SiteOkd<N>>,
-    proxies: Vec<Seat<SiteProxy<N, K>>>,
-    pubd: Seat<SitePubd<N>>,
-    oklogd: Seat<SiteLog<N, S>>,
-    board: turn_lock::board::Seat,
+pub(crate) struct Ends<N: Backed, K: Keeper, S: Sink> {
+    pub(crate) okd: Seat<SiteOkd<N>>,
+    pub(crate) proxies: Vec<Seat<SiteProxy<N, K>>>,
+    pub(crate) pubd: Seat<SitePubd<N>>,
+    pub(crate) oklogd: Seat<SiteLog<N, S>>,
+    pub(crate) board: turn_lock::board::Seat,
 }
 
 impl<N: Backed, K: Keeper, S: Sink> Model for Ends<N, K, S> {
@@ -53,26 +50,6 @@ pub struct Closed<N: Backed, S: Sink> {
     pub drawn: u64,
 }
 
-// A number's seats, apart from the names of their locks, and its own list.
-fn parted<N: Backed, J: Site, K: Keeper, S: Sink>(
-    locks: &Locks<N, J, K, S>,
-    seats: Seats<N, J, K, S>,
-) -> (Ends<N, K, S>, Past<Own>)
-    ensures ends { AreOf locks.now seats result.0 }
-    ensures rest { RestAt locks.now result.0 }
-    ensures own { result.1 ≡ seats.own }
-{
-    let _okd = &locks.okd;
-    let ends = Ends {
-        okd: seats.okd,
-        proxies: seats.proxies,
-        pubd: seats.pubd,
-        oklogd: seats.oklogd,
-        board: seats.board,
-    };
-    (ends, seats.own.into_past())
-}
-
 // Joins a number's seats into these, and gives its own list.
 fn take_in<N: Backed, J: Site, K: Keeper, S: Sink>(
     locks: &Locks<N, J, K, S>,
@@ -84,42 +61,13 @@ fn take_in<N: Backed, J: Site, K: Keeper, S: Sink>(
     ensures rest { RestAt locks.now ends.new }
     ensures own { result ≡ seats.own }
 {
-    let (more, own) = parted(locks, seats);
+    let (more, own) = seats.part(locks);
     locks.okd.join(&mut ends.okd, more.okd);
     join_row(&locks.proxies, &mut ends.proxies, more.proxies);
     locks.pubd.join(&mut ends.pubd, more.pubd);
     locks.oklogd.join(&mut ends.oklogd, more.oklogd);
     locks.board.join(&mut ends.board, more.board);
     own
-}
-
-// Ends all locks by seats into which those of all numbers were joined.
-fn end<N: Backed, J: Site, K: Keeper, S: Sink>(
-    locks: Locks<N, J, K, S>,
-    ends: Ends<N, K, S>,
-    done: &mut Vec<SiteProxy<N, K>>,
-    count: u16,
-) -> Closed<N, S>
-    requires rest { RestAt locks ends }
-    requires count { count ≡ N.launcher + 1 }
-    requires all { (k : ℕ) → k < count → HasAll k ends }
-    requires room { (done.old.items ≡ []) × (length N.site.proxies ≤ vec_capacity done.old) }
-    ensures okd { AllGrow by_entry (sights ends.okd) result.okd.past × ((k : ℕ) → count ≤ k → of by_entry k result.okd.past ≡ []) }
-    ensures proxies { GrownRow by_entry ends.proxies (reverse (map (λ (x : HeldProxy). x.past) done.new.items)) × NoneFrom by_entry count (reverse (map (λ (x : HeldProxy). x.past) done.new.items)) }
-    ensures numbers { RiseFrom 0 (reverse (map (λ (x : HeldProxy). x.number) done.new.items)) }
-    ensures many { vec_len done.new ≡ length N.site.proxies }
-    ensures pubd { AllGrow by_entry (sights ends.pubd) result.pubd.past × ((k : ℕ) → count ≤ k → of by_entry k result.pubd.past ≡ []) }
-    ensures oklogd { AllGrow by_entry (sights ends.oklogd) result.oklogd.past × ((k : ℕ) → count ≤ k → of by_entry k result.oklogd.past ≡ []) }
-    ensures saw { (greatest : List ℕ) × PartsSaw count greatest (parts ends.board) }
-    ensures drew { (hand : ℕ → ℕ) × PartsDrew hand result.drawn (parts ends.board) × ((k : ℕ) → k < result.drawn → hand k < count) }
-{
-    end_row(locks.proxies, ends.proxies, done, count);
-    Closed {
-        okd: locks.okd.end(ends.okd),
-        pubd: locks.pubd.end(ends.pubd),
-        oklogd: locks.oklogd.end(ends.oklogd),
-        drawn: locks.board.end(ends.board),
-    }
 }
 
 /// Ends the locks of a run by the seats of all its numbers. It takes no memory: the proxies' columns are put
@@ -151,11 +99,11 @@ pub fn close<N: Backed, J: Site, K: Keeper, S: Sink>(
     let Some(first) = seats.pop() else {
         unreachable!()
     };
-    let (mut ends, own) = parted(&locks, first);
+    let (mut ends, own) = first.part(&locks);
     owns.push_reserved(own);
     while let Some(more) = seats.pop() {
         owns.push_reserved(take_in(&locks, &mut ends, more));
     }
     seats.destroy_empty();
-    end(locks, ends, done, count)
+    locks.end(ends, done, count)
 }

@@ -15,8 +15,8 @@ loop-more-init g c =
     let left = c.pop.new.self.items in
     let first = c.in-Some.first in
     let is = c.in-Some.ensures.items in
-    let put = c.push_reserved.ensures.items ∙ (ap (λ o. o ++ c.parted-ends.result.1 ∷ []) c.requires.owns.0 ∙ ap (λ o. [] ++ o ∷ []) c.parted-ends.ensures.own) in (
-      gather_first c.args.locks all left first c.parted-ends.result.0 is c.parted-ends.ensures.rest c.parted-ends.ensures.ends,
+    let put = c.push_reserved.ensures.items ∙ (ap (λ o. o ++ c.part-ends.result.1 ∷ []) c.requires.owns.0 ∙ ap (λ o. [] ++ o ∷ []) c.part-ends.ensures.own) in (
+      gather_first c.args.locks all left first c.part-ends.result.0 is c.part-ends.ensures.rest c.part-ends.ensures.ends,
       owns_first all left first c.push_reserved.new.self.items is put,
       search rules,
     )

@@ -14,7 +14,7 @@ use Rattle.okws_outer.specs.declared.children.ChildEnd.{ChildEnd}
 use Rattle.monitor_model.specs.Cell.{last_booted}
 use Rattle.site_cells.proofs.Onlys.{link_else, only_else}
 use Rattle.site_cells.specs.Row.{OnlyAt, link_at, seen_at}
-use Rattle.launch_crew.specs.Crews.{CrewIs, RunsAs, StaffIs, child_of, crew_of, running_at}
+use Rattle.launch_crew.specs.Crews.{CrewIs, StaffIs, child_of, crew_of, running_at}
 use Rattle.launch_crew.specs.Ended.{Attended, Attends, StaysEnded, ended_at, family_ended, life_ended, tells_ended}
 use Rattle.launch_crew.specs.Recorded.{Recorded}
 use Rattle.launch_crew.specs.Steps.{AsksLife, Empties, Misses, Starts}

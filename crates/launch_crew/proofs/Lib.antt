@@ -14,3 +14,4 @@ pub mod Ended
 pub mod Stopping
 pub mod Finishing
 pub mod Counting
+pub mod Acting

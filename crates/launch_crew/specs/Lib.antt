@@ -7,3 +7,4 @@ pub mod Steps
 pub mod Coming
 pub mod Ended
 pub mod Finished
+pub mod Acts

@@ -10,6 +10,7 @@ ghost use Rattle.monitor_model.specs.Cell.{incarnation as incarnation_of, last_b
 ghost use Rattle.monitor_model.specs.Launches.{with_retired};
 ghost use Rattle.site_cells.specs.Held.{IsLinkOf, is_broken};
 ghost use Rattle.site_cells.specs.Row.{seen_at, link_at, OnlyAt};
+ghost use Rattle.launch_crew.specs.Acts.{BootsCell};
 ghost use Rattle.launch_crew.specs.Finished.{IsFront, all_out, one_if};
 ghost use Rattle.launch_crew.specs.Listed.{CellsGo, of_cells};
 
@@ -99,6 +100,28 @@ impl<N: Backed, J: Site, C: CellNames, K: Keeper, S: Sink, L: Link + Drop> Recor
         ensures untaken { IfErr result (λ e. Consumes (L.wire e.1).came (L.wire e.1).left []) }
         ensures cause { IfErr result (λ e. e.0 ≡ Missed.Failed → 0 < (L.wire e.1).faults) }
         ensures room { self.old.room ≤ self.new.room + 1 }
+    {
+        self.boot_cell(rt, cells, service, incarnation, link, tokens)
+    }
+
+    // The same, with one clause.
+    fn boot_cell<R: Wait>(
+        &mut self,
+        rt: &R,
+        cells: &CellLocks<N, C, L>,
+        service: u16,
+        incarnation: u32,
+        link: L,
+        tokens: Items<Issued>,
+    ) -> Result<(), (Missed, L)>
+        requires service { service < length N.site.services }
+        requires empty { incarnation_of (seen_at self.old.watch service) ≡ 0 }
+        requires later { last_booted (seen_at self.old.watch service) < incarnation }
+        requires link { IsNewLink service incarnation (L.wire link) }
+        requires tokens { ServerFrame.Boot service incarnation tokens ≡ boot_frame N.site N.run_seed service incarnation }
+        requires few { length tokens ≤ MOST_PROXIES }
+        requires room { 0 < self.old.room }
+        ensures { BootsCell L.wire N.site N.run_seed service incarnation result self.old self.new }
     {
         let Launched { booting, left } = self
             .cells

@@ -1,127 +1,52 @@
-use Rattle.std.proofs.Common.{◌≡◌, ◌∙◌, ℕ, ◌≤◌, Some, false, refl, ap, subst, sym}
-use Rattle.okws_outer.specs.Families.{child_named}
-use Rattle.frame_codec.specs.Spelling.{server_spelling}
-use Rattle.frame_codec.specs.declared.frame.ServerFrame.{ServerFrame}
-use Rattle.frame_codec.specs.declared.frame.ServerFrame.TheVariants as frame
-use Rattle.site_cells.specs.Held.{has_booted}
-use Rattle.monitor_model.specs.Cell.{incarnation}
-use Rattle.site_cells.specs.Row.{link_at, seen_at}
-use Rattle.launch_crew.proofs.Counting.{all_booted, all_unbooted}
-use Rattle.launch_crew.proofs.Recording.{cell_booted, cell_seen, booted, booted_last, faulted, faulted_front, faulted_untaken, faulted_whose, refused, refused_front, refused_untaken, refused_whose}
-use Rattle.monitor_model.specs.declared.record.CellEvent.TheVariants as cell
-use Rattle.launch_crew.specs.Finished.{IsFront, all_out}
-use Rattle.launch_crew.specs.Listed.{CellsGo}
-use Rattle.launch_crew.specs.Recorded.{Recorded}
-use Rattle.launch_crew.proofs.Retiring.{go_before, go_behind}
 use Rattle.launch_crew.proofs.recorder.Recorder.boot.Goals as goal
 
-pub invariant_of-self : goal.invariant_of-self
-invariant_of-self g c =
-    let h = c.boot-booting.ensures.launched in
-    cell_booted g.N.Numbered.site g.N.Numbered.launcher c.args.service c.self.inside.seats c.self.inside.cells c.boot-booting.new.self c.self.inside.own.past c.enter.new.self.past c.self.inside.own.room c.enter.new.self.room
-    h.before.past c.boot-booting.ensures.only h.found.grows c.self.invariant c.args.incarnation c.enter.ensures.past
-    (booted g.L.Link.wire g.N.Numbered.launcher c.args.service c.args.incarnation c.args.link (frame.Boot c.args.service c.args.incarnation c.args.tokens) (seen_at c.self.inside.cells c.args.service) (seen_at c.boot-booting.new.self c.args.service) c.boot-booting.result c.boot-booting.ensures.launched c.in-Booted.is)
+pub returns-clause-columns : goal.returns-clause-columns
+returns-clause-columns g c = c.boot_cell.ensures.columns
 
-pub invariant_of-self-in-LinkFault : goal.invariant_of-self-in-LinkFault
-invariant_of-self-in-LinkFault g c =
-    let h = c.boot-booting.ensures.launched in
-    cell_seen g.N.Numbered.site g.N.Numbered.launcher c.args.service c.self.inside.seats c.self.inside.cells c.boot-booting.new.self c.self.inside.own.past c.self.inside.own.past c.self.inside.own.room c.self.inside.own.room
-    h.before.past c.boot-booting.ensures.only h.found.grows c.self.invariant refl
-    (faulted g.L.Link.wire g.N.Numbered.launcher c.args.service c.args.incarnation c.args.link (frame.Boot c.args.service c.args.incarnation c.args.tokens) (seen_at c.self.inside.cells c.args.service) (seen_at c.boot-booting.new.self c.args.service) c.boot-booting.result c.boot-booting.ensures.launched c.in-LinkFault.link c.in-LinkFault.is)
+pub returns-clause-only : goal.returns-clause-only
+returns-clause-only g c = c.boot_cell.ensures.only
 
-pub invariant_of-self-in-NoMemory : goal.invariant_of-self-in-NoMemory
-invariant_of-self-in-NoMemory g c =
-    let h = c.boot-booting.ensures.launched in
-    cell_seen g.N.Numbered.site g.N.Numbered.launcher c.args.service c.self.inside.seats c.self.inside.cells c.boot-booting.new.self c.self.inside.own.past c.self.inside.own.past c.self.inside.own.room c.self.inside.own.room
-    h.before.past c.boot-booting.ensures.only h.found.grows c.self.invariant refl
-    (refused g.L.Link.wire g.N.Numbered.launcher c.args.service c.args.incarnation c.args.link (frame.Boot c.args.service c.args.incarnation c.args.tokens) (seen_at c.self.inside.cells c.args.service) (seen_at c.boot-booting.new.self c.args.service) c.boot-booting.result c.boot-booting.ensures.launched c.in-NoMemory.link c.in-NoMemory.is)
+pub returns-clause-most : goal.returns-clause-most
+returns-clause-most g c = c.boot_cell.ensures.most
 
-pub returns-in-Booted-clause-behind : goal.returns-in-Booted-clause-behind
-returns-in-Booted-clause-behind g c =
-    let h = c.boot-booting.ensures.launched in
-    subst (λ (r : Recorded). CellsGo r.watch c.boot-booting.new.self) c.self.view_is
-    (go_behind g.N.Numbered.launcher c.args.service c.self.inside.seats c.self.inside.cells c.boot-booting.new.self c.self.inside.own.past c.enter.new.self.past h.before.past c.boot-booting.ensures.only c.self.invariant.own_is h.found.grows (cell.Boot c.args.incarnation)
-    (booted g.L.Link.wire g.N.Numbered.launcher c.args.service c.args.incarnation c.args.link (frame.Boot c.args.service c.args.incarnation c.args.tokens) (seen_at c.self.inside.cells c.args.service) (seen_at c.boot-booting.new.self c.args.service) c.boot-booting.result c.boot-booting.ensures.launched c.in-Booted.is))
+pub returns-clause-ok : goal.returns-clause-ok
+returns-clause-ok g c = c.boot_cell.ensures.ok
 
-pub returns-in-LinkFault-clause-behind : goal.returns-in-LinkFault-clause-behind
-returns-in-LinkFault-clause-behind g c =
-    let h = c.boot-booting.ensures.launched in
-    subst (λ (r : Recorded). CellsGo r.watch c.boot-booting.new.self) c.self.view_is
-    (go_before g.N.Numbered.launcher c.args.service c.self.inside.seats c.self.inside.cells c.boot-booting.new.self c.self.inside.own.past c.self.inside.own.past h.before.past c.boot-booting.ensures.only c.self.invariant.own_is h.found.grows
-    (faulted g.L.Link.wire g.N.Numbered.launcher c.args.service c.args.incarnation c.args.link (frame.Boot c.args.service c.args.incarnation c.args.tokens) (seen_at c.self.inside.cells c.args.service) (seen_at c.boot-booting.new.self c.args.service) c.boot-booting.result c.boot-booting.ensures.launched c.in-LinkFault.link c.in-LinkFault.is))
+pub returns-clause-err : goal.returns-clause-err
+returns-clause-err g c = c.boot_cell.ensures.err
 
-pub returns-in-NoMemory-clause-behind : goal.returns-in-NoMemory-clause-behind
-returns-in-NoMemory-clause-behind g c =
-    let h = c.boot-booting.ensures.launched in
-    subst (λ (r : Recorded). CellsGo r.watch c.boot-booting.new.self) c.self.view_is
-    (go_before g.N.Numbered.launcher c.args.service c.self.inside.seats c.self.inside.cells c.boot-booting.new.self c.self.inside.own.past c.self.inside.own.past h.before.past c.boot-booting.ensures.only c.self.invariant.own_is h.found.grows
-    (refused g.L.Link.wire g.N.Numbered.launcher c.args.service c.args.incarnation c.args.link (frame.Boot c.args.service c.args.incarnation c.args.tokens) (seen_at c.self.inside.cells c.args.service) (seen_at c.boot-booting.new.self c.args.service) c.boot-booting.result c.boot-booting.ensures.launched c.in-NoMemory.link c.in-NoMemory.is))
+pub returns-clause-behind : goal.returns-clause-behind
+returns-clause-behind g c = c.boot_cell.ensures.behind
 
-pub returns-in-Booted-clause-linked : goal.returns-in-Booted-clause-linked
-returns-in-Booted-clause-linked g c = c.boot-booting.ensures.link ∙ ap has_booted c.in-Booted.is
+pub returns-clause-added : goal.returns-clause-added
+returns-clause-added g c = c.boot_cell.ensures.added
 
-pub returns-in-Booted-clause-last : goal.returns-in-Booted-clause-last
-returns-in-Booted-clause-last g c =
-    booted_last g.L.Link.wire g.N.Numbered.launcher c.args.service c.args.incarnation c.args.link (frame.Boot c.args.service c.args.incarnation c.args.tokens) (seen_at c.self.inside.cells c.args.service) (seen_at c.boot-booting.new.self c.args.service) c.boot-booting.result c.boot-booting.ensures.launched c.in-Booted.is
+pub returns-clause-kept : goal.returns-clause-kept
+returns-clause-kept g c = c.boot_cell.ensures.kept
 
-pub returns-in-LinkFault-clause-front : goal.returns-in-LinkFault-clause-front
-returns-in-LinkFault-clause-front g c =
-    subst (λ (x : ServerFrame). IsFront (server_spelling x) (g.L.Link.wire c.in-LinkFault.link).given) c.requires.tokens
-    (faulted_front g.L.Link.wire g.N.Numbered.launcher c.args.service c.args.incarnation c.args.link (frame.Boot c.args.service c.args.incarnation c.args.tokens) (seen_at c.self.inside.cells c.args.service) (seen_at c.boot-booting.new.self c.args.service) c.boot-booting.result c.boot-booting.ensures.launched c.requires.link.given c.in-LinkFault.link c.in-LinkFault.is)
+pub returns-clause-linked : goal.returns-clause-linked
+returns-clause-linked g c = c.boot_cell.ensures.linked
 
-pub returns-in-NoMemory-clause-front : goal.returns-in-NoMemory-clause-front
-returns-in-NoMemory-clause-front g c =
-    subst (λ (x : ServerFrame). IsFront (server_spelling x) (g.L.Link.wire c.in-NoMemory.link).given) c.requires.tokens
-    (refused_front g.L.Link.wire g.N.Numbered.launcher c.args.service c.args.incarnation c.args.link (frame.Boot c.args.service c.args.incarnation c.args.tokens) (seen_at c.self.inside.cells c.args.service) (seen_at c.boot-booting.new.self c.args.service) c.boot-booting.result c.boot-booting.ensures.launched c.requires.link.given c.in-NoMemory.link c.in-NoMemory.is)
+pub returns-clause-unlinked : goal.returns-clause-unlinked
+returns-clause-unlinked g c = c.boot_cell.ensures.unlinked
 
-pub returns-in-LinkFault-clause-whose : goal.returns-in-LinkFault-clause-whose
-returns-in-LinkFault-clause-whose g c =
-    faulted_whose g.L.Link.wire g.N.Numbered.launcher c.args.service c.args.incarnation c.args.link (frame.Boot c.args.service c.args.incarnation c.args.tokens) (seen_at c.self.inside.cells c.args.service) (seen_at c.boot-booting.new.self c.args.service) c.boot-booting.result c.boot-booting.ensures.launched (Some (child_named c.args.service c.args.incarnation)) c.requires.link.whose c.in-LinkFault.link c.in-LinkFault.is
+pub returns-clause-out : goal.returns-clause-out
+returns-clause-out g c = c.boot_cell.ensures.out
 
-pub returns-in-NoMemory-clause-whose : goal.returns-in-NoMemory-clause-whose
-returns-in-NoMemory-clause-whose g c =
-    refused_whose g.L.Link.wire g.N.Numbered.launcher c.args.service c.args.incarnation c.args.link (frame.Boot c.args.service c.args.incarnation c.args.tokens) (seen_at c.self.inside.cells c.args.service) (seen_at c.boot-booting.new.self c.args.service) c.boot-booting.result c.boot-booting.ensures.launched (Some (child_named c.args.service c.args.incarnation)) c.requires.link.whose c.in-NoMemory.link c.in-NoMemory.is
+pub returns-clause-last : goal.returns-clause-last
+returns-clause-last g c = c.boot_cell.ensures.last
 
-pub returns-in-LinkFault-clause-untaken : goal.returns-in-LinkFault-clause-untaken
-returns-in-LinkFault-clause-untaken g c =
-    faulted_untaken g.L.Link.wire g.N.Numbered.launcher c.args.service c.args.incarnation c.args.link (frame.Boot c.args.service c.args.incarnation c.args.tokens) (seen_at c.self.inside.cells c.args.service) (seen_at c.boot-booting.new.self c.args.service) c.boot-booting.result c.boot-booting.ensures.launched c.requires.link.came c.in-LinkFault.link c.in-LinkFault.is
+pub returns-clause-front : goal.returns-clause-front
+returns-clause-front g c = c.boot_cell.ensures.front
 
-pub returns-in-NoMemory-clause-untaken : goal.returns-in-NoMemory-clause-untaken
-returns-in-NoMemory-clause-untaken g c =
-    refused_untaken g.L.Link.wire g.N.Numbered.launcher c.args.service c.args.incarnation c.args.link (frame.Boot c.args.service c.args.incarnation c.args.tokens) (seen_at c.self.inside.cells c.args.service) (seen_at c.boot-booting.new.self c.args.service) c.boot-booting.result c.boot-booting.ensures.launched c.requires.link.came c.in-NoMemory.link c.in-NoMemory.is
+pub returns-clause-whose : goal.returns-clause-whose
+returns-clause-whose g c = c.boot_cell.ensures.whose
 
-pub returns-in-LinkFault-clause-unlinked : goal.returns-in-LinkFault-clause-unlinked
-returns-in-LinkFault-clause-unlinked g c = c.boot-booting.ensures.link ∙ ap has_booted c.in-LinkFault.is
+pub returns-clause-untaken : goal.returns-clause-untaken
+returns-clause-untaken g c = c.boot_cell.ensures.untaken
 
-pub returns-in-NoMemory-clause-unlinked : goal.returns-in-NoMemory-clause-unlinked
-returns-in-NoMemory-clause-unlinked g c = c.boot-booting.ensures.link ∙ ap has_booted c.in-NoMemory.is
+pub returns-clause-cause : goal.returns-clause-cause
+returns-clause-cause g c = c.boot_cell.ensures.cause
 
-pub returns-in-Booted-clause-out : goal.returns-in-Booted-clause-out
-returns-in-Booted-clause-out g c =
-    let s = c.args.service in
-    let old = c.self.inside.cells in
-    let new = c.boot-booting.new.self in
-    let h = c.boot-booting.ensures.launched in
-    let empty = subst (λ (r : Recorded). incarnation (seen_at r.watch s) ≡ 0) (sym c.self.view_is) c.requires.empty in
-    subst (λ (r : Recorded). link_at r.watch s ≡ false → (n : ℕ) → all_out new n ≤ all_out r.watch n) c.self.view_is
-    (all_booted g.N.Numbered.launcher s c.args.incarnation old new h.before.past c.boot-booting.ensures.only h.found.grows empty (booted g.L.Link.wire g.N.Numbered.launcher c.args.service c.args.incarnation c.args.link (frame.Boot c.args.service c.args.incarnation c.args.tokens) (seen_at c.self.inside.cells c.args.service) (seen_at c.boot-booting.new.self c.args.service) c.boot-booting.result c.boot-booting.ensures.launched c.in-Booted.is) (c.boot-booting.ensures.link ∙ ap has_booted c.in-Booted.is))
-
-pub returns-in-LinkFault-clause-out : goal.returns-in-LinkFault-clause-out
-returns-in-LinkFault-clause-out g c =
-    let s = c.args.service in
-    let old = c.self.inside.cells in
-    let new = c.boot-booting.new.self in
-    let h = c.boot-booting.ensures.launched in
-    let empty = subst (λ (r : Recorded). incarnation (seen_at r.watch s) ≡ 0) (sym c.self.view_is) c.requires.empty in
-    subst (λ (r : Recorded). link_at r.watch s ≡ false → (n : ℕ) → all_out new n ≤ all_out r.watch n) c.self.view_is
-    (all_unbooted g.N.Numbered.launcher s old new h.before.past c.boot-booting.ensures.only h.found.grows empty (faulted g.L.Link.wire g.N.Numbered.launcher c.args.service c.args.incarnation c.args.link (frame.Boot c.args.service c.args.incarnation c.args.tokens) (seen_at c.self.inside.cells c.args.service) (seen_at c.boot-booting.new.self c.args.service) c.boot-booting.result c.boot-booting.ensures.launched c.in-LinkFault.link c.in-LinkFault.is) (c.boot-booting.ensures.link ∙ ap has_booted c.in-LinkFault.is))
-
-pub returns-in-NoMemory-clause-out : goal.returns-in-NoMemory-clause-out
-returns-in-NoMemory-clause-out g c =
-    let s = c.args.service in
-    let old = c.self.inside.cells in
-    let new = c.boot-booting.new.self in
-    let h = c.boot-booting.ensures.launched in
-    let empty = subst (λ (r : Recorded). incarnation (seen_at r.watch s) ≡ 0) (sym c.self.view_is) c.requires.empty in
-    subst (λ (r : Recorded). link_at r.watch s ≡ false → (n : ℕ) → all_out new n ≤ all_out r.watch n) c.self.view_is
-    (all_unbooted g.N.Numbered.launcher s old new h.before.past c.boot-booting.ensures.only h.found.grows empty (refused g.L.Link.wire g.N.Numbered.launcher c.args.service c.args.incarnation c.args.link (frame.Boot c.args.service c.args.incarnation c.args.tokens) (seen_at c.self.inside.cells c.args.service) (seen_at c.boot-booting.new.self c.args.service) c.boot-booting.result c.boot-booting.ensures.launched c.in-NoMemory.link c.in-NoMemory.is) (c.boot-booting.ensures.link ∙ ap has_booted c.in-NoMemory.is))
+pub returns-clause-room : goal.returns-clause-room
+returns-clause-room g c = c.boot_cell.ensures.room

@@ -1,14 +1,13 @@
-use Rattle.std.proofs.Common.{rules, ◌<◌, ◌≤◌, length}
-use Rattle.std.specs.Prelude.{Result, Ok, Err, OnErr, map}
+use Rattle.std.proofs.Common.{◌≡◌, ◌∙◌, ◌<◌, ◌≤◌, ℕ, arith, length, rules, subst, sym}
+use Rattle.std.proofs.lemmas.Result.{err_from_is_err_and}
+use Rattle.std.specs.Prelude.{Result, map}
+use Rattle.std.specs.declared.alloc.AllocError.{AllocError}
 use Rattle.okws_plan.specs.Configuration.{proxies_of}
 use Rattle.okws_plan.specs.declared.script.Place.TheVariants.{Proxy}
+use Rattle.launch_crew.specs.Acts.{InstallsAlong}
+use Rattle.launch_crew.specs.Steps.{InstallsRow}
 use Rattle.launch_crew.proofs.Listing.{first_kept, installing_all, installing_none, installing_on, places_from}
 use Rattle.launch_crew.proofs.recorder.Recorder.install_at_proxies.Goals as goal
-
--- what holds anyway holds on an error
-on_any : {A X P : Type 0} (r : Result A X) → P → OnErr r P
-on_any (Ok x) h = tt
-on_any (Err e) h = h
 
 pub loop-p-init : goal.loop-p-init
 loop-p-init g c = record {
@@ -30,14 +29,44 @@ loop-p-preserved g c =
       room = search rules;
     }
 
-pub returns-clause-added : goal.returns-clause-added
-returns-clause-added g c =
-    let least : length g.N.Numbered.site.proxies ≤ c.loop-p.p = search rules in
-    installing_all g.N.Numbered.site g.N.Numbered.run_seed c.args.service c.args.incarnation c.loop-p.p c.args.self.now.own c.loop-p.self.own least c.loop-p.invariant.own
-
-pub returns-in_err-install_if_granted-clause-front : goal.returns-in_err-install_if_granted-clause-front
-returns-in_err-install_if_granted-clause-front g c =
+pub returns : goal.returns
+returns g c =
     let C = g.N.Numbered.site in
-    let inv = c.loop-p.invariant.own in
-    let rest = places_from C c.args.service c.loop-p.p inv.left in
-    on_any c.from_residual.result (rest, first_kept g.N.Numbered.run_seed c.args.service c.args.incarnation (map Proxy (proxies_of C c.args.service)) rest c.args.self.now.own c.loop-p.self.own c.install_if_granted.new.self.own c.in_err-install_if_granted.ensures.kept inv.first)
+    let s = c.args.service in
+    let k = c.args.incarnation in
+    let a = c.args.self.now in
+    let b = c.loop-p.self in
+    let inv = c.loop-p.invariant in
+    let whole : c.loop-p.p ≡ length C.proxies = omega arith in
+    let least : length C.proxies ≤ c.loop-p.p = omega arith in
+    record {
+      cells = inv.cells;
+      only = inv.only;
+      ok = subst (λ (m : ℕ). InstallsRow C s k m a.sat.proxies b.sat.proxies) whole inv.row;
+      err = tt;
+      added = installing_all C g.N.Numbered.run_seed s k c.loop-p.p a.own b.own least inv.own;
+      front = tt;
+      room = search rules;
+    }
+
+pub returns-in_err-install_if_granted : goal.returns-in_err-install_if_granted
+returns-in_err-install_if_granted g c =
+    let C = g.N.Numbered.site in
+    let seed = g.N.Numbered.run_seed in
+    let s = c.args.service in
+    let k = c.args.incarnation in
+    let a = c.args.self.now in
+    let b = c.install_if_granted.new.self in
+    let inv = c.loop-p.invariant in
+    let h = c.in_err-install_if_granted.ensures in
+    let rest = places_from C s c.loop-p.p inv.own.left in
+    let failed = err_from_is_err_and c.from_residual.result c.from_residual.ensures.1 in
+    subst (λ (r : Result (Unit {0}) AllocError). InstallsAlong C seed s k r a b) (sym failed.1) (record {
+      cells = h.cells ∙ inv.cells;
+      only = search rules;
+      ok = tt;
+      err = (c.loop-p.p, search rules);
+      added = tt;
+      front = (rest, first_kept seed s k (map Proxy (proxies_of C s)) rest a.own c.loop-p.self.own b.own h.kept inv.own.first);
+      room = search rules;
+    })

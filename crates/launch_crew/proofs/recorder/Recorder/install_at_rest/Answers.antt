@@ -1,21 +1,16 @@
-use Rattle.std.proofs.Common.{◌≡◌, ◌∙◌, [], ◌∷◌, refl}
-use Rattle.std.specs.Prelude.{Result, Ok, Err, OnErr}
-use Rattle.std.proofs.lemmas.Result.{on_err_weaker}
-use Rattle.okws_plan.specs.declared.script.Place.TheVariants.{Pubd, Oklogd}
-use Rattle.launch_crew.proofs.Listing.{first_none}
+use Rattle.std.proofs.Common.{subst, sym}
+use Rattle.std.specs.Prelude.{Result}
+use Rattle.std.specs.declared.alloc.AllocError.{AllocError}
+use Rattle.std.proofs.lemmas.Result.{err_from_is_err_and}
+use Rattle.launch_crew.specs.Acts.{InstallsBoth}
+use Rattle.launch_crew.proofs.Acting.{installs_both, installs_neither}
 use Rattle.launch_crew.proofs.recorder.Recorder.install_at_rest.Goals as goal
 
--- what holds anyway holds on an error
-on_any : {A X P : Type 0} (r : Result A X) → P → OnErr r P
-on_any (Ok x) h = tt
-on_any (Err e) h = h
+pub returns-in_err-install_at_pubd : goal.returns-in_err-install_at_pubd
+returns-in_err-install_at_pubd g c =
+    let failed = err_from_is_err_and c.from_residual.result c.from_residual.ensures.1 in
+    subst (λ (r : Result (Unit {0}) AllocError). InstallsBoth g.N.Numbered.run_seed c.args.service c.args.incarnation r c.args.self.now c.install_at_pubd.new.self) (sym failed.1)
+    (installs_neither g.N.Numbered.run_seed c.args.service c.args.incarnation _ failed.0 c.args.self.now c.install_at_pubd.new.self c.in_err-install_at_pubd.ensures)
 
-pub returns-in_err-install_at_pubd-clause-front : goal.returns-in_err-install_at_pubd-clause-front
-returns-in_err-install_at_pubd-clause-front g c = on_any c.from_residual.result
-    (Pubd ∷ Oklogd ∷ [], first_none g.N.Numbered.run_seed c.args.service c.args.incarnation (Pubd ∷ Oklogd ∷ []) c.args.self.now.own c.install_at_pubd.new.self.own c.in_err-install_at_pubd.ensures.kept)
-
-pub returns-clause-front : goal.returns-clause-front
-returns-clause-front g c = on_err_weaker c.install_at_log.result
-    (λ (kept : c.install_at_log.new.self.own ≡ c.install_at_pubd.new.self.own).
-    (Oklogd ∷ [], record { done = Pubd ∷ []; places_are = refl; own_is = kept ∙ c.in_ok-install_at_pubd.ensures.added }))
-    c.install_at_log.ensures.kept
+pub returns : goal.returns
+returns g c = installs_both g.N.Numbered.run_seed c.args.service c.args.incarnation _ c.args.self.now c.install_at_pubd.new.self c.install_at_log.new.self c.in_ok-install_at_pubd.ensures c.install_at_log.result c.install_at_log.ensures

@@ -1,15 +1,12 @@
-use Rattle.std.proofs.Common.{◌≡◌, refl, subst, ℕ}
+use Rattle.std.proofs.Common.{◌<◌, ℕ, refl, sym, subst, arith}
 use Rattle.okws_plan.specs.declared.event.ProxyEvent.TheVariants as event
-use Rattle.launch_crew.proofs.Recording.{proxy_entered, proxy_seen}
-use Rattle.std.specs.Prelude.{Some, None, filter_map}
-use Rattle.monitor_model.specs.declared.record.Own.TheVariants as own
-use Rattle.monitor_model.specs.Launches.{standing_in}
-use Rattle.launch_crew.specs.Listed.{with_revoke_at}
-use Rattle.monitor_model.specs.Merged.{proxy_item}
-use Rattle.monitor_model.specs.Seen.{proxy_past}
 use Rattle.monitor_model.specs.Standing.{proxy_grant}
+use Rattle.launch_crew.specs.Acts.{RevokesAt, past_at}
+use Rattle.launch_crew.specs.Listed.{with_revoke_at}
 use Rattle.launch_crew.specs.Recorded.{Recorded}
-use Rattle.launch_crew.proofs.Listing.{ends_none, ends_some, stood}
+use Rattle.launch_crew.specs.Steps.{TurnsAt}
+use Rattle.launch_crew.proofs.Acting.{proxy_revokes, proxy_unrevoked}
+use Rattle.launch_crew.proofs.Recording.{proxy_entered, proxy_seen, recorder}
 use Rattle.launch_crew.proofs.recorder.Recorder.revoke_at_proxy.Goals as goal
 
 pub invariant_of-self : goal.invariant_of-self
@@ -23,18 +20,20 @@ invariant_of-self-in_default g c =
     let h = c.in_default.ensures in
     proxy_seen g.N.Numbered.site g.N.Numbered.launcher c.self.inside.seats c.revoke_at_proxy.new.self c.self.inside.cells c.self.inside.own.past c.self.inside.own.room c.self.inside.own.room c.self.invariant c.args.proxy h.0 h.1 c.requires.proxy h.3
 
-pub returns-in-Some-clause-own : goal.returns-in-Some-clause-own
-returns-in-Some-clause-own g c =
+pub returns-in-Some : goal.returns-in-Some
+returns-in-Some g c =
     let h = c.in-Some.ensures in
-    let found = standing_in proxy_grant (filter_map (proxy_item c.args.proxy) c.self.inside.own.past) c.args.service in
-    subst (λ (r : Recorded). c.enter.new.self.past ≡ with_revoke_at c.args.service c.args.proxy r.own) c.self.view_is
-    (ends_some (λ (k : ℕ). own.Proxy c.args.proxy (event.Revoke c.args.service k)) c.in-Some.incarnation found (Some c.in-Some.incarnation) c.self.inside.own.past c.enter.new.self.past
-    (stood proxy_grant c.args.service (proxy_past c.self.inside.seats.proxies c.args.proxy) h.0 found (Some c.in-Some.incarnation) h.1 (c.self.invariant.standing.proxies c.args.proxy c.args.service) h.2) refl c.enter.ensures.past)
+    let p = c.args.proxy in
+    let s = c.args.service in
+    subst (λ (x : Recorded). RevokesAt proxy_grant (past_at p) (TurnsAt p) (with_revoke_at s p) s x (recorder c.revoke_at_proxy.new.self c.self.inside.cells c.enter.new.self.past c.enter.new.self.room)) c.self.view_is
+    (proxy_revokes g.N.Numbered.site g.N.Numbered.launcher c.self.inside.seats c.revoke_at_proxy.new.self c.self.inside.cells c.self.inside.own.past c.enter.new.self.past c.self.inside.own.room c.enter.new.self.room c.self.invariant
+    p (subst (λ (m : ℕ). p < m) (sym c.self.invariant.proxies_are) c.requires.proxy) c.requires.proxy s c.in-Some.incarnation h.0 h.1 h.2 h.3 c.enter.ensures.past (omega (arith, c.enter.ensures.room)))
 
-pub returns-in_default-clause-own : goal.returns-in_default-clause-own
-returns-in_default-clause-own g c =
+pub returns-in_default : goal.returns-in_default
+returns-in_default g c =
     let h = c.in_default.ensures in
-    let found = standing_in proxy_grant (filter_map (proxy_item c.args.proxy) c.self.inside.own.past) c.args.service in
-    subst (λ (r : Recorded). c.self.inside.own.past ≡ with_revoke_at c.args.service c.args.proxy r.own) c.self.view_is
-    (ends_none (λ (k : ℕ). own.Proxy c.args.proxy (event.Revoke c.args.service k)) found None c.self.inside.own.past c.self.inside.own.past
-    (stood proxy_grant c.args.service (proxy_past c.self.inside.seats.proxies c.args.proxy) h.0 found None h.1 (c.self.invariant.standing.proxies c.args.proxy c.args.service) h.2) refl refl)
+    let p = c.args.proxy in
+    let s = c.args.service in
+    subst (λ (x : Recorded). RevokesAt proxy_grant (past_at p) (TurnsAt p) (with_revoke_at s p) s x (recorder c.revoke_at_proxy.new.self c.self.inside.cells c.self.inside.own.past c.self.inside.own.room)) c.self.view_is
+    (proxy_unrevoked g.N.Numbered.site g.N.Numbered.launcher c.self.inside.seats c.revoke_at_proxy.new.self c.self.inside.cells c.self.inside.own.past c.self.inside.own.past c.self.inside.own.room c.self.inside.own.room c.self.invariant
+    p (subst (λ (m : ℕ). p < m) (sym c.self.invariant.proxies_are) c.requires.proxy) c.requires.proxy s h.0 h.1 h.2 h.3 refl (omega arith))

@@ -1,13 +1,13 @@
-use Rattle.std.proofs.Common.{◌≡◌, refl, subst, ℕ}
+use Rattle.std.proofs.Common.{refl, subst, arith}
 use Rattle.okws_plan.specs.declared.event.PubdEvent.TheVariants as event
-use Rattle.launch_crew.proofs.Recording.{pubd_entered, pubd_seen}
-use Rattle.std.specs.Prelude.{Some, None, filter_map}
-use Rattle.monitor_model.specs.declared.record.Own.TheVariants as own
-use Rattle.monitor_model.specs.Launches.{standing_in, with_revoke_pubd}
-use Rattle.monitor_model.specs.Merged.{pubd_item}
+use Rattle.monitor_model.specs.Launches.{with_revoke_pubd}
 use Rattle.monitor_model.specs.Standing.{pubd_grant}
+use Rattle.site_locks.specs.Sat.{Sat}
+use Rattle.launch_crew.specs.Acts.{RevokesAt}
 use Rattle.launch_crew.specs.Recorded.{Recorded}
-use Rattle.launch_crew.proofs.Listing.{ends_none, ends_some, stood}
+use Rattle.launch_crew.specs.Steps.{OnlyPubd}
+use Rattle.launch_crew.proofs.Acting.{pubd_revokes, pubd_unrevoked}
+use Rattle.launch_crew.proofs.Recording.{pubd_entered, pubd_seen, recorder}
 use Rattle.launch_crew.proofs.recorder.Recorder.revoke_at_pubd.Goals as goal
 
 pub invariant_of-self : goal.invariant_of-self
@@ -21,18 +21,14 @@ invariant_of-self-in_default g c =
     let h = c.in_default.ensures in
     pubd_seen g.N.Numbered.site g.N.Numbered.launcher c.self.inside.seats c.revoke_at_pubd.new.self c.self.inside.cells c.self.inside.own.past c.self.inside.own.room c.self.inside.own.room c.self.invariant h.0 h.1 h.3
 
-pub returns-in-Some-clause-own : goal.returns-in-Some-clause-own
-returns-in-Some-clause-own g c =
+pub returns-in-Some : goal.returns-in-Some
+returns-in-Some g c =
     let h = c.in-Some.ensures in
-    let found = standing_in pubd_grant (filter_map pubd_item c.self.inside.own.past) c.args.service in
-    subst (λ (r : Recorded). c.enter.new.self.past ≡ with_revoke_pubd c.args.service r.own) c.self.view_is
-    (ends_some (λ (k : ℕ). own.Pubd (event.Revoke c.args.service k)) c.in-Some.incarnation found (Some c.in-Some.incarnation) c.self.inside.own.past c.enter.new.self.past
-    (stood pubd_grant c.args.service c.self.inside.seats.pubd h.0 found (Some c.in-Some.incarnation) h.1 (c.self.invariant.standing.pubd c.args.service) h.2) refl c.enter.ensures.past)
+    subst (λ (x : Recorded). RevokesAt pubd_grant (λ (a : Sat). a.pubd) OnlyPubd (with_revoke_pubd c.args.service) c.args.service x (recorder c.revoke_at_pubd.new.self c.self.inside.cells c.enter.new.self.past c.enter.new.self.room)) c.self.view_is
+    (pubd_revokes g.N.Numbered.site g.N.Numbered.launcher c.self.inside.seats c.revoke_at_pubd.new.self c.self.inside.cells c.self.inside.own.past c.enter.new.self.past c.self.inside.own.room c.enter.new.self.room c.self.invariant c.args.service c.in-Some.incarnation h.0 h.1 h.2 h.3 c.enter.ensures.past (omega (arith, c.enter.ensures.room)))
 
-pub returns-in_default-clause-own : goal.returns-in_default-clause-own
-returns-in_default-clause-own g c =
+pub returns-in_default : goal.returns-in_default
+returns-in_default g c =
     let h = c.in_default.ensures in
-    let found = standing_in pubd_grant (filter_map pubd_item c.self.inside.own.past) c.args.service in
-    subst (λ (r : Recorded). c.self.inside.own.past ≡ with_revoke_pubd c.args.service r.own) c.self.view_is
-    (ends_none (λ (k : ℕ). own.Pubd (event.Revoke c.args.service k)) found None c.self.inside.own.past c.self.inside.own.past
-    (stood pubd_grant c.args.service c.self.inside.seats.pubd h.0 found None h.1 (c.self.invariant.standing.pubd c.args.service) h.2) refl refl)
+    subst (λ (x : Recorded). RevokesAt pubd_grant (λ (a : Sat). a.pubd) OnlyPubd (with_revoke_pubd c.args.service) c.args.service x (recorder c.revoke_at_pubd.new.self c.self.inside.cells c.self.inside.own.past c.self.inside.own.room)) c.self.view_is
+    (pubd_unrevoked g.N.Numbered.site g.N.Numbered.launcher c.self.inside.seats c.revoke_at_pubd.new.self c.self.inside.cells c.self.inside.own.past c.self.inside.own.past c.self.inside.own.room c.self.inside.own.room c.self.invariant c.args.service h.0 h.1 h.2 h.3 refl (omega arith))

@@ -1,5 +1,5 @@
 -- What the answers of a launch say.
-use Rattle.std.proofs.Common.{◌≡◌, ◌∙◌, ◌⊎◌, inl, inr, ⊎_elim, ℕ, suc, ◌+◌, ◌-◌, ◌<◌, List, None, refl, ap, subst, arith}
+use Rattle.std.proofs.Common.{◌≡◌, ◌∙◌, inl, inr, ⊎_elim, ℕ, suc, ◌+◌, ◌-◌, ◌<◌, List, None, refl, ap, subst, arith}
 use Rattle.okws_base.specs.declared.journal.Entry.{Entry}
 use Rattle.okws_base.specs.declared.limit.TheConstants.{MOST_INCARNATIONS}
 use Rattle.okws_plan.specs.declared.configuration.Config.{Config}
@@ -10,7 +10,7 @@ use Rattle.okws_outer.specs.declared.child.Ended.TheVariants.{Yes}
 use Rattle.monitor_model.specs.Launcher.{begun}
 use Rattle.launch_journal.specs.Launches.{Launches, Allows, entered, given_up}
 use Rattle.launch_journal.specs.declared.next.Next.TheVariants as next
-use Rattle.okld_launch.specs.Going.{with_entry, with_begun, with_failed, Closes, Attempts, Fell, Ends, Goes, GoesCrashed, Tends, GoesTended, AsksUp, crashed_as, tended_as}
+use Rattle.okld_launch.specs.Going.{with_entry, with_begun, with_failed, Closes, Attempts, Fell, Goes, GoesCrashed, Tends, GoesTended, AsksUp, crashed_as, tended_as}
 use Rattle.okld_launch.specs.Launchers.{LauncherIs, IsOut, up_in}
 use Rattle.okld_launch.specs.States.{LaunchIs, GoesOn}
 use Rattle.launch_crew.specs.Told.{FailsBy}
@@ -19,10 +19,20 @@ use Rattle.okld_launch.specs.declared.answer.Attempt.{Attempt}
 use Rattle.okld_launch.specs.declared.answer.Attempt.TheVariants as attempt
 use Rattle.okld_launch.specs.declared.answer.Launched.{Launched}
 use Rattle.okld_launch.specs.declared.answer.Launched.TheVariants as launched
-use Rattle.okld_launch.specs.declared.answer.Crashed.{Crashed}
 use Rattle.okld_launch.proofs.Begins.{begun_here}
 
 -- ---- an attempt
+
+-- what an attempt does, by how its rest ends
+pub attempts_as : (C : Config) (w s k : ℕ) (J : List (Entry LauncherEvent)) (f : Family) (m : LauncherIs) (answer : Attempt) (l : LauncherIs)
+    → k ≡ begun J s + 1 → m.journal.past ≡ with_begun w s J → m.crew.family ≡ f → Closes C w (record { launcher = m; service = s; incarnation = k }) answer l → Attempts C w s J f answer l
+attempts_as C w s k J f m (attempt.Up j) l is past family h = (h.0 ∙ is, h.1 ∙ past, h.2)
+attempts_as C w s k J f m attempt.Failed l is past family h = (
+  h.0 ∙ (λ i. with_entry w (event.Failed s (is i)) (past i)),
+  subst (λ (x : ℕ × Family). FailsBy s x.0 x.1 l.crew.family) (λ i. (is i, family i)) h.1,
+  h.2,
+)
+attempts_as C w s k J f m attempt.NoMemory l is past family h = inr (h.0 ∙ past, h.1)
 
 -- ---- the rest of an attempt
 

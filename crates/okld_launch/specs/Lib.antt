@@ -9,3 +9,4 @@ pub mod Children
 pub mod Pieces
 pub mod Kin
 pub mod Heard
+pub mod Acts

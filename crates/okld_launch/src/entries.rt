@@ -1,18 +1,18 @@
 //! What the launcher enters in its journal, and what it knows by it.
 
-ghost use Rattle.std.specs.Prelude.{◌≡◌, ◌<◌, ◌≤◌, ◌+◌, ◌==◌, OnOk, OnErr, IfOk, IfNone, IfSome, Some, None, true, if◌then◌else◌, length};
+ghost use Rattle.std.specs.Prelude.{◌≡◌, ◌<◌, ◌≤◌, ◌+◌, ◌==◌, OnOk, IfNone, IfSome, Some, None, true, if◌then◌else◌, length};
 ghost use Rattle.okws_base.specs.declared.limit.TheConstants.{MOST_INCARNATIONS, MOST_PROXIES};
 ghost use Rattle.okws_plan.specs.declared.event.LauncherEvent.TheVariants as event;
 ghost use Rattle.monitor_model.specs.Cell.{last_booted};
 ghost use Rattle.monitor_model.specs.Launcher.{LauncherLaw, begun, may_give_up, tries};
 ghost use Rattle.launch_journal.specs.Launches.{Allows, entered, given_up};
-ghost use Rattle.launch_journal.specs.declared.next.Next.TheVariants as next;
 ghost use Rattle.launch_crew.specs.Listed.{AreCounted, CellsGo};
 ghost use Rattle.launch_crew.specs.Recorded.{AreOwn};
 ghost use Rattle.site_cells.specs.Row.{seen_at};
+ghost use Rattle.okld_launch.specs.Acts.{GivesUp};
 ghost use Rattle.okld_launch.specs.Children.{StaysAttended};
 ghost use Rattle.okld_launch.specs.Launchers.{AreCaused, IsLauncher, MayFail, up_in};
-ghost use Rattle.okld_launch.specs.Going.{AsksUp, with_entry};
+ghost use Rattle.okld_launch.specs.Going.{AsksUp};
 
 use crate::launcher::Launcher;
 use crate::named::Staffed;
@@ -121,11 +121,7 @@ impl<N: Staffed, J: Site, C: CellNames, K: Keeper, S: Sink, F: Children> Launche
     pub(crate) fn give_up(&mut self, service: u16) -> Result<u32, AllocError>
         requires service { service < length N.site.services }
         requires may { may_give_up N.site self.old.journal.past service (tries self.old.journal.past service) ≡ true }
-        ensures tries { IfOk result (λ n. n ≡ tries self.old.journal.past service) }
-        ensures entered { IfOk result (λ n. self.new.journal.past ≡ with_entry self.old.journal.holder (event.Dead service n) self.old.journal.past) }
-        ensures err { OnErr result (self.new.journal.past ≡ self.old.journal.past) }
-        ensures same { self.new ≡ record self.old { journal = self.new.journal } }
-        ensures holder { self.new.journal.holder ≡ self.old.journal.holder }
+        ensures { GivesUp service result self.old self.new }
     {
         self.make_room(1)?;
         Ok(self.journal.give_up(service))

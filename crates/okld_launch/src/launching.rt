@@ -1,24 +1,21 @@
 //! How the launcher launches.
 
-ghost use Rattle.std.specs.Prelude.{◌≡◌, ◌≢◌, ◌<◌, ◌≤◌, ℕ, Bool, true, false, List, Some, None, is_some, length, option_to_list};
-ghost use Rattle.okws_base.specs.declared.journal.Entry.{Entry};
-ghost use Rattle.okws_plan.specs.declared.event.LauncherEvent.{LauncherEvent};
-ghost use Rattle.okws_plan.specs.declared.event.LauncherEvent.TheVariants as event;
-ghost use Rattle.monitor_model.specs.Causes.{is_crashed_of};
+ghost use Rattle.std.specs.Prelude.{◌≡◌, ◌≢◌, ◌<◌, ◌≤◌, ℕ, Bool, true, false, is_some, length};
 ghost use Rattle.monitor_model.specs.Launcher.{begun, fell};
 ghost use Rattle.launch_journal.specs.Launches.{Allows, given_up};
 ghost use Rattle.launch_journal.specs.declared.next.Next.TheVariants as next;
+ghost use Rattle.okld_launch.specs.Acts.{AttemptsSo, ClosesSo, EndsSo, GivesUpSo, GoesSo, TurnsSo};
 ghost use Rattle.okld_launch.specs.Launchers.{MayLaunch, up_in};
 ghost use Rattle.okld_launch.specs.Entering.{Enters, most_entered};
-ghost use Rattle.okld_launch.specs.Ups.{crash_up, is_one, launch_up, oldest, ups_after};
-ghost use Rattle.okld_launch.specs.Pieces.{HasBegun, HasBooted, HasCleared, HasInstalled, IsClosed, attempt_ups};
-ghost use Rattle.okld_launch.specs.Going.{Attempts, Closes, GivesUpAgain, Goes, GoesAsked, GoesCrashed, Ends, crashed_as, tended_as};
+ghost use Rattle.okld_launch.specs.Ups.{crash_up, launch_up, ups_after};
+ghost use Rattle.okld_launch.specs.Pieces.{HasBegun, HasBooted, HasCleared, HasInstalled, IsClosed};
+ghost use Rattle.okld_launch.specs.Going.{Goes, GoesAsked, GoesCrashed, crashed_as, tended_as};
 
 use crate::answer::{Attempt, Crashed, Launched, Tended};
 use crate::entered::Entered;
 use crate::launcher::Launcher;
 use crate::named::Staffed;
-use crate::states::{Booted, Installed, Quiet, Revoked};
+use crate::states::{Booted, Broken, Installed, Quiet, Revoked};
 use launch_crew::answer::Missed;
 use launch_journal::Next;
 use okws_base::limit::MOST_INCARNATIONS;
@@ -40,9 +37,7 @@ impl<N: Staffed, J: Site, C: CellNames, K: Keeper, S: Sink, F: Children> Booted<
         rt: &R,
         locks: &Locks<N, J, K, S>,
     ) -> (Launcher<N, J, C, K, S, F>, Attempt)
-        ensures closes { Closes N.site self.launcher.journal.holder self result.1 result.0 }
-        ensures whole { (up ended : ℕ → ℕ → Bool) → HasBooted N.site N.run_seed up ended self → IsClosed N.site N.run_seed (attempt_ups self.service result.1 up) ended result.0 }
-        ensures holder { result.0.journal.holder ≡ self.launcher.journal.holder }
+        ensures { ClosesSo N.site N.run_seed (HasBooted N.site N.run_seed) self result.1 result.0 }
     {
         let incarnation = self.incarnation;
         match self.up(rt, locks) {
@@ -67,14 +62,33 @@ impl<N: Staffed, J: Site, C: CellNames, K: Keeper, S: Sink, F: Children> Install
         locks: &Locks<N, J, K, S>,
         cells: &CellLocks<N, C, F::Link>,
     ) -> (Launcher<N, J, C, K, S, F>, Attempt)
-        ensures closes { Closes N.site self.launcher.journal.holder self result.1 result.0 }
-        ensures whole { (up ended : ℕ → ℕ → Bool) → HasInstalled N.site N.run_seed up ended self → IsClosed N.site N.run_seed (attempt_ups self.service result.1 up) ended result.0 }
-        ensures holder { result.0.journal.holder ≡ self.launcher.journal.holder }
+        ensures { ClosesSo N.site N.run_seed (HasInstalled N.site N.run_seed) self result.1 result.0 }
     {
-        match self.boot(rt, cells) {
-            Ok(booted) => booted.close(rt, locks),
-            Err((Missed::Failed, broken)) => (broken.fail(), Attempt::Failed),
-            Err((Missed::NoMemory, broken)) => (broken.revoke(rt, locks), Attempt::NoMemory),
+        let Installed {
+            mut launcher,
+            service,
+            incarnation,
+        } = self;
+        match launcher.start(rt, cells, service, incarnation) {
+            Ok(()) => {
+                let booted = Booted {
+                    launcher,
+                    service,
+                    incarnation,
+                };
+                booted.close(rt, locks)
+            }
+            Err(missed) => {
+                let broken = Broken {
+                    launcher,
+                    service,
+                    incarnation,
+                };
+                match missed {
+                    Missed::Failed => (broken.fail(), Attempt::Failed),
+                    Missed::NoMemory => (broken.revoke(rt, locks), Attempt::NoMemory),
+                }
+            }
         }
     }
 }
@@ -87,9 +101,7 @@ impl<N: Staffed, J: Site, C: CellNames, K: Keeper, S: Sink, F: Children> Revoked
         locks: &Locks<N, J, K, S>,
         cells: &CellLocks<N, C, F::Link>,
     ) -> (Launcher<N, J, C, K, S, F>, Attempt)
-        ensures closes { Closes N.site self.launcher.journal.holder self result.1 result.0 }
-        ensures whole { (up ended : ℕ → ℕ → Bool) → HasCleared N.site N.run_seed up ended self → IsClosed N.site N.run_seed (attempt_ups self.service result.1 up) ended result.0 }
-        ensures holder { result.0.journal.holder ≡ self.launcher.journal.holder }
+        ensures { ClosesSo N.site N.run_seed (HasCleared N.site N.run_seed) self result.1 result.0 }
     {
         match self.install(rt, locks) {
             Ok(installed) => installed.close(rt, locks, cells),
@@ -106,9 +118,7 @@ impl<N: Staffed, J: Site, C: CellNames, K: Keeper, S: Sink, F: Children> Quiet<N
         locks: &Locks<N, J, K, S>,
         cells: &CellLocks<N, C, F::Link>,
     ) -> (Launcher<N, J, C, K, S, F>, Attempt)
-        ensures closes { Closes N.site self.launcher.journal.holder self result.1 result.0 }
-        ensures whole { (up ended : ℕ → ℕ → Bool) → HasBegun N.site N.run_seed up ended self → IsClosed N.site N.run_seed (attempt_ups self.service result.1 up) ended result.0 }
-        ensures holder { result.0.journal.holder ≡ self.launcher.journal.holder }
+        ensures { ClosesSo N.site N.run_seed (HasBegun N.site N.run_seed) self result.1 result.0 }
     {
         self.revoke(rt, locks, cells).close(rt, locks, cells)
     }
@@ -168,9 +178,7 @@ impl<N: Staffed, J: Site, C: CellNames, K: Keeper, S: Sink, F: Children> Launche
         requires service { service < length N.site.services }
         requires may { Allows N.site self.journal.past service next.Begin }
         requires cause { MayLaunch service self }
-        ensures attempts { Attempts N.site self.journal.holder service self.journal.past self.crew.family result.1 result.0 }
-        ensures whole { (up ended : ℕ → ℕ → Bool) → IsClosed N.site N.run_seed up ended self → IsClosed N.site N.run_seed (attempt_ups service result.1 up) ended result.0 }
-        ensures holder { result.0.journal.holder ≡ self.journal.holder }
+        ensures { AttemptsSo N.site N.run_seed service result.1 self result.0 }
     {
         let mut launcher = self;
         let Ok(()) = launcher.reserve() else {
@@ -190,12 +198,7 @@ impl<N: Staffed, J: Site, C: CellNames, K: Keeper, S: Sink, F: Children> Launche
         requires service { service < length N.site.services }
         requires allows { Allows N.site self.journal.past service what }
         requires no_more { what ≢ next.Begin }
-        ensures ends { Ends N.site self.journal.holder service self.journal.past result.1 result.0 }
-        ensures enters { Enters self.journal.holder (option_to_list result.2) self.journal.past result.0.journal.past }
-        ensures closing { (t j : ℕ) → is_one (is_crashed_of t j) result.2 ≡ false }
-        ensures down { launch_up result.1 ≡ false }
-        ensures whole { (up ended : ℕ → ℕ → Bool) → IsClosed N.site N.run_seed up ended self → IsClosed N.site N.run_seed up ended result.0 }
-        ensures holder { result.0.journal.holder ≡ self.journal.holder }
+        ensures { EndsSo N.site N.run_seed service result.1 result.2 self result.0 }
     {
         let mut launcher = self;
         match what {
@@ -217,11 +220,7 @@ impl<N: Staffed, J: Site, C: CellNames, K: Keeper, S: Sink, F: Children> Launche
         requires service { service < length N.site.services }
         requires dead { is_some (given_up self.journal.past service) ≡ true }
         requires fell { fell self.journal.past service ≡ true }
-        ensures again { GivesUpAgain self.journal.holder service self.journal.past result.1 result.0 }
-        ensures enters { (J : List (Entry LauncherEvent)) → Enters self.journal.holder (option_to_list (Some crash)) J self.journal.past → Enters self.journal.holder result.2 J result.0.journal.past }
-        ensures few { length result.2 ≤ most_entered N.site }
-        ensures whole { (up ended : ℕ → ℕ → Bool) → IsClosed N.site N.run_seed up ended self → IsClosed N.site N.run_seed up ended result.0 }
-        ensures holder { result.0.journal.holder ≡ self.journal.holder }
+        ensures { GivesUpSo N.site N.run_seed service crash result.1 result.2 self result.0 }
     {
         let mut launcher = self;
         launcher.keeps();
@@ -251,12 +250,7 @@ impl<N: Staffed, J: Site, C: CellNames, K: Keeper, S: Sink, F: Children> Launche
     ) -> (Self, Launched, Entered)
         requires service { service < length N.site.services }
         requires cause { MayLaunch service self }
-        ensures goes { Goes N.site self.journal.holder service self.journal.past self.crew.family result.1 result.0 }
-        ensures enters { (J : List (Entry LauncherEvent)) → Enters self.journal.holder (option_to_list opening) J self.journal.past → Enters self.journal.holder result.2 J result.0.journal.past }
-        ensures few { length result.2 ≤ most_entered N.site }
-        ensures whole { (up ended : ℕ → ℕ → Bool) → IsClosed N.site N.run_seed up ended self → IsClosed N.site N.run_seed (ups_after (launch_up result.1) result.2 up) ended result.0 }
-        ensures oldest { (t j : ℕ) → is_one (is_crashed_of t j) (oldest result.2) ≡ is_one (is_crashed_of t j) opening }
-        ensures holder { result.0.journal.holder ≡ self.journal.holder }
+        ensures { GoesSo N.site N.run_seed service opening result.1 result.2 self result.0 }
     {
         let mut launcher = self;
         launcher.keeps();
@@ -357,6 +351,24 @@ impl<N: Staffed, J: Site, C: CellNames, K: Keeper, S: Sink, F: Children> Launche
         ensures few { length result.2 ≤ most_entered N.site }
         ensures whole { (up ended : ℕ → ℕ → Bool) → IsClosed N.site N.run_seed up ended self → IsClosed N.site N.run_seed (ups_after (crash_up result.1) result.2 up) ended result.0 }
         ensures holder { result.0.journal.holder ≡ self.journal.holder }
+    {
+        self.note_crash(rt, gate, locks, cells, service, incarnation)
+    }
+
+    // The same, with one clause.
+    fn note_crash<R: Wait, G: Gate>(
+        self,
+        rt: &R,
+        gate: &G,
+        locks: &Locks<N, J, K, S>,
+        cells: &CellLocks<N, C, F::Link>,
+        service: u16,
+        incarnation: u32,
+    ) -> (Self, Crashed, Entered)
+        requires service { service < length N.site.services }
+        requires counted { 0 < incarnation }
+        requires begun { incarnation ≤ begun self.journal.past service }
+        ensures { TurnsSo (GoesCrashed N.site self.journal.holder service incarnation self.journal.past self.crew.family result.1 result.0) N.site N.run_seed (crash_up result.1) (λ ended. ended) result.2 self result.0 }
     {
         let mut launcher = self;
         if launcher.make_room(1).is_err() {

@@ -1,17 +1,16 @@
 //! The states of a launch. Each owns the launcher, and the next step consumes it; a step that is refused
 //! hands back the state from which what was installed is revoked.
 
-ghost use Rattle.std.specs.Prelude.{◌≡◌, ◌<◌, ℕ, Bool, IfOk, IfErr};
+ghost use Rattle.std.specs.Prelude.{◌≡◌, ℕ, Bool};
 ghost use Rattle.okws_plan.specs.declared.event.LauncherEvent.TheVariants as event;
 ghost use Rattle.launch_journal.specs.Launches.{entered};
-ghost use Rattle.launch_crew.specs.Told.{FailsBy};
+ghost use Rattle.okld_launch.specs.Acts.{ComesUpSo, InstallsSo};
 ghost use Rattle.okld_launch.specs.Launchers.{IsOut, MayFail, up_in};
-ghost use Rattle.okld_launch.specs.Pieces.{BreaksOff, HasBegun, HasBooted, HasCleared, HasInstalled, IsClosed, with_up};
+ghost use Rattle.okld_launch.specs.Pieces.{BreaksOff, HasBegun, HasCleared, HasInstalled, IsClosed};
 ghost use Rattle.okld_launch.specs.States.{GoesOn};
 
 use crate::launcher::Launcher;
 use crate::named::Staffed;
-use launch_crew::answer::Missed;
 use okws_outer::children::Children;
 use okws_outer::keeper::Keeper;
 use okws_outer::stream::Sink;
@@ -144,10 +143,7 @@ impl<N: Staffed, J: Site, C: CellNames, K: Keeper, S: Sink, F: Children> Revoked
         rt: &R,
         locks: &Locks<N, J, K, S>,
     ) -> Result<Installed<N, J, C, K, S, F>, Broken<N, J, C, K, S, F>>
-        ensures ok { IfOk result (λ a. GoesOn self a) }
-        ensures err { IfErr result (λ a. GoesOn self a) }
-        ensures way { IfOk result (λ a. (up ended : ℕ → ℕ → Bool) → HasCleared N.site N.run_seed up ended self → HasInstalled N.site N.run_seed up ended a) }
-        ensures broken { IfErr result (λ a. (up ended : ℕ → ℕ → Bool) → HasCleared N.site N.run_seed up ended self → BreaksOff N.site N.run_seed up ended a) }
+        ensures { InstallsSo N.site N.run_seed self result }
     {
         let Revoked {
             mut launcher,
@@ -169,50 +165,6 @@ impl<N: Staffed, J: Site, C: CellNames, K: Keeper, S: Sink, F: Children> Revoked
     }
 }
 
-impl<N: Staffed, J: Site, C: CellNames, K: Keeper, S: Sink, F: Children> Installed<
-    N,
-    J,
-    C,
-    K,
-    S,
-    F,
-> {
-    /// Starts the child of the incarnation, and boots its cell.
-    pub(crate) fn boot<R: Wait>(
-        self,
-        rt: &R,
-        cells: &CellLocks<N, C, F::Link>,
-    ) -> Result<Booted<N, J, C, K, S, F>, (Missed, Broken<N, J, C, K, S, F>)>
-        ensures ok { IfOk result (λ a. GoesOn self a) }
-        ensures err { IfErr result (λ e. GoesOn self e.1) }
-        ensures cause { IfErr result (λ e. e.0 ≡ Missed.Failed → FailsBy self.service self.incarnation self.launcher.crew.family e.1.launcher.crew.family) }
-        ensures fault { IfErr result (λ e. e.0 ≡ Missed.Failed → MayFail N.children e.1.service e.1.incarnation e.1.launcher) }
-        ensures way { IfOk result (λ a. (up ended : ℕ → ℕ → Bool) → HasInstalled N.site N.run_seed up ended self → HasBooted N.site N.run_seed up ended a) }
-        ensures missed { IfErr result (λ e. (up ended : ℕ → ℕ → Bool) → HasInstalled N.site N.run_seed up ended self → HasInstalled N.site N.run_seed up ended e.1) }
-    {
-        let Installed {
-            mut launcher,
-            service,
-            incarnation,
-        } = self;
-        match launcher.start(rt, cells, service, incarnation) {
-            Ok(()) => Ok(Booted {
-                launcher,
-                service,
-                incarnation,
-            }),
-            Err(missed) => Err((
-                missed,
-                Broken {
-                    launcher,
-                    service,
-                    incarnation,
-                },
-            )),
-        }
-    }
-}
-
 impl<N: Staffed, J: Site, C: CellNames, K: Keeper, S: Sink, F: Children> Booted<N, J, C, K, S, F> {
     /// Has the incarnation be up.
     pub(crate) fn up<R: Wait>(
@@ -220,10 +172,7 @@ impl<N: Staffed, J: Site, C: CellNames, K: Keeper, S: Sink, F: Children> Booted<
         rt: &R,
         locks: &Locks<N, J, K, S>,
     ) -> Result<Launcher<N, J, C, K, S, F>, Broken<N, J, C, K, S, F>>
-        ensures ok { IfOk result (λ l. (l.journal ≡ self.launcher.journal) × (up_in l self.service ≡ self.incarnation)) }
-        ensures err { IfErr result (λ a. GoesOn self a) }
-        ensures whole { IfOk result (λ l. (up ended : ℕ → ℕ → Bool) → HasBooted N.site N.run_seed up ended self → IsClosed N.site N.run_seed (with_up self.service self.incarnation up) ended l) }
-        ensures broken { IfErr result (λ a. (up ended : ℕ → ℕ → Bool) → HasBooted N.site N.run_seed up ended self → BreaksOff N.site N.run_seed up ended a) }
+        ensures { ComesUpSo N.site N.run_seed self result }
     {
         let Booted {
             mut launcher,

@@ -1,27 +1,16 @@
 //! The steps of a launch.
 
-ghost use Rattle.std.specs.Prelude.{◌≡◌, ◌<◌, ◌≤◌, ◌+◌, ◌∷◌, ℕ, List, None, length, OnOk, OnErr, IfOk, IsErrOf};
+ghost use Rattle.std.specs.Prelude.{◌≡◌, ◌<◌, ◌≤◌, ◌+◌, None, length, IfOk};
 ghost use Rattle.okws_base.specs.declared.limit.TheConstants.{MOST_INCARNATIONS, MOST_PROXIES};
-ghost use Rattle.okws_plan.specs.declared.event.LauncherEvent.TheVariants as event;
-ghost use Rattle.okws_plan.specs.Configuration.{cols};
-ghost use Rattle.okws_plan.specs.declared.event.OkdEvent.TheVariants as okd;
-ghost use Rattle.okws_plan.specs.declared.script.Place.{Place};
-ghost use Rattle.monitor_model.specs.declared.record.Own.TheVariants as own;
 ghost use Rattle.monitor_model.specs.Cell.{incarnation as incarnation_of, last_booted, boot_frame};
 ghost use Rattle.monitor_model.specs.Launcher.{begun};
-ghost use Rattle.monitor_model.specs.Launches.{with_cleared, with_installs, with_revokes};
 ghost use Rattle.site_cells.specs.Row.{seen_at};
-ghost use Rattle.launch_journal.specs.Launches.{Allows, entered};
+ghost use Rattle.launch_journal.specs.Launches.{Allows};
 ghost use Rattle.launch_journal.specs.declared.next.Next.TheVariants as next;
-ghost use Rattle.launch_crew.specs.Coming.{came_up};
-ghost use Rattle.launch_crew.specs.Crews.{Under, IsQuiet, StandsAt, RunsAs, NoneStands, child_of};
-ghost use Rattle.launch_crew.specs.Listed.{AreCounted, CellsGo, InstallsFirst, of_cells};
-ghost use Rattle.launch_crew.specs.Steps.{SameHands};
-ghost use Rattle.launch_crew.specs.Told.{FailsBy, TellsMore};
-ghost use Rattle.okld_launch.specs.Causing.{BrokeOff};
-ghost use Rattle.okld_launch.specs.Children.{StaysAttended};
+ghost use Rattle.launch_crew.specs.Crews.{Under, StandsAt, RunsAs, child_of};
+ghost use Rattle.okld_launch.specs.Acts.{Begins, Clears, ComesUp, InstallsAll, RevokesAll, StartsAs};
 ghost use Rattle.okld_launch.specs.Kin.{Unstarted};
-ghost use Rattle.okld_launch.specs.Launchers.{MayFail, MayLaunch, up_in};
+ghost use Rattle.okld_launch.specs.Launchers.{MayLaunch, up_in};
 
 use crate::launcher::Launcher;
 use crate::named::Staffed;
@@ -59,15 +48,7 @@ impl<N: Staffed, J: Site, C: CellNames, K: Keeper, S: Sink, F: Children> Launche
         requires may { Allows N.site self.old.journal.past service next.Begin }
         requires cause { MayLaunch service self.old }
         requires room { 0 < self.old.journal.room }
-        ensures is { result ≡ begun self.old.journal.past service + 1 }
-        ensures journal { self.new.journal ≡ entered self.old.journal (event.Begun service result) }
-        ensures under { Under service result self.new.crew }
-        ensures fresh { BrokeOff (came_up self.new.crew.sat) self.new.journal.past service result }
-        ensures family { self.new.crew.family ≡ self.old.crew.family }
-        ensures unstarted { Unstarted service result N.children self.new.crew.family }
-        ensures list { (self.new.crew.own ≡ self.old.crew.own) × (self.new.crew.watch ≡ self.old.crew.watch) }
-        ensures running { self.new.crew.running ≡ self.old.crew.running }
-        ensures room { self.new.crew.room ≡ self.old.crew.room }
+        ensures { Begins service result N.children self.old self.new }
     {
         let incarnation = self.journal.begin(service);
         self.crew.recorder.raise(locks, service, incarnation);
@@ -86,17 +67,7 @@ impl<N: Staffed, J: Site, C: CellNames, K: Keeper, S: Sink, F: Children> Launche
         requires service { service < length N.site.services }
         requires cause { MayLaunch service self.old }
         requires room { MOST_PROXIES + 4 + length N.site.services ≤ self.old.crew.room }
-        ensures journal { self.new.journal ≡ self.old.journal }
-        ensures quiet { IsQuiet N.site service self.new.crew }
-        ensures down { up_in self.new service ≡ 0 }
-        ensures under { (k : ℕ) → Under service k self.old.crew → Under service k self.new.crew }
-        ensures told { TellsMore self.old.crew.family self.new.crew.family }
-        ensures started { self.new.crew.family.started ≡ self.old.crew.family.started }
-        ensures stays { StaysAttended self.old.crew self.new.crew }
-        ensures own { self.new.crew.own ≡ with_cleared N.site (of_cells self.new.crew.watch.cells) service self.old.crew.own }
-        ensures behind { CellsGo self.old.crew.watch self.new.crew.watch }
-        ensures counted { AreCounted self.old.crew.watch self.old.crew.own }
-        ensures room { self.old.crew.room ≤ self.new.crew.room + (MOST_PROXIES + 4) }
+        ensures { Clears N.site service self.old self.new }
     {
         self.crew.recorder.keeps();
         self.crew.recorder.down(rt, locks, service);
@@ -119,13 +90,7 @@ impl<N: Staffed, J: Site, C: CellNames, K: Keeper, S: Sink, F: Children> Launche
         requires under { Under service incarnation self.old.crew }
         requires down { up_in self.old service ≡ 0 }
         requires room { MOST_PROXIES + 2 + length N.site.services ≤ self.old.crew.room }
-        ensures journal { self.new.journal ≡ self.old.journal }
-        ensures ups { self.new.ups ≡ self.old.ups }
-        ensures hands { SameHands self.old.crew self.new.crew }
-        ensures stands { OnOk result (StandsAt N.site service incarnation self.new.crew.sat) }
-        ensures added { OnOk result (self.new.crew.own ≡ with_installs N.run_seed service incarnation (cols N.site service) self.old.crew.own) }
-        ensures front { OnErr result ((rest : List Place) × InstallsFirst N.run_seed service incarnation (cols N.site service) rest self.old.crew.own self.new.crew.own) }
-        ensures room { self.old.crew.room ≤ self.new.crew.room + (MOST_PROXIES + 2) }
+        ensures { InstallsAll N.site N.run_seed service incarnation result self.old self.new }
     {
         let site = &self.site;
         let seed = &self.seed;
@@ -139,13 +104,7 @@ impl<N: Staffed, J: Site, C: CellNames, K: Keeper, S: Sink, F: Children> Launche
         requires service { service < length N.site.services }
         requires down { up_in self.old service ≡ 0 }
         requires room { MOST_PROXIES + 2 + length N.site.services ≤ self.old.crew.room }
-        ensures journal { self.new.journal ≡ self.old.journal }
-        ensures ups { self.new.ups ≡ self.old.ups }
-        ensures none { NoneStands N.site service self.new.crew.sat }
-        ensures cells { self.new.crew.watch ≡ self.old.crew.watch }
-        ensures running { self.new.crew.running ≡ self.old.crew.running }
-        ensures family { self.new.crew.family ≡ self.old.crew.family }
-        ensures own { self.new.crew.own ≡ with_revokes N.site service self.old.crew.own }
+        ensures { RevokesAll N.site service self.old self.new }
     {
         self.crew.recorder.revoke(rt, locks, service);
     }
@@ -179,19 +138,7 @@ impl<N: Staffed, J: Site, C: CellNames, K: Keeper, S: Sink, F: Children> Launche
         requires child { child_of self.old.crew service ≡ None }
         requires unstarted { Unstarted service incarnation N.children self.old.crew.family }
         requires room { 1 + length N.site.services ≤ self.old.crew.room }
-        ensures journal { self.new.journal ≡ self.old.journal }
-        ensures ups { self.new.ups ≡ self.old.ups }
-        ensures columns { self.new.crew.sat ≡ self.old.crew.sat }
-        ensures child { OnOk result (RunsAs incarnation (child_of self.new.crew service)) }
-        ensures cause { IsErrOf result Missed.Failed → FailsBy service incarnation self.old.crew.family self.new.crew.family }
-        ensures fault { IsErrOf result Missed.Failed → MayFail N.children service incarnation self.new }
-        ensures told { TellsMore self.old.crew.family self.new.crew.family }
-        ensures stays { child_of self.old.crew service ≡ None → StaysAttended self.old.crew self.new.crew }
-        ensures added { OnOk result (self.new.crew.own ≡ own.Boot service incarnation ∷ self.old.crew.own) }
-        ensures kept { OnErr result (self.new.crew.own ≡ self.old.crew.own) }
-        ensures behind { CellsGo self.old.crew.watch self.new.crew.watch }
-        ensures counted { AreCounted self.old.crew.watch self.old.crew.own }
-        ensures room { self.old.crew.room ≤ self.new.crew.room + 1 }
+        ensures { StartsAs service incarnation N.children result self.old self.new }
     {
         self.crew.recorder.keeps();
         let Ok(tokens) = self.tokens(service, incarnation) else {
@@ -219,15 +166,7 @@ impl<N: Staffed, J: Site, C: CellNames, K: Keeper, S: Sink, F: Children> Launche
         requires child { RunsAs incarnation (child_of self.old.crew service) }
         requires down { up_in self.old service ≡ 0 }
         requires room { 1 + length N.site.services ≤ self.old.crew.room }
-        ensures journal { self.new.journal ≡ self.old.journal }
-        ensures family { self.new.crew.family ≡ self.old.crew.family }
-        ensures ok { OnOk result (up_in self.new service ≡ incarnation) }
-        ensures err { OnErr result (up_in self.new service ≡ 0) }
-        ensures cells { self.new.crew.watch ≡ self.old.crew.watch }
-        ensures running { self.new.crew.running ≡ self.old.crew.running }
-        ensures added { OnOk result (self.new.crew.own ≡ own.Okd (okd.Up service incarnation) ∷ self.old.crew.own) }
-        ensures kept { OnErr result (self.new.crew.own ≡ self.old.crew.own) }
-        ensures room { self.old.crew.room ≤ self.new.crew.room + 1 }
+        ensures { ComesUp service incarnation result self.old self.new }
     {
         self.crew.recorder.up(rt, locks, service, incarnation)?;
         self.ups[service as usize] = incarnation;

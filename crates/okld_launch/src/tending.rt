@@ -1,6 +1,7 @@
 //! How the launcher looks after a service.
 
 ghost use Rattle.std.specs.Prelude.{◌≡◌, ◌<◌, ◌≤◌, ℕ, Bool, true, length};
+ghost use Rattle.okld_launch.specs.Acts.{TurnsSo};
 ghost use Rattle.okld_launch.specs.Going.{GoesIf, GoesTended};
 ghost use Rattle.okld_launch.specs.Ups.{ends_after, launch_up_if, tend_up, ups_after};
 ghost use Rattle.okld_launch.specs.Pieces.{IsClosed};
@@ -46,6 +47,21 @@ impl<N: Staffed, J: Site, C: CellNames, K: Keeper, S: Sink, F: Children> Launche
         ensures few { length result.2 ≤ most_entered N.site }
         ensures whole { (up ended : ℕ → ℕ → Bool) → IsClosed N.site N.run_seed up ended self → IsClosed N.site N.run_seed (ups_after (tend_up result.1) result.2 up) (ends_after true result.2 ended) result.0 }
         ensures holder { result.0.journal.holder ≡ self.journal.holder }
+    {
+        self.tend_service(rt, gate, locks, cells, service)
+    }
+
+    // The same, with one clause.
+    fn tend_service<R: Wait, G: Gate>(
+        self,
+        rt: &R,
+        gate: &G,
+        locks: &Locks<N, J, K, S>,
+        cells: &CellLocks<N, C, F::Link>,
+        service: u16,
+    ) -> (Self, Tended, Entered)
+        requires { service < length N.site.services }
+        ensures { TurnsSo (GoesTended N.site self.journal.holder service self result.1 result.0) N.site N.run_seed (tend_up result.1) (ends_after true result.2) result.2 self result.0 }
     {
         let mut launcher = self;
         launcher.keeps();

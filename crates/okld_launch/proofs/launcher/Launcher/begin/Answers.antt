@@ -12,6 +12,7 @@ use Rattle.launch_crew.proofs.Ended.{attended_same}
 use Rattle.okld_launch.proofs.Kept.{kin_begun, kin_moved, unstarted_begun}
 use Rattle.okld_launch.proofs.Boots.{boots_kept}
 use Rattle.okld_launch.proofs.Faults.{faults_entered, faults_kept}
+use Rattle.okld_launch.specs.Acts.{Begins}
 use Rattle.okld_launch.proofs.launcher.Launcher.begin.Goals as goal
 
 pub invariant_of-self : goal.invariant_of-self
@@ -31,13 +32,19 @@ invariant_of-self g c = record {
 pub raise-requires-clause-above : goal.raise-requires-clause-above
 raise-requires-clause-above g c = omega (arith, (c.self.invariant.keeps.each c.args.service).below.board, c.begin-incarnation.ensures.next)
 
-pub returns-clause-under : goal.returns-clause-under
-returns-clause-under g c = subst (λ (r : Recorded). Under c.args.service c.begin-incarnation.result (crew_of r c.self.inside.crew.staff)) (sym c.raise.ensures.is)
-    (under_next c.args.service (begun c.self.inside.journal.past c.args.service) c.begin-incarnation.result (crew_of c.self.inside.crew.recorder c.self.inside.crew.staff) c.begin-incarnation.ensures.next (c.self.invariant.keeps.each c.args.service).below)
-
-pub returns-clause-fresh : goal.returns-clause-fresh
-returns-clause-fresh g c = begun_fresh c.args.service c.begin-incarnation.result (launcher_of c.self.inside.journal c.self.inside.crew.recorder c.self.inside.crew.staff c.self.inside.ups.items) (launcher_of c.begin-incarnation.new.self c.raise.new.self c.self.inside.crew.staff c.self.inside.ups.items) c.begin-incarnation.ensures.entered
-    (λ s k. ap (λ (r : Recorded). came_up r.sat s k) c.raise.ensures.is) c.begin-incarnation.ensures.next c.self.invariant.caused
-
-pub returns-clause-unstarted : goal.returns-clause-unstarted
-returns-clause-unstarted g c = unstarted_begun g.N.Numbered.site g.N.Numbered.run_seed g.N.Staffed.children c.args.service c.begin-incarnation.result c.self.inside.journal (crew_of c.self.inside.crew.recorder c.self.inside.crew.staff) c.begin-incarnation.ensures.next c.self.invariant.kin
+pub returns : goal.returns
+returns g c =
+    let new = launcher_of c.begin-incarnation.new.self c.raise.new.self c.self.inside.crew.staff c.self.inside.ups.items in
+    subst (λ (x : LauncherIs). Begins c.args.service c.begin-incarnation.result g.N.Staffed.children x new) c.self.view_is (record {
+      is = c.begin-incarnation.ensures.next;
+      journal = c.begin-incarnation.ensures.entered;
+      under = subst (λ (r : Recorded). Under c.args.service c.begin-incarnation.result (crew_of r c.self.inside.crew.staff)) (sym c.raise.ensures.is)
+          (under_next c.args.service (begun c.self.inside.journal.past c.args.service) c.begin-incarnation.result (crew_of c.self.inside.crew.recorder c.self.inside.crew.staff) c.begin-incarnation.ensures.next (c.self.invariant.keeps.each c.args.service).below);
+      fresh = begun_fresh c.args.service c.begin-incarnation.result (launcher_of c.self.inside.journal c.self.inside.crew.recorder c.self.inside.crew.staff c.self.inside.ups.items) (launcher_of c.begin-incarnation.new.self c.raise.new.self c.self.inside.crew.staff c.self.inside.ups.items) c.begin-incarnation.ensures.entered
+          (λ s k. ap (λ (r : Recorded). came_up r.sat s k) c.raise.ensures.is) c.begin-incarnation.ensures.next c.self.invariant.caused;
+      family = refl;
+      unstarted = unstarted_begun g.N.Numbered.site g.N.Numbered.run_seed g.N.Staffed.children c.args.service c.begin-incarnation.result c.self.inside.journal (crew_of c.self.inside.crew.recorder c.self.inside.crew.staff) c.begin-incarnation.ensures.next c.self.invariant.kin;
+      list = (ap (λ (r : Recorded). r.own) c.raise.ensures.is, ap (λ (r : Recorded). r.watch) c.raise.ensures.is);
+      running = refl;
+      room = ap (λ (r : Recorded). r.room) c.raise.ensures.is;
+    })

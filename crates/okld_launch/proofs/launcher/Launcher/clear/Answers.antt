@@ -1,24 +1,23 @@
-use Rattle.std.proofs.Common.{◌≡◌, ◌∙◌, refl, sym, ap, subst, arith}
+use Rattle.std.proofs.Common.{◌∙◌, refl, sym, ap, subst, arith, ℕ, ◌<◌, get_or-set_same}
 use Rattle.std.specs.Prelude.{slice_set}
-use Rattle.launch_crew.specs.Crews.{Under, child_of, crew_of}
+use Rattle.launch_crew.specs.Crews.{child_of, crew_of}
 use Rattle.okld_launch.specs.Launchers.{LauncherIs, MayLaunch}
 use Rattle.okld_launch.proofs.Begins.{launcher_of}
 use Rattle.okld_launch.proofs.Placing.{cleared, quiet_clears, under_clears}
-use Rattle.launch_crew.specs.Told.{TellsMore}
 use Rattle.launch_crew.proofs.Children.{more_emptied}
 use Rattle.okld_launch.proofs.Failing.{told_more}
 use Rattle.okld_launch.proofs.Caused.{cleared_caused, cleared_none}
 use Rattle.site_cells.specs.Row.{CellsSeen}
-use Rattle.monitor_model.specs.Launches.{with_cleared, with_retired, with_revokes}
-use Rattle.launch_crew.specs.Listed.{of_cells, AreCounted, CellsGo}
+use Rattle.monitor_model.specs.Launches.{with_retired, with_revokes}
+use Rattle.launch_crew.specs.Listed.{of_cells, CellsGo}
 use Rattle.launch_crew.proofs.Retiring.{counted_of}
-use Rattle.okld_launch.specs.Children.{StaysAttended}
 use Rattle.okld_launch.proofs.Children.{stays_emptied, stays_on, stays_same}
 use Rattle.launch_crew.proofs.Ended.{attended_emptied, attended_same}
 use Rattle.okld_launch.proofs.KinChange.{kin_emptied, named_at}
 use Rattle.okld_launch.proofs.Kept.{kin_moved, started_emptied}
 use Rattle.okld_launch.proofs.Boots.{cleared_boots}
 use Rattle.okld_launch.proofs.Faults.{faults_emptied, faults_kept}
+use Rattle.okld_launch.specs.Acts.{Clears}
 use Rattle.okld_launch.proofs.launcher.Launcher.clear.Goals as goal
 
 pub invariant_of-self : goal.invariant_of-self
@@ -53,51 +52,40 @@ invariant_of-self g c = record {
       (c.empty.ensures.ended (attended_same (crew_of c.self.inside.crew.recorder c.self.inside.crew.staff) (crew_of c.revoke.new.self c.self.inside.crew.staff) (c.revoke.ensures.cells ∙ c.down.ensures.cells) refl c.self.invariant.attended)) (faults_kept g.N.Staffed.children c.self.inside.journal.past (crew_of c.self.inside.crew.recorder c.self.inside.crew.staff) (crew_of c.revoke.new.self c.self.inside.crew.staff) refl (c.revoke.ensures.cells ∙ c.down.ensures.cells) c.self.invariant.faults);
 }
 
-pub returns-clause-quiet : goal.returns-clause-quiet
-returns-clause-quiet g c = quiet_clears g.N.Numbered.site c.args.service (crew_of c.self.inside.crew.recorder c.self.inside.crew.staff) (crew_of c.down.new.self c.self.inside.crew.staff) (crew_of c.revoke.new.self c.self.inside.crew.staff) (crew_of c.empty.new.self.recorder c.empty.new.self.staff)
-    (record {
-      down_hands = record { watch_is = c.down.ensures.cells; running_is = refl; family_is = refl };
-      downs = c.down.ensures.downs;
-      revoke_hands = record { watch_is = c.revoke.ensures.cells; running_is = refl; family_is = refl };
-      revokes = c.revoke.ensures.revokes;
-      empties = c.empty.ensures.empties;
-    })
-
-pub returns-clause-under : goal.returns-clause-under
-returns-clause-under g c = λ k h. under_clears g.N.Numbered.site c.args.service k (crew_of c.self.inside.crew.recorder c.self.inside.crew.staff) (crew_of c.down.new.self c.self.inside.crew.staff) (crew_of c.revoke.new.self c.self.inside.crew.staff) (crew_of c.empty.new.self.recorder c.empty.new.self.staff)
-    (record {
-      down_hands = record { watch_is = c.down.ensures.cells; running_is = refl; family_is = refl };
-      downs = c.down.ensures.downs;
-      revoke_hands = record { watch_is = c.revoke.ensures.cells; running_is = refl; family_is = refl };
-      revokes = c.revoke.ensures.revokes;
-      empties = c.empty.ensures.empties;
-    })
-    (subst (λ (x : LauncherIs). Under c.args.service k x.crew) (sym c.self.view_is) h)
-
-pub returns-clause-told : goal.returns-clause-told
-returns-clause-told g c = subst (λ (x : LauncherIs). TellsMore x.crew.family c.empty.new.self.staff.family) c.self.view_is
-    (more_emptied c.args.service (crew_of c.revoke.new.self c.self.inside.crew.staff) (crew_of c.empty.new.self.recorder c.empty.new.self.staff) c.empty.ensures.empties)
-
-pub returns-clause-own : goal.returns-clause-own
-returns-clause-own g c =
-    let w = c.empty.new.self.recorder.watch in
-    subst (λ (x : LauncherIs). c.empty.new.self.recorder.own ≡ with_cleared g.N.Numbered.site (of_cells w.cells) c.args.service x.crew.own) c.self.view_is
-    (c.empty.ensures.empties.own_is ∙ ap (with_retired (of_cells w.cells) c.args.service) (c.revoke.ensures.own ∙ ap (with_revokes g.N.Numbered.site c.args.service) c.down.ensures.own))
-
-pub returns-clause-behind : goal.returns-clause-behind
-returns-clause-behind g c = subst (λ (x : LauncherIs). CellsGo x.crew.watch c.empty.new.self.recorder.watch) c.self.view_is
-    (subst (λ (v : CellsSeen). CellsGo v c.empty.new.self.recorder.watch) (c.revoke.ensures.cells ∙ c.down.ensures.cells) c.empty.ensures.empties.behind)
-
-pub returns-clause-counted : goal.returns-clause-counted
-returns-clause-counted g c = subst (λ (x : LauncherIs). AreCounted x.crew.watch x.crew.own) c.self.view_is (counted_of g.N.Numbered.site g.N.Numbered.launcher c.self.inside.crew.recorder c.keeps.ensures)
-
-pub returns-clause-stays : goal.returns-clause-stays
-returns-clause-stays g c =
+pub returns : goal.returns
+returns g c =
+    let C = g.N.Numbered.site in
+    let s = c.args.service in
     let before = crew_of c.self.inside.crew.recorder c.self.inside.crew.staff in
+    let down = crew_of c.down.new.self c.self.inside.crew.staff in
     let mid = crew_of c.revoke.new.self c.self.inside.crew.staff in
     let after = crew_of c.empty.new.self.recorder c.empty.new.self.staff in
-    subst (λ (x : LauncherIs). StaysAttended x.crew after) c.self.view_is
-    (stays_on before mid after (stays_same before mid refl (c.revoke.ensures.cells ∙ c.down.ensures.cells) refl) (stays_emptied c.args.service mid after c.empty.ensures.empties))
-
-pub returns-clause-started : goal.returns-clause-started
-returns-clause-started g c = subst (λ (x : LauncherIs). c.empty.new.self.staff.family.started ≡ x.crew.family.started) c.self.view_is (started_emptied c.args.service (crew_of c.revoke.new.self c.self.inside.crew.staff) (crew_of c.empty.new.self.recorder c.empty.new.self.staff) c.empty.ensures.empties)
+    let cells = after.watch.cells in
+    let within = subst (λ (n : ℕ). s < n) (sym c.self.invariant.keeps.ups_are) c.requires.service in
+    subst (λ (x : LauncherIs). Clears C s x (launcher_of c.self.inside.journal c.empty.new.self.recorder c.empty.new.self.staff (slice_set c.self.inside.ups.items s 0))) c.self.view_is (record {
+      journal = refl;
+      quiet = quiet_clears C s before down mid after
+          (record {
+            down_hands = record { watch_is = c.down.ensures.cells; running_is = refl; family_is = refl };
+            downs = c.down.ensures.downs;
+            revoke_hands = record { watch_is = c.revoke.ensures.cells; running_is = refl; family_is = refl };
+            revokes = c.revoke.ensures.revokes;
+            empties = c.empty.ensures.empties;
+          });
+      down = get_or-set_same c.self.inside.ups.items s 0 0 within;
+      under = λ k h. under_clears C s k before down mid after
+          (record {
+            down_hands = record { watch_is = c.down.ensures.cells; running_is = refl; family_is = refl };
+            downs = c.down.ensures.downs;
+            revoke_hands = record { watch_is = c.revoke.ensures.cells; running_is = refl; family_is = refl };
+            revokes = c.revoke.ensures.revokes;
+            empties = c.empty.ensures.empties;
+          }) h;
+      told = more_emptied s mid after c.empty.ensures.empties;
+      started = started_emptied s mid after c.empty.ensures.empties;
+      stays = stays_on before mid after (stays_same before mid refl (c.revoke.ensures.cells ∙ c.down.ensures.cells) refl) (stays_emptied s mid after c.empty.ensures.empties);
+      own = c.empty.ensures.empties.own_is ∙ ap (with_retired (of_cells cells) s) (c.revoke.ensures.own ∙ ap (with_revokes C s) c.down.ensures.own);
+      behind = subst (λ (v : CellsSeen). CellsGo v after.watch) (c.revoke.ensures.cells ∙ c.down.ensures.cells) c.empty.ensures.empties.behind;
+      counted = counted_of C g.N.Numbered.launcher c.self.inside.crew.recorder c.keeps.ensures;
+      room = omega (arith, c.down.ensures.room, c.revoke.ensures.room, c.empty.ensures.empties.room);
+    })

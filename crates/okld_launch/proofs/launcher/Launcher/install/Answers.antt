@@ -1,19 +1,17 @@
-use Rattle.std.proofs.Common.{◌∙◌, ◌≤◌, List, refl, sym, ap, subst, arith}
+use Rattle.std.proofs.Common.{◌∙◌, ◌≤◌, refl, sym, ap, subst, arith}
 use Rattle.monitor_model.specs.Launcher.{begun}
 use Rattle.okld_launch.specs.Launchers.{LauncherIs, up_in}
 use Rattle.okld_launch.proofs.Begins.{launcher_of}
 use Rattle.okld_launch.proofs.Placing.{installed_kept}
 use Rattle.okld_launch.proofs.Caused.{kept_caused}
 use Rattle.launch_crew.proofs.Coming.{none_columns}
-use Rattle.std.specs.Prelude.{OnErr}
 use Rattle.okws_plan.specs.Configuration.{cols}
-use Rattle.okws_plan.specs.declared.script.Place.{Place}
-use Rattle.launch_crew.specs.Listed.{InstallsFirst}
 use Rattle.launch_crew.proofs.Ended.{attended_same}
 use Rattle.launch_crew.specs.Crews.{crew_of}
 use Rattle.okld_launch.proofs.Kept.{kin_moved}
 use Rattle.okld_launch.proofs.Boots.{installed_boots}
 use Rattle.okld_launch.proofs.Faults.{faults_kept}
+use Rattle.okld_launch.specs.Acts.{InstallsAll}
 use Rattle.okld_launch.proofs.launcher.Launcher.install.Goals as goal
 
 pub invariant_of-self : goal.invariant_of-self
@@ -31,5 +29,15 @@ invariant_of-self g c = record {
   faults = faults_kept g.N.Staffed.children c.self.inside.journal.past (crew_of c.self.inside.crew.recorder c.self.inside.crew.staff) (crew_of c.install.new.self c.self.inside.crew.staff) refl c.install.ensures.cells c.self.invariant.faults;
 }
 
-pub returns-clause-front : goal.returns-clause-front
-returns-clause-front g c = subst (λ (x : LauncherIs). OnErr c.install.result ((rest : List Place) × InstallsFirst g.N.Numbered.run_seed c.args.service c.args.incarnation (cols g.N.Numbered.site c.args.service) rest x.crew.own c.install.new.self.own)) c.self.view_is c.install.ensures.front
+pub returns : goal.returns
+returns g c =
+    let new = launcher_of c.self.inside.journal c.install.new.self c.self.inside.crew.staff c.self.inside.ups.items in
+    subst (λ (x : LauncherIs). InstallsAll g.N.Numbered.site g.N.Numbered.run_seed c.args.service c.args.incarnation c.install.result x new) c.self.view_is (record {
+      journal = refl;
+      ups = refl;
+      hands = record { watch_is = c.install.ensures.cells; running_is = refl; family_is = refl };
+      stands = c.install.ensures.ok;
+      added = c.install.ensures.added;
+      front = c.install.ensures.front;
+      room = c.install.ensures.room;
+    })

@@ -1,4 +1,4 @@
-use Rattle.std.proofs.Common.{◌∙◌, refl, ap, arith}
+use Rattle.std.proofs.Common.{◌∙◌, refl, ap, arith, subst}
 use Rattle.okld_launch.specs.Launchers.{LauncherIs, up_in}
 use Rattle.okld_launch.proofs.Begins.{launcher_of}
 use Rattle.okld_launch.proofs.Placing.{revoked_kept}
@@ -9,6 +9,7 @@ use Rattle.launch_crew.specs.Crews.{crew_of}
 use Rattle.okld_launch.proofs.Kept.{kin_moved}
 use Rattle.okld_launch.proofs.Boots.{revoked_boots}
 use Rattle.okld_launch.proofs.Faults.{faults_kept}
+use Rattle.okld_launch.specs.Acts.{RevokesAll}
 use Rattle.okld_launch.proofs.launcher.Launcher.revoke.Goals as goal
 
 pub invariant_of-self : goal.invariant_of-self
@@ -25,3 +26,16 @@ invariant_of-self g c = record {
   kin = kin_moved g.N.Numbered.site g.N.Numbered.run_seed g.N.Staffed.children c.self.inside.journal.past (crew_of c.self.inside.crew.recorder c.self.inside.crew.staff) (crew_of c.revoke.new.self c.self.inside.crew.staff) refl refl c.revoke.ensures.cells (revoked_boots g.N.Numbered.site c.args.service c.self.inside.crew.recorder.own c.revoke.new.self.own c.revoke.ensures.own) c.self.invariant.kin;
   faults = faults_kept g.N.Staffed.children c.self.inside.journal.past (crew_of c.self.inside.crew.recorder c.self.inside.crew.staff) (crew_of c.revoke.new.self c.self.inside.crew.staff) refl c.revoke.ensures.cells c.self.invariant.faults;
 }
+
+pub returns : goal.returns
+returns g c =
+    let new = launcher_of c.self.inside.journal c.revoke.new.self c.self.inside.crew.staff c.self.inside.ups.items in
+    subst (λ (x : LauncherIs). RevokesAll g.N.Numbered.site c.args.service x new) c.self.view_is (record {
+      journal = refl;
+      ups = refl;
+      none = c.revoke.ensures.revokes.none;
+      cells = c.revoke.ensures.cells;
+      running = refl;
+      family = refl;
+      own = c.revoke.ensures.own;
+    })

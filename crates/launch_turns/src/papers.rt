@@ -12,7 +12,6 @@ use launch_crew::crew::Crew;
 use launch_journal::LaunchJournal;
 use okld_launch::launcher::Launcher;
 use okld_launch::named::Staffed;
-use okws_base::told::Told;
 use okws_outer::children::Children;
 use okws_outer::keeper::Keeper;
 use okws_outer::stream::Sink;
@@ -83,7 +82,7 @@ impl Papers {
         } = self;
         let crew = Crew::new(alloc, seats, cells, children, keeps)?;
         match Launcher::new(alloc, journal, crew, site, seed) {
-            Ok(launcher) => Ok(Resting::new(launcher, Told::new())),
+            Ok(launcher) => Ok(Resting::first(launcher)),
             Err(crew) => Err(crew.into_children()),
         }
     }

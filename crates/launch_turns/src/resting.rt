@@ -1,6 +1,6 @@
 //! The launcher between its turns, as it stands behind its lock.
 
-ghost use Rattle.std.specs.Prelude.{◌≡◌, ◌<◌, ◌≤◌, ◌∷◌, ℕ, length, slice_index};
+ghost use Rattle.std.specs.Prelude.{◌≡◌, ◌<◌, ◌≤◌, [], ◌∷◌, ℕ, false, length, slice_index};
 ghost use Rattle.monitor_model.specs.Launcher.{LauncherLaw, begun};
 ghost use Rattle.launch_crew.specs.Coming.{came_up};
 ghost use Rattle.launch_crew.specs.Crews.{Below, crew_of};
@@ -9,7 +9,7 @@ ghost use Rattle.okld_launch.specs.Causing.{AllCaused};
 ghost use Rattle.launch_turns.specs.Deeds.{ended_in, entries, up_in};
 ghost use Rattle.okld_launch.specs.Failures.{FailuresAreTold, FaultsAreTold};
 ghost use Rattle.okld_launch.specs.Kin.{AreKin};
-ghost use Rattle.okld_launch.specs.Pieces.{EndsAreTold, IsWhole};
+ghost use Rattle.okld_launch.specs.Pieces.{EndsAreTold, IsClosed, IsWhole};
 ghost use Rattle.launch_turns.specs.Resting.{Rests};
 
 use crate::deed::{Deed, Took};
@@ -54,6 +54,15 @@ impl<N: Staffed, J: Site, C: CellNames, K: Keeper, S: Sink, F: Children> Resting
         ensures { result ≡ record { launcher = launcher; deeds = deeds.past } }
     {
         Resting { launcher, deeds }
+    }
+
+    /// A launcher at which nothing was launched.
+    pub(crate) fn first(launcher: Launcher<N, J, C, K, S, F>) -> Self
+        requires none { launcher.journal.past ≡ [] }
+        requires closed { IsClosed N.site N.run_seed (λ s k. false) (λ s k. false) launcher }
+        ensures { result ≡ record { launcher = launcher; deeds = [] } }
+    {
+        Resting::new(launcher, Told::new())
     }
 
     /// The launcher behind one turn more.

@@ -29,11 +29,20 @@ use std::sync::Wait;
 /// The launcher's seats at the columns and at the cells of a site, and the list of what was done from them.
 /// By its type the entries that the launcher's number made, as far as it has seen, are those of its list.
 /// Each call that may enter something wants room for one item.
-#[derive(Drop)]
 pub struct Recorder<N: Backed, J: Site, C: CellNames, K: Keeper, S: Sink, L: Link> {
     pub(crate) seats: Seats<N, J, K, S>,
     pub(crate) cells: CellSeats<N, C, L>,
     pub(crate) own: Journal<Own>,
+}
+
+impl<N: Backed, J: Site, C: CellNames, K: Keeper, S: Sink, L: Link + Drop> Drop
+    for Recorder<N, J, C, K, S, L> {
+    fn drop(self) {
+        let Recorder { seats, cells, own } = self;
+        drop(seats);
+        drop(cells);
+        drop(own);
+    }
 }
 
 impl<N: Backed, J: Site, C: CellNames, K: Keeper, S: Sink, L: Link> Model
@@ -98,7 +107,8 @@ impl<N: Backed, J: Site, C: CellNames, K: Keeper, S: Sink, L: Link> Recorder<N, 
         ensures numbers { (result.0.number ≡ N.launcher) × (result.1.number ≡ N.launcher) }
         ensures own { AreOwn N.launcher result.0 result.1 result.2 }
     {
-        (self.seats, self.cells, self.own.into_past())
+        let Recorder { seats, cells, own } = self;
+        (seats, cells, own.into_past())
     }
 
     /// Shows on the board that an incarnation of the service has begun.

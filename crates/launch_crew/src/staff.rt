@@ -36,12 +36,24 @@ impl<F: Children> Model for Running<F> {
 }
 
 /// The children of a run, and which one runs of each service. Contracts see what is told of them.
-#[derive(Drop)]
 pub struct Staff<N: Numbered, F: Children> {
     alloc: Global,
     running: Vec<Option<Running<F>>>,
     children: F,
     of: PhantomData<N>,
+}
+
+impl<N: Numbered, F: Children + Drop> Drop for Staff<N, F> {
+    fn drop(self) {
+        let Staff {
+            alloc: _,
+            running,
+            children,
+            of: _,
+        } = self;
+        drop(running);
+        drop(children);
+    }
 }
 
 impl<N: Numbered, F: Children> Model for Staff<N, F> {
@@ -92,7 +104,14 @@ impl<N: Numbered, F: Children> Staff<N, F> {
     pub fn into_children(self) -> F
         ensures { F.family result ≡ self.family }
     {
-        self.children
+        let Staff {
+            alloc: _,
+            running,
+            children,
+            of: _,
+        } = self;
+        drop(running);
+        children
     }
 
     /// What a staff's type tells of it.

@@ -25,11 +25,22 @@ use std::sync::Arc;
 use token_core::Seed;
 
 /// The journal of a launcher that did nothing yet, the site, and the seed of its tokens.
-#[derive(Drop)]
 pub struct Papers {
     pub journal: LaunchJournal,
     pub site: Arc<Config, Global>,
     pub seed: Seed,
+}
+
+impl Drop for Papers {
+    fn drop(self) {
+        let Papers {
+            journal,
+            site,
+            seed: _,
+        } = self;
+        drop(journal);
+        drop(site);
+    }
 }
 
 impl Papers {

@@ -30,10 +30,17 @@ use turn_lock::Journaled;
 /// A launcher that launches nothing right now, with the turns that were taken at it, which have no bytes.
 /// By its type its list is made of whole pieces, one for each Begun of its journal, each of which went as
 /// the turns tell, and of each child that has ended by what they tell, that is told of the children.
-#[derive(Drop)]
 pub struct Resting<N: Staffed, J: Site, C: CellNames, K: Keeper, S: Sink, F: Children> {
     launcher: Launcher<N, J, C, K, S, F>,
     deeds: Told<Deed>,
+}
+
+impl<N: Staffed, J: Site, C: CellNames, K: Keeper, S: Sink, F: Children + Drop> Drop
+    for Resting<N, J, C, K, S, F> {
+    fn drop(self) {
+        let Resting { launcher, deeds: _ } = self;
+        drop(launcher);
+    }
 }
 
 impl<N: Staffed, J: Site, C: CellNames, K: Keeper, S: Sink, F: Children> Model

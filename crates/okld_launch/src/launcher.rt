@@ -34,7 +34,6 @@ use turn_lock::Journaled;
 /// the journal keeps the launcher's law, nothing was launched that was not begun, what is up stands, and for
 /// each Failed that was entered, and for each dialog that a fault of its link ended, a fault of the children
 /// was counted once that link was out, and what was begun has its cause.
-#[derive(Drop)]
 pub struct Launcher<N: Staffed, J: Site, C: CellNames, K: Keeper, S: Sink, F: Children> {
     pub(crate) alloc: Global,
     pub(crate) journal: LaunchJournal,
@@ -43,6 +42,24 @@ pub struct Launcher<N: Staffed, J: Site, C: CellNames, K: Keeper, S: Sink, F: Ch
     pub(crate) ups: Vec<u32>,
     pub(crate) site: Arc<Config, Global>,
     pub(crate) seed: Seed,
+}
+
+impl<N: Staffed, J: Site, C: CellNames, K: Keeper, S: Sink, F: Children + Drop> Drop
+    for Launcher<N, J, C, K, S, F> {
+    fn drop(self) {
+        let Launcher {
+            alloc: _,
+            journal,
+            crew,
+            ups,
+            site,
+            seed: _,
+        } = self;
+        drop(journal);
+        drop(crew);
+        drop(ups);
+        drop(site);
+    }
 }
 
 impl<N: Staffed, J: Site, C: CellNames, K: Keeper, S: Sink, F: Children> Model
@@ -130,10 +147,12 @@ impl<N: Staffed, J: Site, C: CellNames, K: Keeper, S: Sink, F: Children> Launche
             alloc: _,
             journal,
             crew,
-            ups: _,
-            site: _,
+            ups,
+            site,
             seed: _,
         } = self;
+        drop(ups);
+        drop(site);
         (journal.close(), crew)
     }
 

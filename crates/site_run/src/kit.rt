@@ -10,6 +10,7 @@ ghost use Rattle.site_making.specs.Making.{IsServable};
 ghost use Rattle.site_run.specs.Places.{AllIdle};
 ghost use Rattle.site_run.specs.Rooms.{IsStock};
 ghost use Rattle.site_run.specs.Whole.{IsReady};
+ghost use Rattle.site_run.specs.declared.room.Desk.{Desk};
 
 use crate::room::{Office, Room};
 use crate::whole::{Run, name};
@@ -35,21 +36,65 @@ use token_core::Seed;
 
 /// Memory that a run takes before it begins: its columns and its cells, whose locks have no names yet, and
 /// what is needed beside them.
-#[derive(Drop)]
 pub struct Kit<N: Backed, K: Keeper, S: Sink, L: Link> {
     pub columns: Made<N, K, S>,
     pub cells: NewCells<N, L>,
     pub stock: Stock<N, K, L>,
 }
 
+impl<N: Backed, K: Keeper + Drop, S: Sink + Drop, L: Link + Drop> Drop for Kit<N, K, S, L> {
+    fn drop(self) {
+        let Kit {
+            columns,
+            cells,
+            stock,
+        } = self;
+        drop(columns);
+        drop(cells);
+        drop(stock);
+    }
+}
+
+impl<N: Backed, K: Keeper, S: Sink, L: Link> Kit<N, K, S, L> {
+    // The columns, the cells, and what is beside them.
+    fn into_parts(self) -> (Made<N, K, S>, NewCells<N, L>, Stock<N, K, L>)
+        ensures columns { result.0 ≡ self.columns }
+        ensures cells { result.1 ≡ self.cells }
+        ensures stock { result.2 ≡ self.stock }
+    {
+        let Kit {
+            columns,
+            cells,
+            stock,
+        } = self;
+        (columns, cells, stock)
+    }
+}
+
 /// What is needed beside the locks.
-#[derive(Drop)]
 pub struct Stock<N: Backed, K: Keeper, L: Link> {
     site: Arc<Config, Global>,
     papers: Papers,
     office: Office,
     reader: Reader,
     room: Room<N, K, L>,
+}
+
+impl<N: Backed, K: Keeper + Drop, L: Link + Drop> Drop for Stock<N, K, L> {
+    fn drop(self) {
+        let Stock {
+            site,
+            papers,
+            office,
+            reader,
+            room,
+        } = self;
+        drop(site);
+        drop(papers);
+        drop(office);
+        drop(reader);
+        drop(room);
+    }
 }
 
 impl<N: Backed, K: Keeper, L: Link> Model for Stock<N, K, L> {
@@ -61,6 +106,22 @@ impl<N: Backed, K: Keeper, L: Link> Model for Stock<N, K, L> {
     ghost Value = { StockIs };
 
     ghost view = { λ x. record { shown = arc_value x.site; journal = x.papers.journal; site = arc_value x.papers.site; seed = x.papers.seed; numbers = x.office.numbers; places = map (λ (d : Desk). d.place) x.office.desks.items; lines = x.reader; room = x.room } };
+}
+
+impl<N: Backed, K: Keeper, L: Link> Stock<N, K, L> {
+    // The site, what the launcher takes, the office, the reader of the console's lines, and room for the end.
+    fn into_parts(self) -> (Arc<Config, Global>, Papers, Office, Reader, Room<N, K, L>)
+        ensures { self ≡ record { shown = arc_value result.0; journal = result.1.journal; site = arc_value result.1.site; seed = result.1.seed; numbers = result.2.numbers; places = map (λ (d : Desk). d.place) result.2.desks.items; lines = result.3; room = result.4 } }
+    {
+        let Stock {
+            site,
+            papers,
+            office,
+            reader,
+            room,
+        } = self;
+        (site, papers, office, reader, room)
+    }
 }
 
 // What a run with so many doors needs beside its locks.
@@ -161,18 +222,8 @@ pub fn begin<
     ensures beside { IfOk result (λ b. (arc_value b.site ≡ N.site) × (b.reader ≡ 0) × (b.room + 1 ≡ N.launcher)) }
     ensures back { IfErr result (λ b. (b.0.items ≡ doors.items) × (F.family b.1 ≡ F.family children)) }
 {
-    let Kit {
-        columns,
-        cells,
-        stock,
-    } = kit;
-    let Stock {
-        site,
-        papers,
-        office,
-        reader,
-        room,
-    } = stock;
+    let (columns, cells, stock) = kit.into_parts();
+    let (site, papers, office, reader, room) = stock.into_parts();
     match name::<N, J, C, K, S, F::Link>(alloc, columns, cells, keeps) {
         Err(_) => Err((doors, children)),
         Ok(named) => {

@@ -34,12 +34,24 @@ use std::sync::Wait;
 
 /// The seats of one number, with the locks that they are at and a gate, in a run whose keepers tell their
 /// rows.
-#[derive(Drop)]
 pub struct Hands<'a, R: Wait, G: Gate, N: Backed, J: Site, K: Keeper, S: Sink> {
     rt: &'a R,
     gate: &'a G,
     locks: &'a Locks<N, J, K, S>,
     seats: Seats<N, J, K, S>,
+}
+
+impl<'a, R: Wait, G: Gate, N: Backed, J: Site, K: Keeper, S: Sink> Drop
+    for Hands<'a, R, G, N, J, K, S> {
+    fn drop(self) {
+        let Hands {
+            rt: _,
+            gate: _,
+            locks: _,
+            seats,
+        } = self;
+        drop(seats);
+    }
 }
 
 impl<'a, R: Wait, G: Gate, N: Backed, J: Site, K: Keeper, S: Sink> Model
@@ -145,7 +157,13 @@ impl<'a, R: Wait, G: Gate, N: Backed, J: Site, K: Keeper, S: Sink> Hands<'a, R, 
     pub fn into_seats(self) -> Seats<N, J, K, S>
         ensures { result ≡ self.entry }
     {
-        self.seats
+        let Hands {
+            rt: _,
+            gate: _,
+            locks: _,
+            seats,
+        } = self;
+        seats
     }
 }
 

@@ -71,7 +71,6 @@ pub struct Shared<
 
 /// The seats of one number at the columns and the board, at the cells, and at the launcher's lock, with these
 /// locks. None holds a turn. Contracts see what was seen by it, and how many items it may note without memory.
-#[derive(Drop)]
 pub struct Worker<
     'a,
     R: Wait,
@@ -93,6 +92,27 @@ pub struct Worker<
     pub(crate) hands: Hands<'a, R, G, N, J, K, S>,
     pub(crate) at_cells: CellSeats<N, C, F::Link>,
     pub(crate) at_launcher: Seat<Resting<N, J, C, K, S, F>>,
+}
+
+impl<'a, R: Wait, G: Gate, N: Staffed, J: Site, C: CellNames, K: Keeper, S: Sink, F: Children> Drop
+    for Worker<'a, R, G, N, J, C, K, S, F> {
+    fn drop(self) {
+        let Worker {
+            alloc: _,
+            rt: _,
+            gate: _,
+            locks: _,
+            cells: _,
+            launcher: _,
+            services: _,
+            hands,
+            at_cells,
+            at_launcher,
+        } = self;
+        drop(hands);
+        drop(at_cells);
+        drop(at_launcher);
+    }
 }
 
 impl<'a, R: Wait, G: Gate, N: Staffed, J: Site, C: CellNames, K: Keeper, S: Sink, F: Children> Model
@@ -171,7 +191,19 @@ impl<
         ensures number { result.0.number ≡ self.entry.life.cells.number }
         ensures rest { length result.1.cells ≡ length N.site.services }
     {
-        (self.hands.into_seats(), self.at_cells, self.at_launcher)
+        let Worker {
+            alloc: _,
+            rt: _,
+            gate: _,
+            locks: _,
+            cells: _,
+            launcher: _,
+            services: _,
+            hands,
+            at_cells,
+            at_launcher,
+        } = self;
+        (hands.into_seats(), at_cells, at_launcher)
     }
 
     /// Makes so many spare places, in which items are noted without memory. Where memory is refused, nothing

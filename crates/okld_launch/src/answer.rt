@@ -4,7 +4,7 @@ ghost use Rattle.std.specs.Prelude.{◌≡◌};
 ghost use Rattle.okld_launch.specs.Ups.{crash_up, launch_up, tend_up};
 
 /// What `launch` and `relaunch` answer.
-#[derive(Clone, Copy, Debug, PartialEq, Eq)]
+#[derive(Clone, Copy)]
 pub enum Launched {
     /// This incarnation was begun in the call, and is up.
     Up(u32),
@@ -26,7 +26,7 @@ impl Launched {
 }
 
 /// What `crashed` answers.
-#[derive(Clone, Copy, Debug, PartialEq, Eq)]
+#[derive(Clone, Copy)]
 pub enum Crashed {
     /// This incarnation was begun in the call, and is up.
     Up(u32),
@@ -50,7 +50,7 @@ impl Crashed {
 }
 
 /// What `tend` answers.
-#[derive(Clone, Copy, Debug, PartialEq, Eq)]
+#[derive(Clone, Copy)]
 pub enum Tended {
     /// The service is up, and its child did not say that it has ended.
     Alive,
@@ -74,7 +74,7 @@ impl Tended {
 }
 
 /// How one attempt at a launch went.
-#[derive(Clone, Copy, Debug, PartialEq, Eq)]
+#[derive(Clone, Copy)]
 pub enum Attempt {
     /// The incarnation is up.
     Up(u32),

@@ -14,7 +14,7 @@ use okws_plan::event::LauncherEvent;
 use std::alloc::Global;
 
 /// What is counted of a run.
-#[derive(Clone, Copy, Debug, PartialEq, Eq)]
+#[derive(Clone, Copy)]
 pub struct Counts {
     /// Connections of the doors.
     pub connections: u64,

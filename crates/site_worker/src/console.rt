@@ -20,7 +20,7 @@ use site_locks::named::Site;
 use std::sync::Wait;
 
 /// How the console ended.
-#[derive(Clone, Copy, Debug, PartialEq, Eq)]
+#[derive(Clone, Copy)]
 pub enum Overseen {
     /// By `end`, or by the end of its input.
     Finished,

@@ -23,7 +23,7 @@ use std::sync::Wait;
 use turn_lock::board::Board;
 
 /// What a worker did at a door.
-#[derive(Clone, Copy, Debug, PartialEq, Eq)]
+#[derive(Clone, Copy)]
 pub struct Attended {
     /// The connections that it took, whole or cut.
     pub connections: u64,

@@ -1,6 +1,6 @@
 //! All objects of a run over one system.
 
-ghost use Rattle.std.specs.Prelude.{◌≡◌, [], None, IfOk, IsSome};
+ghost use Rattle.std.specs.Prelude.{◌≡◌, [], None, IfOk, IfSome, IsSome};
 
 use crate::children::RealChildren;
 use crate::console::RealConsole;
@@ -9,10 +9,12 @@ use crate::output::Writing;
 use crate::sinks::RealSinks;
 use okws_outer::children::Children;
 use okws_outer::conn::Conn;
+use okws_outer::files::Files as OuterFiles;
 use okws_outer::gate::NoGate;
 use okws_outer::network::Network;
 use okws_outer::sinks::Sinks;
 use okws_outer::stores::Stores;
+use okws_outer::stream::Sink;
 use okws_outer::world::Outside;
 use okws_world::equipment::Objects;
 use okws_world::equipped::Fitted;
@@ -83,7 +85,8 @@ pub type RealWorld<'r, R, I, O> = Fitted<
     NoGate,
 >;
 
-/// A world of the system, with all its objects, none of which was used yet. Fails only where memory is refused.
+/// A world of the system, with the seed and all its objects, none of which was used yet. Fails only where
+/// memory is refused.
 pub fn real_world<'r, R, I, O>(
     rt: &'r R,
     host: &'r HostRuntime,
@@ -102,6 +105,13 @@ where
     O: Write + Drop,
     ensures outside { IfOk result (λ w. IsSome w.outside) }
     ensures further { IfOk result (λ w. IsSome w.further) }
+    ensures seed { IfOk result (λ w. IfSome w.outside (λ o. o.seed ≡ seed)) }
+    ensures files { IfOk result (λ w. IfSome w.outside (λ o. ⟦<RealFiles<'r, R> as OuterFiles>⟧.shelf o.files ≡ record { held = λ path. None; opened = []; faults = 0 })) }
+    ensures out { IfOk result (λ w. IfSome w.outside (λ o. ⟦<Writing<O> as Sink>⟧.faults o.out ≡ 0)) }
+    ensures network { IfOk result (λ w. IfSome w.further (λ o. ⟦<RealNetwork<'r, R> as Network>⟧.net o.network ≡ record { listened = []; doors = []; faults = 0 })) }
+    ensures children { IfOk result (λ w. IfSome w.further (λ o. ⟦<RealChildren<'r, R> as Children>⟧.family o.children ≡ record { started = []; finished = []; faults = 0 })) }
+    ensures stores { IfOk result (λ w. IfSome w.further (λ o. ⟦<RealStores<'r> as Stores>⟧.depot o.stores ≡ record { made = []; finished = []; faults = 0 })) }
+    ensures sinks { IfOk result (λ w. IfSome w.further (λ o. ⟦<RealSinks<'r, R> as Sinks>⟧.rack o.sinks ≡ record { opened = []; closed = []; faults = 0 })) }
 {
     let things = real_objects(rt, host, host.alloc(), input, output);
     let outside = Outside {

@@ -460,12 +460,12 @@ def what_goes_wrong_is_told_on_standard_error():
         same(get(server.port), ANN_AND_BOB)
         same(server.ends()[1], 7)
         same(server.told(), ['okws: listening on 127.0.0.1:%d' % server.port, 'okws: log: could not be opened: No such file or directory']
-             + [f'okws: service 1 incarnation {k}: could not be started: No such file or directory' for k in (1, 2, 3)])
+             + [f'okws: other {k}: could not be started: No such file or directory' for k in (1, 2, 3)] + ['okws: other: given up after 3 tries'])
     program('ends', 'head -c 40 >/dev/null\nexit 3\n')
     with Server(SITE % './ends', 1) as server:
         same(get(server.port, '/other'), BAD_GATEWAY)
         same(server.ends()[1], 0)
-        same(server.told(), ['okws: listening on 127.0.0.1:%d' % server.port, 'okws: service 1 incarnation 1: ended with status 3'])
+        same(server.told(), ['okws: listening on 127.0.0.1:%d' % server.port, 'okws: other 1: ended with status 3'])
     with Server(SITE % './svc_probe', 1, '--log', '/dev/full') as server:
         same(post(server.port, 'id=3&who=cy&note=')[:12], b'HTTP/1.1 303')
         wait_until(lambda: len(server.told()) == 2)

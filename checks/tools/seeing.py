@@ -123,11 +123,16 @@ def a_script_is_explained_frame_by_frame():
     has(explained(['play', site, 'bad.script'], site, 'bad.script'), 'bad.script:1: launch gest', 'rule 2 Undeclared', 'did you mean guest')
 
 
-def what_a_server_tells_of_a_service_has_its_name():
+def what_a_server_tells_of_a_service_is_explained():
     """The lines are those of okws(1)."""
     write('shown.okws', SHOWN)
-    ended = 'incarnation 3: ended by signal 9'
-    for line, words in {f'okws: service 1 {ended}': f'other, {ended}', 'store fault': 'a store of rows', 'refused 2 1': 'no command'}.items():
+    for line, words in {
+        'okws: other 3: ended by signal 9': 'other, incarnation 3: ended by signal 9',
+        'okws: other 3: could not be started: No such file or directory': 'other, incarnation 3: could not be started: No such file or directory',
+        'okws: other: given up after 3 tries': 'until it is relaunched',
+        'store fault': 'a store of rows',
+        'refused 2 1': 'no command',
+    }.items():
         has(run('okws-explain', 'shown.okws', status=1, stdin=None, input=line + '\n'), words)
     same(run('okws-explain', 'shown.okws', stdin=None, input='okws: listening on 127.0.0.1:80\n'), 'okws: listening on 127.0.0.1:80\n')
 
@@ -245,7 +250,7 @@ def words_are_completed():
 
 CHECKS = [
     a_compartment_is_on_one_screen, a_text_may_have_other_ends_of_lines, tables_tell_who_uses_which_column, what_is_odd_is_told, what_okws_run_gives_is_shown, a_refused_configuration_is_shown_in_words,
-    refusals_are_explained_with_a_guess, a_script_is_explained_frame_by_frame, what_a_server_tells_of_a_service_has_its_name,
+    refusals_are_explained_with_a_guess, a_script_is_explained_frame_by_frame, what_a_server_tells_of_a_service_is_explained,
     each_rule_of_the_page_has_words, frames_are_taken_apart,
     a_run_is_drawn, a_refused_script_is_drawn_to_its_line, each_answer_of_a_run_is_drawn, the_page_shows_in_a_browser, words_are_completed,
 ]

@@ -6,8 +6,9 @@ ghost use Rattle.okws_outer.specs.Families.{IsNewLink};
 
 use crate::bare::Bare;
 use crate::dialogs::{REPLY, site};
-use crate::holding::holds;
+use crate::holding::{MEMORY, holds};
 use okws_base::items::Items;
+use okws_base::name::Name;
 use okws_outer::children::{Children, Started};
 use okws_outer::stream::Link;
 use outer_memory::children::{ChildPlan, MemoryChildren};
@@ -61,6 +62,12 @@ fn take_turns<R: Abort, N: Numbered, L: Link + Drop>(
     Some((answer, before, behind))
 }
 
+/// A service's name.
+fn guest(rt: &impl Abort, alloc: Global) -> Name {
+    let bytes = Items::of(Vec::from_slice(alloc, b"guest").expect(rt, MEMORY));
+    Name::new(bytes).expect(rt, "a name")
+}
+
 /// What the child of the cell's incarnation does.
 const PLANS: [ChildPlan<'static>; 1] = [ChildPlan {
     service: 0,
@@ -76,7 +83,7 @@ fn a_cell_is_taken_in_turns(rt: HostRuntime) {
     let alloc = rt.alloc();
     let mut columns = Bare::new(alloc);
     let mut children = MemoryChildren::new(alloc, &PLANS, &[]);
-    let Ok(Started { child: _, link }) = children.start(alloc, 0, 1, &[]) else {
+    let Ok(Started { child: _, link }) = children.start(alloc, 0, &guest(&rt, alloc), 1, &[]) else {
         panic!(rt; "not as planned");
     };
     let cell = Cell::new(alloc, site(&rt, alloc), [0; 32], 0, false);

@@ -24,6 +24,7 @@ use monitor_model::record::Own;
 use named_columns::named::Backed;
 use okws_base::items::Items;
 use okws_base::journal::Past;
+use okws_base::name::Name;
 use okws_outer::children::{Children, Started};
 use okws_outer::keeper::Keeper;
 use okws_outer::stream::Sink;
@@ -153,11 +154,12 @@ impl<N: Backed, J: Site, C: CellNames, K: Keeper, S: Sink, F: Children> Crew<N, 
         }
     }
 
-    /// Starts a child of the service as an incarnation of it, and boots its cell, which is empty.
+    /// Starts a child of the service, which has this name, as an incarnation of it, and boots its cell, which is empty.
     pub fn start<R: Wait>(
         &mut self,
         rt: &R,
         cells: &CellLocks<N, C, F::Link>,
+        name: &Name,
         words: &[Items<u8>],
         service: u16,
         incarnation: u32,
@@ -175,7 +177,7 @@ impl<N: Backed, J: Site, C: CellNames, K: Keeper, S: Sink, F: Children> Crew<N, 
         ensures started { OnOk result (StartsChild service incarnation words.now self.old.staff.family self.new.staff.family) }
         ensures in_vain { OnErr result (StartsNone N.site N.run_seed service incarnation words.now self.old.staff.family self.new.staff.family) }
     {
-        let started = self.staff.start(service, incarnation, words)?;
+        let started = self.staff.start(service, name, incarnation, words)?;
         self.place(rt, cells, service, incarnation, started, tokens)
     }
 

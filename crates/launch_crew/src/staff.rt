@@ -10,6 +10,7 @@ ghost use Rattle.launch_crew.specs.Told.{with_end_of};
 
 use crate::answer::Missed;
 use okws_base::items::Items;
+use okws_base::name::Name;
 use okws_outer::child::{Child, Ended};
 use okws_outer::children::{Children, Started};
 use okws_outer::error::MakeError;
@@ -162,10 +163,11 @@ impl<N: Numbered, F: Children> Staff<N, F> {
         }
     }
 
-    /// Starts a child of the service, of which nothing is kept yet.
+    /// Starts a child of the service, which has this name, and of which nothing is kept yet.
     pub fn start(
         &mut self,
         service: u16,
+        name: &Name,
         incarnation: u32,
         words: &[Items<u8>],
     ) -> Result<Started<F::Child, F::Link>, Missed>
@@ -177,7 +179,10 @@ impl<N: Numbered, F: Children> Staff<N, F> {
         ensures link { IfOk result (λ s. IsNewLink service incarnation (F.Link.wire s.link)) }
         ensures cause { IsErrOf result Missed.Failed → Rose self.old.family.faults self.new.family.faults }
     {
-        match self.children.start(self.alloc, service, incarnation, words) {
+        match self
+            .children
+            .start(self.alloc, service, name, incarnation, words)
+        {
             Ok(started) => Ok(started),
             Err(MakeError::Failed) => Err(Missed::Failed),
             Err(MakeError::NoMemory) => Err(Missed::NoMemory),
@@ -201,5 +206,12 @@ impl<N: Numbered, F: Children> Staff<N, F> {
     {
         child.stop();
         self.children.finish(service, incarnation, child, link);
+    }
+
+    /// Tells the children that the service of this name was given up, after so many tries.
+    pub fn give_up(&mut self, name: &Name, tries: u32)
+        ensures { self.new ≡ self.old }
+    {
+        self.children.give_up(name, tries);
     }
 }

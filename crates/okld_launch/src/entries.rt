@@ -124,7 +124,10 @@ impl<N: Staffed, J: Site, C: CellNames, K: Keeper, S: Sink, F: Children> Launche
         ensures { GivesUp service result self.old self.new }
     {
         self.make_room(1)?;
-        Ok(self.journal.give_up(service))
+        let tries = self.journal.give_up(service);
+        let plan = &self.site.services.as_slice()[service as usize];
+        self.crew.staff.give_up(&plan.name, tries);
+        Ok(tries)
     }
 
     /// That this incarnation of the service was begun, where it is the greatest.

@@ -144,11 +144,10 @@ impl<N: Staffed, J: Site, C: CellNames, K: Keeper, S: Sink, F: Children> Launche
         let Ok(tokens) = self.tokens(service, incarnation) else {
             return Err(Missed::NoMemory);
         };
-        let words = self.site.services.as_slice()[service as usize]
-            .words
-            .as_slice();
+        let plan = &self.site.services.as_slice()[service as usize];
+        let words = plan.words.as_slice();
         self.crew
-            .start(rt, cells, words, service, incarnation, tokens)
+            .start(rt, cells, &plan.name, words, service, incarnation, tokens)
     }
 
     /// Has the incarnation be up.

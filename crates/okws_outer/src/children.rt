@@ -8,6 +8,7 @@ use crate::child::Child;
 use crate::error::MakeError;
 use crate::stream::Link;
 use okws_base::items::Items;
+use okws_base::name::Name;
 use std::alloc::Global;
 
 /// A child, by its service and its incarnation.
@@ -76,12 +77,13 @@ pub trait Children {
     /// once it is there.
     ghost family: { Self → Family };
 
-    /// Starts a program, whose name and words these are, as an incarnation of a service. Its link leads to
-    /// it, and over that nothing came or went yet.
+    /// Starts a program, whose name and words these are, as an incarnation of a service, which has this name.
+    /// Its link leads to it, and over that nothing came or went yet.
     fn start(
         &mut self,
         alloc: Global,
         service: u16,
+        name: &Name,
         incarnation: u32,
         words: &[Items<u8>],
     ) -> Result<Started<Self::Child, Self::Link>, MakeError>
@@ -98,4 +100,8 @@ pub trait Children {
         requires incarnation { (Self.Child.life child).incarnation ≡ incarnation }
         requires stopped { (Self.Child.life child).stopped ≡ true }
         ensures { family self.new ≡ with_end (Self.Child.life child) (Self.Link.wire link) (family self.old) };
+
+    /// Is told that the service of this name was given up, after so many tries.
+    fn give_up(&mut self, name: &Name, tries: u32)
+        ensures { family self.new ≡ family self.old };
 }

@@ -9,7 +9,8 @@ use crate::link::PipeLink;
 use crate::notice;
 use crate::pipes::{ChildInput, ChildOutput};
 use crate::process::Shared;
-use okws_base::items::Items;
+use okws_base::items::{Exact, Items};
+use okws_base::name::Name;
 use okws_base::told::{Says, Told};
 use okws_outer::child::{Child, Ended};
 use okws_outer::children::{ChildEnd, ChildName, ChildStart, Children, Started};
@@ -66,6 +67,7 @@ impl Link for ChildLink {
 
 /// A child of the system.
 pub struct RealChild {
+    name: Name,
     service: u16,
     incarnation: u32,
     process: Shared,
@@ -79,6 +81,7 @@ pub struct RealChild {
 impl Drop for RealChild {
     fn drop(self) {
         let RealChild {
+            name,
             service: _,
             incarnation: _,
             process,
@@ -88,15 +91,21 @@ impl Drop for RealChild {
             faults: _,
             stopped: _,
         } = self;
+        drop(name);
         drop(process);
     }
 }
 
 impl RealChild {
-    fn new(service: u16, incarnation: u32, process: Shared) -> Self
-        ensures { ⟦<RealChild as Child>⟧.life result ≡ new_life service incarnation }
+    fn new(name: Name, whose: ChildName, process: Shared) -> Self
+        ensures { ⟦<RealChild as Child>⟧.life result ≡ new_life whose.service whose.incarnation }
     {
+        let ChildName {
+            service,
+            incarnation,
+        } = whose;
         RealChild {
+            name,
             service,
             incarnation,
             process,
@@ -138,7 +147,8 @@ impl Child for RealChild {
     }
 }
 
-/// The children of the system. It tells on standard error which could not be started, and which ended by themselves.
+/// The children of the system. It tells on standard error which could not be started, which ended by themselves, and which
+/// services were given up.
 pub struct RealChildren<'r, R> {
     rt: &'r R,
     errors: Stderr,
@@ -345,6 +355,7 @@ impl<'r, R: Processes<Started = SystemProcess> + Files + Env + AllocGlobal> Chil
         &mut self,
         alloc: Global,
         service: u16,
+        name: &Name,
         incarnation: u32,
         words: &[Items<u8>],
     ) -> Result<Started<RealChild, ChildLink>, MakeError> {
@@ -352,6 +363,7 @@ impl<'r, R: Processes<Started = SystemProcess> + Files + Env + AllocGlobal> Chil
             service,
             incarnation,
         };
+        let own = name.copy(alloc)?;
         match start(self.rt, self.errors, alloc, whose, words) {
             Ok((process, link)) => {
                 let starting = Starting {
@@ -361,11 +373,11 @@ impl<'r, R: Processes<Started = SystemProcess> + Files + Env + AllocGlobal> Chil
                     finished: &self.finished,
                 };
                 self.started = self.started.and(&starting);
-                let child = RealChild::new(service, incarnation, process);
+                let child = RealChild::new(own, whose, process);
                 Ok(Started { child, link })
             }
             Err(error) => {
-                notice::not_started(self.errors, whose, &error);
+                notice::not_started(self.errors, name, incarnation, &error);
                 let why = refusal(&error);
                 if why == MakeError::Failed {
                     count(&mut self.faults);
@@ -383,11 +395,11 @@ impl<'r, R: Processes<Started = SystemProcess> + Files + Env + AllocGlobal> Chil
         self.finished = self.finished.and(&finished);
         drop(link);
         if let Some(status) = child.process.end() {
-            let whose = ChildName {
-                service,
-                incarnation,
-            };
-            notice::ended(self.errors, whose, status);
+            notice::ended(self.errors, &child.name, incarnation, status);
         }
+    }
+
+    fn give_up(&mut self, name: &Name, tries: u32) {
+        notice::given_up(self.errors, name, tries);
     }
 }

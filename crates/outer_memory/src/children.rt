@@ -6,6 +6,7 @@ ghost use Rattle.okws_outer.specs.Wire.{unused, fed, shut};
 
 use crate::noted::Noted;
 use okws_base::items::{Items, copies};
+use okws_base::name::Name;
 use okws_base::told::{Parts, Says};
 use okws_outer::child::{Child, Ended};
 use okws_outer::children::{ChildEnd, ChildName, ChildStart, Children, Started};
@@ -307,6 +308,7 @@ impl<'a> Children for MemoryChildren<'a> {
         &mut self,
         alloc: Global,
         service: u16,
+        _name: &Name,
         incarnation: u32,
         words: &[Items<u8>],
     ) -> Result<Started<MemoryChild<'a>, ChildLink<'a>>, MakeError> {
@@ -333,6 +335,8 @@ impl<'a> Children for MemoryChildren<'a> {
             link,
         })
     }
+
+    fn give_up(&mut self, _name: &Name, _tries: u32) {}
 
     fn finish(
         &mut self,

@@ -1,8 +1,10 @@
 //! The children of a server in memory, on the ways that no clause tells. Not tested here: real children, and what
 //! threads do to each other.
 
-use crate::holding::{has_failed, holds};
+use crate::holding::{MEMORY, has_failed, holds};
 use crate::objects::is;
+use okws_base::items::Items;
+use okws_base::name::Name;
 use okws_outer::child::{Child, Ended};
 use okws_outer::children::{Children, Started};
 use okws_outer::stream::{Link, Pull, Put};
@@ -18,6 +20,12 @@ const PLANS: [ChildPlan<'static>; 1] = [ChildPlan {
     failing: &[1],
     answers: &[Ended::No, Ended::Failed, Ended::Yes],
 }];
+
+/// A service's name.
+fn guest(rt: &impl Abort, alloc: Global) -> Name {
+    let bytes = Items::of(Vec::from_slice(alloc, b"guest").expect(rt, MEMORY));
+    Name::new(bytes).expect(rt, "a name")
+}
 
 /// The link says `hel`, fails once, and takes four bytes as soon as there is room.
 fn speaks(rt: &impl Abort, link: &mut ChildLink) {
@@ -54,14 +62,14 @@ fn tells_a_child(rt: &impl Abort, children: &MemoryChildren) {
 #[test]
 fn children_do_what_is_planned(rt: HostRuntime) {
     let mut children = MemoryChildren::new(rt.alloc(), &PLANS, &[0]);
-    let refused = children.start(rt.alloc(), 1, 1, &[]);
+    let refused = children.start(rt.alloc(), 1, &guest(&rt, rt.alloc()), 1, &[]);
     holds(&rt, has_failed(refused), "refused");
     let Ok(
         Started {
             mut child,
             mut link,
         },
-    ) = children.start(rt.alloc(), 1, 2, &[])
+    ) = children.start(rt.alloc(), 1, &guest(&rt, rt.alloc()), 2, &[])
     else {
         panic!(rt; "not as planned");
     };
@@ -82,7 +90,7 @@ fn child_without_a_plan_is_silent(rt: HostRuntime) {
             mut child,
             mut link,
         },
-    ) = children.start(rt.alloc(), 1, 1, &[])
+    ) = children.start(rt.alloc(), 1, &guest(&rt, rt.alloc()), 1, &[])
     else {
         panic!(rt; "not as planned");
     };
@@ -94,7 +102,13 @@ fn child_without_a_plan_is_silent(rt: HostRuntime) {
 
 /// A child is started and finished.
 fn passes(rt: &impl Abort, alloc: Global, children: &mut MemoryChildren, incarnation: u32) {
-    let Ok(Started { mut child, link }) = children.start(alloc, 1, incarnation, &[]) else {
+    let Ok(Started { mut child, link }) = children.start(
+        alloc,
+        1,
+        &guest(rt, alloc),
+        incarnation,
+        &[],
+    ) else {
         panic!(rt; "not as planned");
     };
     child.stop();
@@ -121,7 +135,7 @@ fn start_tells_how_many_were_finished(rt: HostRuntime) {
 fn absent_children_refuse_each_start(rt: HostRuntime) {
     let mut children = MemoryChildren::absent(rt.alloc());
     for _ in 0..2 {
-        let child = children.start(rt.alloc(), 0, 1, &[]);
+        let child = children.start(rt.alloc(), 0, &guest(&rt, rt.alloc()), 1, &[]);
         holds(&rt, has_failed(child), "refused");
     }
     holds(&rt, children.faults() == 2, "faults");

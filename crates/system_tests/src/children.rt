@@ -4,6 +4,7 @@ ghost use Rattle.std.specs.Prelude.{◌≡◌};
 
 use crate::holding::{MEMORY, has_failed, holds};
 use okws_base::items::Items;
+use okws_base::name::Name;
 use okws_outer::child::{Child, Ended};
 use okws_outer::children::{Children, Started};
 use okws_outer::stream::{Link, Pull, Put};
@@ -13,6 +14,12 @@ use std::process::Abort;
 use std::rt::Clock;
 use std::time::{Duration, Instant};
 use std::{env, thread};
+
+/// A service's name.
+fn guest(rt: &impl Abort, alloc: Global) -> Name {
+    let bytes = Items::of(Vec::from_slice(alloc, b"guest").expect(rt, MEMORY));
+    Name::new(bytes).expect(rt, "a name")
+}
 
 /// Words of a program.
 fn words(rt: &impl Abort, alloc: Global, texts: &[&str]) -> Vec<Items<u8>> {
@@ -62,7 +69,7 @@ fn child_says_what_it_heard(rt: HostRuntime) {
             mut child,
             mut link,
         },
-    ) = children.start(rt.alloc(), 0, 1, &cat)
+    ) = children.start(rt.alloc(), 0, &guest(&rt, rt.alloc()), 1, &cat)
     else {
         panic!(rt; "not as planned");
     };
@@ -78,7 +85,13 @@ fn child_says_what_it_heard(rt: HostRuntime) {
 fn child_is_ended_at_its_finish(rt: HostRuntime) {
     let mut children = RealChildren::new(&rt, rt.stderr());
     let sleep = words(&rt, rt.alloc(), &["/bin/sleep", "600"]);
-    let Ok(Started { mut child, link }) = children.start(rt.alloc(), 0, 1, &sleep) else {
+    let Ok(Started { mut child, link }) = children.start(
+        rt.alloc(),
+        0,
+        &guest(&rt, rt.alloc()),
+        1,
+        &sleep,
+    ) else {
         panic!(rt; "not as planned");
     };
     child.stop();
@@ -94,7 +107,7 @@ fn child_that_ends_is_seen(rt: HostRuntime) {
             mut child,
             mut link,
         },
-    ) = children.start(rt.alloc(), 0, 1, &truth)
+    ) = children.start(rt.alloc(), 0, &guest(&rt, rt.alloc()), 1, &truth)
     else {
         panic!(rt; "not as planned");
     };
@@ -112,7 +125,7 @@ fn is_refused<R: Abort, C: Children>(
     texts: &[&str],
 ) -> bool {
     let program = words(rt, alloc, texts);
-    has_failed(children.start(alloc, 0, 1, &program))
+    has_failed(children.start(alloc, 0, &guest(rt, alloc), 1, &program))
 }
 
 #[test]
@@ -156,7 +169,7 @@ fn nobody_waits_for_what_an_ended_child_left(rt: HostRuntime) {
             mut child,
             mut link,
         },
-    ) = children.start(rt.alloc(), 0, 1, &leaves)
+    ) = children.start(rt.alloc(), 0, &guest(&rt, rt.alloc()), 1, &leaves)
     else {
         panic!(rt; "not as planned");
     };
@@ -177,7 +190,7 @@ fn nobody_waits_for_what_a_stopped_child_left(rt: HostRuntime) {
             mut child,
             mut link,
         },
-    ) = children.start(rt.alloc(), 0, 1, &leaves)
+    ) = children.start(rt.alloc(), 0, &guest(&rt, rt.alloc()), 1, &leaves)
     else {
         panic!(rt; "not as planned");
     };
@@ -215,7 +228,7 @@ fn child_has_path_alone(rt: HostRuntime) {
             mut child,
             mut link,
         },
-    ) = children.start(rt.alloc(), 0, 1, &shows)
+    ) = children.start(rt.alloc(), 0, &guest(&rt, rt.alloc()), 1, &shows)
     else {
         panic!(rt; "not as planned");
     };

@@ -314,7 +314,7 @@ fn door<'a>(
     ensures { IsNone (⟦<MemoryDoor<'a> as Door>⟧.entrance result).out }
 {
     let mut network = MemoryNetwork::new(alloc, clients, refusals, &[]);
-    let mut doors = match network.listen(alloc, 8080, 1) {
+    let mut doors = match network.listen(alloc, 8080, 1, None) {
         Ok(doors) => doors,
         Err(_) => panic!(rt; "not as planned"),
     };

@@ -16,6 +16,8 @@ pub struct Listening {
     pub port: u16,
     /// How many doors were asked for.
     pub count: usize,
+    /// How many seconds a connection may keep its door waiting, where there is a limit.
+    pub patience: Option<u16>,
 }
 
 impl Says for Listening {
@@ -40,16 +42,18 @@ pub trait Network {
     ghost net: { Self → Net };
 
     /// Opens so many doors on one port of the loopback address, which take from one line of
-    /// connections.
+    /// connections. Where a patience is given, calls of a connection fail once its client has kept the door
+    /// waiting for so many seconds.
     fn listen(
         &mut self,
         alloc: Global,
         port: u16,
         count: usize,
+        patience: Option<u16>,
     ) -> Result<Vec<Self::Door>, MakeError>
         ensures count { IfOk result (λ doors. length doors.items ≡ count) }
         ensures doors { IfOk result (λ doors. All (λ d. Self.Door.entrance d ≡ new_entrance) doors.items) }
-        ensures net { Listens port count (net self.old) (net self.new) result };
+        ensures net { Listens port count patience (net self.old) (net self.new) result };
 
     /// Takes doors back at the end of a run, in their order, and closes them.
     fn close(&mut self, doors: Vec<Self::Door>)

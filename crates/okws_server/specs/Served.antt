@@ -116,7 +116,7 @@ pub record Spares (store : Option (List ℕ)) (plans : List ProxyPlan) (a b : De
 
 -- The server's doors were asked of the network.
 abbrev pub with_listened : Serving → Net → Net
-with_listened server net = record net { listened = record { port = server.port; count = server.doors } ∷ net.listened }
+with_listened server net = record net { listened = record { port = server.port; count = server.doors; patience = None } ∷ net.listened }
 
 -- What a server may be asked for: at most so many connections and doors, and one door at least.
 pub record IsServing (server : Serving) : Type 0 where

@@ -242,8 +242,14 @@ impl<'a> Network for MemoryNetwork<'a> {
         alloc: Global,
         port: u16,
         count: usize,
+        patience: Option<u16>,
     ) -> Result<Vec<MemoryDoor<'a>>, MakeError> {
-        self.listened.note(self.alloc, &Listening { port, count });
+        let listening = Listening {
+            port,
+            count,
+            patience,
+        };
+        self.listened.note(self.alloc, &listening);
         if self.failing.fails_or(self.refuses) {
             return Err(MakeError::Failed);
         }

@@ -102,7 +102,7 @@ fn two_doors<'a>(rt: &impl Abort, alloc: Global, network: &mut MemoryNetwork<'a>
     ensures first { IsNone (⟦<MemoryDoor<'a> as Door>⟧.entrance result.first).out }
     ensures second { IsNone (⟦<MemoryDoor<'a> as Door>⟧.entrance result.second).out }
 {
-    let Ok(mut doors) = network.listen(alloc, 8080, 2) else {
+    let Ok(mut doors) = network.listen(alloc, 8080, 2, None) else {
         panic!(rt; "not as planned");
     };
     let (Some(second), Some(first)) = (doors.pop(), doors.pop()) else {
@@ -161,7 +161,7 @@ fn tells_doors(rt: &impl Abort, network: &MemoryNetwork) {
 #[test]
 fn doors_take_from_one_line(rt: HostRuntime) {
     let mut network = MemoryNetwork::new(rt.alloc(), &CLIENTS, &[2], &[0]);
-    let refused = network.listen(rt.alloc(), 8080, 2);
+    let refused = network.listen(rt.alloc(), 8080, 2, None);
     holds(&rt, has_failed(refused), "refused");
     let Two {
         mut first,
@@ -226,7 +226,7 @@ fn sinks_fail_in_turn(rt: HostRuntime) {
 fn absent_network_refuses_each_listen(rt: HostRuntime) {
     let mut network = MemoryNetwork::absent(rt.alloc());
     for _ in 0..2 {
-        let doors = network.listen(rt.alloc(), 8080, 1);
+        let doors = network.listen(rt.alloc(), 8080, 1, None);
         holds(&rt, has_failed(doors), "refused");
     }
     holds(&rt, network.faults() == 2, "faults");

@@ -2,16 +2,19 @@
 
 ghost use Rattle.std.specs.Prelude.{◌≡◌, None};
 
-use crate::trying::{pull_from, put_to};
+use crate::clock::Time;
+use crate::trying::{count, pull_from, put_to};
 use okws_outer::conn::Conn;
 use okws_outer::stream::{Pull, Put};
 use std::io::{Read, Write};
 use std::net::{OpenStream, Shutdown};
 
 /// A connection. Where it is closed with bytes of the client unread, the system resets it, and the
-/// client may lose the answer; so it notes whether such bytes may be there.
+/// client may lose the answer; so it notes whether such bytes may be there. Where it has a limit of time, its
+/// request is to have come until then: a later read fails, and so does a write for which that time is waited.
 pub struct RealConn<S> {
     stream: S,
+    time: Option<Time>,
     is_left: bool,
     faults: u64,
 }
@@ -20,6 +23,7 @@ impl<S: Drop> Drop for RealConn<S> {
     fn drop(self) {
         let RealConn {
             stream,
+            time: _,
             is_left: _,
             faults: _,
         } = self;
@@ -49,12 +53,17 @@ fn drain<S: Read>(stream: &mut S) {
 }
 
 impl<S: Read + Write + OpenStream> RealConn<S> {
-    /// A connection over a stream, with no fault counted yet.
-    pub fn new(stream: S) -> Self
+    /// A connection over a stream, with no fault counted yet, whose client may have a limit of time.
+    pub(crate) fn new(stream: S, time: Option<Time>) -> Self
         ensures { ⟦<RealConn<S> as Conn>⟧.wire result ≡ record { left = None; last = None; given = None; faults = 0 } }
     {
+        if let Some(time) = time {
+            // Where this fails, writes wait as the system does.
+            let _ = stream.set_write_timeout(Some(time.each));
+        }
         RealConn {
             stream,
+            time,
             is_left: false,
             faults: 0,
         }
@@ -65,6 +74,17 @@ impl<S: Read + Write + OpenStream> RealConn<S> {
         ensures { result ≡ (⟦<RealConn<S> as Conn>⟧.wire self.now).faults }
     {
         self.faults
+    }
+
+    /// Whether it is too late to read. Else a read waits no longer than until then.
+    fn is_late(&self) -> bool {
+        match self.time {
+            Some(time) => match time.until.left() {
+                Some(left) => self.stream.set_read_timeout(Some(left)).is_err(),
+                None => true,
+            },
+            None => false,
+        }
     }
 
     /// Ends what is sent, and drops what came and was not taken, up to a bound and without waiting for
@@ -86,6 +106,10 @@ impl<S: Read + Write + OpenStream> Conn for RealConn<S> {
     ghost wire = { λ c. record { left = None; last = None; given = None; faults = c.faults } };
 
     fn pull(&mut self, into: &mut [u8]) -> Pull {
+        if self.is_late() {
+            count(&mut self.faults);
+            return Pull::Failed;
+        }
         let pull = pull_from(&mut self.stream, &mut self.faults, into);
         self.is_left = match pull {
             Pull::Took(taken) => taken == into.len(),

@@ -3,7 +3,9 @@
 //! told on standard error.
 #![tactic(auto)]
 
+mod clock;
 pub mod conn;
 pub mod network;
 mod notice;
+mod pending;
 pub mod trying;

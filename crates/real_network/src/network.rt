@@ -4,9 +4,11 @@ ghost use Rattle.std.specs.Prelude.{◌≡◌, [], All, None, IfOk, length, map}
 ghost use Rattle.okws_outer.specs.Doors.{new_entrance};
 ghost use Rattle.real_network.specs.Entrances.{entrance_of};
 
+use crate::clock::Time;
 use crate::conn::RealConn;
 use crate::notice;
-use crate::trying::{count, refusal};
+use crate::pending::{Client, Pending};
+use crate::trying::{count, is_passing, refusal};
 use okws_base::told::{Says, Told};
 use okws_outer::conn::Conn;
 use okws_outer::door::{Door, Served};
@@ -22,26 +24,12 @@ use std::os::fd::AsRawFd;
 /// How many connections may wait to be accepted.
 const BACKLOG: i32 = 1024;
 
-/// The numbers of two errors: all open files that the system may have, and no room for what a connection needs.
-const ENFILE: i32 = 23;
-
-const ENOBUFS: i32 = 105;
-
-/// Whether a connection may be accepted later all the same.
-fn is_passing(error: &io::Error) -> bool {
-    match error.raw_os_error() {
-        Some(code) => matches!(
-            code,
-            libc::EMFILE | ENFILE | ENOBUFS | libc::ENOMEM | libc::ECONNABORTED
-        ),
-        None => false,
-    }
-}
-
 /// A door: a descriptor of its own of the socket that all doors share.
 pub struct RealDoor {
     // None once the door is closed.
     listener: Option<TcpListener>,
+    // The clients that have said nothing yet, if they have a limit of time.
+    pending: Option<Pending>,
     is_out: bool,
     finished: Told<Served>,
     faults: u64,
@@ -51,20 +39,23 @@ impl Drop for RealDoor {
     fn drop(self) {
         let RealDoor {
             listener,
+            pending,
             is_out: _,
             finished: _,
             faults: _,
         } = self;
         drop(listener);
+        drop(pending);
     }
 }
 
 impl RealDoor {
-    fn new(listener: TcpListener) -> Self
+    fn new(listener: TcpListener, pending: Option<Pending>) -> Self
         ensures { ⟦<RealDoor as Door>⟧.entrance result ≡ new_entrance }
     {
         RealDoor {
             listener: Some(listener),
+            pending,
             is_out: false,
             finished: Told::new(),
             faults: 0,
@@ -82,6 +73,17 @@ impl RealDoor {
     pub fn port(&self) -> Option<u16> {
         let address = self.listener.as_ref()?.local_addr().ok()?;
         Some(address.port())
+    }
+
+    /// The next connection, and the time that its client has, where that is limited; unless there can be none.
+    fn next_client(&self) -> Option<(TcpStream, Option<Time>)> {
+        match &self.pending {
+            Some(pending) => {
+                let Client { stream, time } = pending.next(self.listener.as_ref()?)?;
+                Some((stream, Some(time)))
+            }
+            None => Some((self.next_stream()?, None)),
+        }
     }
 
     /// The next connection, unless there can be none. Where the system has no room for it now, it is asked again.
@@ -120,10 +122,10 @@ impl Door for RealDoor {
     ghost entrance = { entrance_of };
 
     fn accept(&mut self) -> Result<RealConn<TcpStream>, Fault> {
-        match self.next_stream() {
-            Some(stream) => {
+        match self.next_client() {
+            Some((stream, time)) => {
                 self.is_out = true;
-                Ok(RealConn::new(stream))
+                Ok(RealConn::new(stream, time))
             }
             None => {
                 count(&mut self.faults);
@@ -151,10 +153,52 @@ fn bind<R: Net<Listener = TcpListener, Stream = TcpStream>>(
     Ok(listener)
 }
 
-/// Doors on one listener.
+/// The pending clients of a listener, at which no call waits then, where they have so many seconds.
+fn pending_of(
+    alloc: Global,
+    listener: &TcpListener,
+    patience: Option<u16>,
+) -> io::Result<Option<Pending>> {
+    let Some(patience) = patience else {
+        return Ok(None);
+    };
+    listener.set_nonblocking(true)?;
+    Ok(Some(Pending::new(alloc, patience)?))
+}
+
+/// A listener on a port, and its pending clients.
+fn listen<R: Net<Listener = TcpListener, Stream = TcpStream>>(
+    rt: &R,
+    alloc: Global,
+    port: u16,
+    patience: Option<u16>,
+) -> io::Result<(TcpListener, Option<Pending>)> {
+    let listener = bind(rt, port)?;
+    let pending = pending_of(alloc, &listener, patience)?;
+    Ok((listener, pending))
+}
+
+/// The same pending clients for another door, where clients have a limit.
+fn share(pending: &Option<Pending>) -> io::Result<Option<Pending>> {
+    match pending {
+        Some(pending) => Ok(Some(pending.share()?)),
+        None => Ok(None),
+    }
+}
+
+/// A door at this listener, with these pending clients.
+fn door_of(listener: &TcpListener, pending: &Option<Pending>) -> io::Result<RealDoor>
+    ensures { IfOk result (λ door. ⟦<RealDoor as Door>⟧.entrance door ≡ new_entrance) }
+{
+    let own = listener.try_clone()?;
+    Ok(RealDoor::new(own, share(pending)?))
+}
+
+/// Doors on one listener, with the same pending clients.
 fn doors_of(
     alloc: Global,
     listener: &TcpListener,
+    pending: &Option<Pending>,
     number: usize,
 ) -> Result<Vec<RealDoor>, MakeError>
     ensures count { IfOk result (λ doors. length doors.items ≡ number) }
@@ -162,8 +206,8 @@ fn doors_of(
 {
     let mut doors = Vec::new(alloc);
     for _ in 0..number {
-        match listener.try_clone() {
-            Ok(own) => doors.push(RealDoor::new(own)).map_err(AllocError::from)?,
+        match door_of(listener, pending) {
+            Ok(door) => doors.push(door).map_err(AllocError::from)?,
             Err(error) => return Err(refusal(&error)),
         }
     }
@@ -185,6 +229,7 @@ fn shut(doors: &mut [RealDoor])
 {
     for door in doors.iter_mut() {
         door.listener = None;
+        door.pending = None;
     }
 }
 
@@ -232,12 +277,18 @@ impl<'r, R: Net<Listener = TcpListener, Stream = TcpStream>> RealNetwork<'r, R> 
         self.faults
     }
 
-    fn open(&self, alloc: Global, port: u16, number: usize) -> Result<Vec<RealDoor>, MakeError>
+    fn open(
+        &self,
+        alloc: Global,
+        port: u16,
+        number: usize,
+        patience: Option<u16>,
+    ) -> Result<Vec<RealDoor>, MakeError>
         ensures count { IfOk result (λ doors. length doors.items ≡ number) }
         ensures doors { IfOk result (λ doors. All (λ d. ⟦<RealDoor as Door>⟧.entrance d ≡ new_entrance) doors.items) }
     {
-        match bind(self.rt, port) {
-            Ok(listener) => doors_of(alloc, &listener, number),
+        match listen(self.rt, alloc, port, patience) {
+            Ok((listener, pending)) => doors_of(alloc, &listener, &pending, number),
             Err(error) => Err(refusal(&error)),
         }
     }
@@ -253,9 +304,15 @@ impl<'r, R: Net<Listener = TcpListener, Stream = TcpStream>> Network for RealNet
         alloc: Global,
         port: u16,
         count: usize,
+        patience: Option<u16>,
     ) -> Result<Vec<RealDoor>, MakeError> {
-        self.listened = self.listened.and(&Listening { port, count });
-        let opened = self.open(alloc, port, count);
+        let listening = Listening {
+            port,
+            count,
+            patience,
+        };
+        self.listened = self.listened.and(&listening);
+        let opened = self.open(alloc, port, count, patience);
         match &opened {
             Ok(_) => notice::listening(self.errors, port),
             Err(MakeError::Failed) => self.faults = self.faults.saturating_add(1),

@@ -39,6 +39,22 @@ pub fn refusal(error: &io::Error) -> MakeError
     }
 }
 
+/// The numbers of two errors: all open files that the system may have, and no room for what a connection needs.
+const ENFILE: i32 = 23;
+
+const ENOBUFS: i32 = 105;
+
+/// Whether a connection may be accepted later all the same.
+pub fn is_passing(error: &io::Error) -> bool {
+    match error.raw_os_error() {
+        Some(code) => matches!(
+            code,
+            libc::EMFILE | ENFILE | ENOBUFS | libc::ENOMEM | libc::ECONNABORTED
+        ),
+        None => false,
+    }
+}
+
 /// Reads once, whatever signals come.
 fn read_once<I: Read>(input: &mut I, into: &mut [u8]) -> io::Result<usize>
     ensures bound { ReadsAtMost result into.new }

@@ -37,7 +37,7 @@ fn serve_one(door: &mut RealDoor, answer: &[u8]) -> Option<(Pull, Put)>
 #[test]
 fn doors_share_one_port(rt: HostRuntime) {
     let mut network = RealNetwork::new(&rt, rt.stderr(), rt.alloc());
-    let Ok(mut doors) = network.listen(rt.alloc(), 0, 2) else {
+    let Ok(mut doors) = network.listen(rt.alloc(), 0, 2, None) else {
         panic!(rt; "not as planned");
     };
     let (Some(mut second), Some(mut first)) = (doors.pop(), doors.pop()) else {
@@ -47,7 +47,7 @@ fn doors_share_one_port(rt: HostRuntime) {
         panic!(rt; "not as planned");
     };
     holds(&rt, second.port() == Some(port), "one port");
-    let taken = network.listen(rt.alloc(), port, 1);
+    let taken = network.listen(rt.alloc(), port, 1, None);
     holds(&rt, has_failed(taken), "taken");
     let mut one = client(&rt, port, b"one").expect(&rt, "no connection");
     let mut other = client(&rt, port, b"other").expect(&rt, "no connection");
@@ -69,14 +69,14 @@ fn doors_share_one_port(rt: HostRuntime) {
     doors.push(second).expect(&rt, MEMORY);
     network.close(doors);
     holds(&rt, network.faults() == 1, "faults");
-    let again = network.listen(rt.alloc(), port, 1);
+    let again = network.listen(rt.alloc(), port, 1, None);
     holds(&rt, again.is_ok(), "again");
 }
 
 #[test]
 fn early_answer_is_seen(rt: HostRuntime) {
     let mut network = RealNetwork::new(&rt, rt.stderr(), rt.alloc());
-    let Ok(mut doors) = network.listen(rt.alloc(), 0, 1) else {
+    let Ok(mut doors) = network.listen(rt.alloc(), 0, 1, None) else {
         panic!(rt; "not as planned");
     };
     let Some(mut door) = doors.pop() else {
@@ -100,7 +100,7 @@ fn early_answer_is_seen(rt: HostRuntime) {
 #[test]
 fn client_that_says_nothing_has_ended(rt: HostRuntime) {
     let mut network = RealNetwork::new(&rt, rt.stderr(), rt.alloc());
-    let Ok(mut doors) = network.listen(rt.alloc(), 0, 1) else {
+    let Ok(mut doors) = network.listen(rt.alloc(), 0, 1, None) else {
         panic!(rt; "not as planned");
     };
     let Some(mut door) = doors.pop() else {
@@ -114,4 +114,35 @@ fn client_that_says_nothing_has_ended(rt: HostRuntime) {
         panic!(rt; "not as planned");
     };
     holds(&rt, pull == Pull::End, "the end");
+}
+
+#[test]
+fn client_that_says_nothing_is_late(rt: HostRuntime) {
+    let mut network = RealNetwork::new(&rt, rt.stderr(), rt.alloc());
+    let Ok(mut doors) = network.listen(rt.alloc(), 0, 2, Some(1)) else {
+        panic!(rt; "not as planned");
+    };
+    let Some(mut door) = doors.pop() else {
+        panic!(rt; "not as planned");
+    };
+    let Some(port) = door.port() else {
+        panic!(rt; "not as planned");
+    };
+    let mut silent = client(&rt, port, b"").expect(&rt, "no connection");
+    let _other = client(&rt, port, b"other").expect(&rt, "no connection");
+    holds(
+        &rt,
+        serve_one(&mut door, b"answer") == Some((Pull::Took(5), Put::Done)),
+        "who says something first",
+    );
+    let Some((pull, _)) = serve_one(&mut door, b"answer") else {
+        panic!(rt; "not as planned");
+    };
+    holds(&rt, pull == Pull::Failed, "too late");
+    let mut heard = Vec::new(rt.alloc());
+    silent.read_to_end(&mut heard).expect(&rt, "no end");
+    holds(&rt, heard.as_slice() == b"answer".as_slice(), "heard");
+    holds(&rt, door.faults() == 1, "faults");
+    doors.push(door).expect(&rt, MEMORY);
+    network.close(doors);
 }

@@ -25,6 +25,7 @@ use Rattle.site_run.specs.Whole.{AllDrewAt, AllDrawn}
 use Rattle.okws_serve.specs.Doors.{Tally, TalliesAt, AllTally, AllAttend, connections_of, begun_of, total, any_starved, ServesConsole, ServesDoors}
 use Rattle.okws_serve.specs.Posts.{DoorIs, AttendedBy}
 use Rattle.okws_serve.specs.Manned.{AllAttended, ConsoleDone, DoorsDone, lives_of, served_of}
+use Rattle.okws_serve.specs.declared.outfit.TheConstants.{MOST_BEGUN}
 use Rattle.okws_serve.proofs.Spent.{oversees_spent}
 use Rattle.okws_serve.proofs.Finishing.{attended_same}
 use Rattle.okws_serve.proofs.Counting.{one_below, below, below-all, one-below, none-below, sum_below, sum-all, last-below}
@@ -229,7 +230,7 @@ attended_many wire C n z most k (d ∷ ds) (a ∷ as') (e ∷ es) h = let m = at
 
 -- the doors of a run were served, where all numbers were drawn from their workers' seats
 pub serves_doors : {X : Type 0} (wire : X → ConnWire) (C : Config) (n : ℕ) (z : TableId) (most many : ℕ) (R : Record) (ended : ℕ → ℕ → Bool) (lives : List Life) (old new : PlacesAre) (connections : ℕ) (starved : Bool)
-    → most ≤ 1000000 → 0 < many → length new.entrances ≡ many → AllDrawn many new.places → DoorsDone wire C n z most lives old new connections starved → AllEnd n 0 lives R ended
+    → most ≤ MOST_BEGUN → 0 < many → length new.entrances ≡ many → AllDrawn many new.places → DoorsDone wire C n z most lives old new connections starved → AllEnd n 0 lives R ended
     → ServesDoors wire C n most R ended old.entrances new.entrances connections starved
 serves_doors wire C n z most many R ended lives old new connections starved few some l w d end =
     let places = λ (x : DoorIs). x.place in

@@ -3,7 +3,7 @@ use Rattle.std.specs.Prelude.{◌≡◌, ◌≤◌, ℕ, List, [], Some, None, I
 use Rattle.std.specs.declared.option.Option.{Option}
 use Rattle.atomic_table.specs.Seated.{TableId}
 use Rattle.turn_lock.specs.BoardSeats.{SeatIs}
-use Rattle.okws_base.specs.declared.limit.TheConstants.{MOST_CONNECTIONS, MOST_SERVICES, MOST_TEMPLATES}
+use Rattle.okws_base.specs.declared.limit.TheConstants.{MOST_SERVICES, MOST_TEMPLATES}
 use Rattle.okws_outer.specs.Conns.{ConnWire}
 use Rattle.okws_outer.specs.Doors.{Entrance}
 use Rattle.okws_plan.specs.declared.configuration.Config.{Config}
@@ -12,6 +12,7 @@ use Rattle.site_worker.specs.Lives.{Life, SameWorker}
 use Rattle.site_worker.specs.Rounds.{Attends}
 use Rattle.site_worker.specs.declared.console.Overseen.{Overseen}
 use Rattle.site_worker.specs.declared.door.Attended.{Attended}
+use Rattle.okws_serve.specs.declared.outfit.TheConstants.{MOST_BEGUN}
 use Rattle.okws_serve.specs.declared.post.Post.{Post}
 use Rattle.okws_serve.specs.declared.post.Post.TheVariants.{Door, Console}
 
@@ -32,7 +33,7 @@ IsFresh (Some a) drawn = Unit {0}
 pub record IsDoor (z : TableId) (d : DoorIs) : Type 0 where
   pub idle : IsNone d.entrance.out
   pub board_is : d.place.board ≡ z
-  pub few : d.most ≤ MOST_CONNECTIONS
+  pub few : d.most ≤ MOST_BEGUN
   pub fresh : IsFresh d.attended d.place.drawn
 
 -- A worker at the console: the console, how many of its lines were read, what the worker has seen, and how it oversaw the console, once that is done.

@@ -1,13 +1,14 @@
 //! Putting the workers of a run to their posts.
 
 ghost use Rattle.std.specs.Prelude.{◌≡◌, ◌≤◌, ◌+◌, [], true, length, map, vec_len, vec_capacity};
-ghost use Rattle.okws_base.specs.declared.limit.TheConstants.{MOST_SERVICES, MOST_TEMPLATES, MOST_CONNECTIONS, GREATEST_RETRY};
+ghost use Rattle.okws_base.specs.declared.limit.TheConstants.{MOST_SERVICES, MOST_TEMPLATES, GREATEST_RETRY};
 ghost use Rattle.site_run.specs.Places.{Placed, SamePlaces};
 ghost use Rattle.site_run.specs.Rooms.{HasRoom};
 ghost use Rattle.site_run.specs.Rows.{Seated, SameRoom};
 ghost use Rattle.site_run.specs.Tied.{MoreOf};
 ghost use Rattle.okws_serve.specs.Manned.{AreManned, doors_of, lives_of, ArePosted};
 ghost use Rattle.okws_serve.specs.Posts.{DoorIs};
+ghost use Rattle.okws_serve.specs.declared.outfit.TheConstants.{MOST_BEGUN};
 
 use crate::post::{ConsolePost, DoorPost, Post, PostOf};
 use admin_console::reader::Reader;
@@ -52,7 +53,7 @@ fn man_doors<
     requires tells { N.tells ≡ true }
     requires few { length N.site.services ≤ MOST_SERVICES }
     requires retry { N.site.retry ≤ GREATEST_RETRY }
-    requires most { ground.now.most ≤ MOST_CONNECTIONS }
+    requires most { ground.now.most ≤ MOST_BEGUN }
     requires seated { Seated ground.now.turn.now (length N.site.services) chairs.old }
     requires placed { Placed ground.now.numbers.now.id places.old }
     requires alike { length chairs.old.seats ≡ length places.old.entrances }
@@ -97,7 +98,7 @@ pub(crate) fn man_all<
     requires site { ground.now.site.now ≡ N.site }
     requires few { (length N.site.services ≤ MOST_SERVICES) × (length N.site.templates ≤ MOST_TEMPLATES) }
     requires retry { N.site.retry ≤ GREATEST_RETRY }
-    requires most { ground.now.most ≤ MOST_CONNECTIONS }
+    requires most { ground.now.most ≤ MOST_BEGUN }
     requires seated { Seated ground.now.turn.now (length N.site.services) chairs.old }
     requires placed { Placed ground.now.numbers.now.id places.old }
     requires alike { length chairs.old.seats ≡ length places.old.entrances + 1 }

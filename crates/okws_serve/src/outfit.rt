@@ -3,6 +3,9 @@
 use monitor_model::record::Record;
 use site_run::ended::Counts;
 
+/// The connections that a run may begin at most: 2^62, which no run comes to.
+pub const MOST_BEGUN: u64 = 4_611_686_018_427_387_904;
+
 /// The objects of a run.
 #[derive(Drop)]
 pub struct Outfit<D, O, F, K, S, G> {
@@ -24,7 +27,7 @@ pub struct Outfit<D, O, F, K, S, G> {
 #[derive(Clone, Copy, Debug, PartialEq, Eq)]
 pub struct Limits {
     /// How many connections are begun.
-    pub connections: u32,
+    pub connections: u64,
     /// Whether what happens is kept in memory.
     pub keeps: bool,
 }

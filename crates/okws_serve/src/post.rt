@@ -1,8 +1,8 @@
 //! Workers at their posts: one at each door, and one at the operator's console.
 
 ghost use Rattle.std.specs.Prelude.{◌≡◌, ◌≤◌, [], IsNone, None};
-ghost use Rattle.okws_base.specs.declared.limit.TheConstants.{MOST_CONNECTIONS};
 ghost use Rattle.okws_serve.specs.Posts.{AttendedIf, OverseenIf, WorksAt, IsSteered};
+ghost use Rattle.okws_serve.specs.declared.outfit.TheConstants.{MOST_BEGUN};
 
 use admin_console::reader::Reader;
 use okld_launch::named::Staffed;
@@ -41,7 +41,7 @@ pub(crate) struct DoorPost<
     pub(crate) worker: Worker<'a, R, G, N, J, C, K, S, F>,
     pub(crate) attended: Option<Attended>,
     numbers: &'a Board,
-    most: u32,
+    most: u64,
 }
 
 impl<
@@ -84,12 +84,12 @@ impl<
         desk: Desk,
         worker: Worker<'a, R, G, N, J, C, K, S, F>,
         numbers: &'a Board,
-        most: u32,
+        most: u64,
     ) -> Self
         requires idle { IsNone (D.entrance door).out }
         requires none { desk.place.drawn ≡ [] }
         requires board { desk.place.board ≡ numbers.now.id }
-        requires most { most ≤ MOST_CONNECTIONS }
+        requires most { most ≤ MOST_BEGUN }
         ensures { result ≡ record { entrance = D.entrance door; place = desk.place; most = most; life = worker.entry.life; attended = None } }
     {
         DoorPost {
@@ -131,14 +131,13 @@ impl<
     {
         if self.attended.is_none() {
             let numbers = self.numbers;
-            let most = u64::from(self.most);
             let attended = self.worker.attend(
                 &mut self.door,
                 &mut self.desk.kept,
                 &mut self.desk.reply,
                 numbers,
                 &mut self.desk.place,
-                most,
+                self.most,
             );
             self.attended = Some(attended);
         }

@@ -2,7 +2,7 @@
 
 ghost use Rattle.std.specs.Prelude.{◌≡◌, ◌≤◌, ◌<◌, ◌+◌, ℕ, true, Some, length, map, IfOk, vec_len, vec_capacity, IfSome, IfErr, IsSome};
 ghost use Rattle.std.specs.Arc.{arc_value};
-ghost use Rattle.okws_base.specs.declared.limit.TheConstants.{MOST_CONNECTIONS, MOST_DOORS};
+ghost use Rattle.okws_base.specs.declared.limit.TheConstants.{MOST_DOORS};
 ghost use Rattle.okws_outer.specs.Conns.{ConnWire};
 ghost use Rattle.turn_lock.specs.Rows.{AllCount};
 ghost use Rattle.site_locks.specs.Sat.{ids_of};
@@ -14,6 +14,7 @@ ghost use Rattle.site_run.specs.Whole.{IsHeld, IsReady};
 ghost use Rattle.okws_serve.specs.Doors.{is_fault};
 ghost use Rattle.okws_serve.specs.Manned.{WorkDone};
 ghost use Rattle.okws_serve.specs.Runs.{Runs};
+ghost use Rattle.okws_serve.specs.declared.outfit.TheConstants.{MOST_BEGUN};
 
 use crate::leaving::Served;
 use crate::manning::Console;
@@ -62,7 +63,7 @@ impl<R: Wait, N: Staffed, J: Site, C: CellNames, K: Keeper, S: Sink, F: Children
     G,
 > {
     // What the workers have in common, up to this number of connections.
-    fn ground(&self, alloc: Global, most: u32) -> Ground<'_, R, G, N, J, C, K, S, F>
+    fn ground(&self, alloc: Global, most: u64) -> Ground<'_, R, G, N, J, C, K, S, F>
         ensures locks { (result.turn.now ≡ self.now.hall.turn) × (result.numbers.now ≡ self.now.hall.numbers) }
         ensures setting { (result.site.now ≡ arc_value self.now.site) × (result.most ≡ most) }
     {
@@ -189,7 +190,7 @@ pub(crate) fn work_in<
 >(
     scene: &'a Scene<R, N, J, C, K, S, F, G>,
     alloc: Global,
-    most: u32,
+    most: u64,
     chairs: &mut Chairs<N, J, C, K, S, F>,
     places: &mut Doors<D>,
     console: Console<O>,
@@ -204,7 +205,7 @@ where
     requires tells { N.tells ≡ true }
     requires site { arc_value scene.now.site ≡ N.site }
     requires servable { IsServable N.site }
-    requires most { most ≤ MOST_CONNECTIONS }
+    requires most { most ≤ MOST_BEGUN }
     requires posts { HasRoom (length places.old.entrances + 1) (vec_len posts) (vec_capacity posts) }
     requires first { console.reader ≡ 0 }
     ensures held { IsHeld N.site N.launcher scene.now.hall.turn scene.now.hall.numbers scene.now.hall.cells chairs.new places.new }
@@ -244,7 +245,7 @@ pub(crate) fn end_run<
     requires idle { AllIdle places.entrances }
     ensures idle { AllIdle (map D.entrance result.doors.items) }
     ensures some { IsSome result.ran × IsSome result.log }
-    ensures ran { IfSome result.ran (λ ran. IfSome result.log (λ log. (most : ℕ) (old : PlacesAre) (w : ConnWire) → most ≤ MOST_CONNECTIONS
+    ensures ran { IfSome result.ran (λ ran. IfSome result.log (λ log. (most : ℕ) (old : PlacesAre) (w : ConnWire) → most ≤ MOST_BEGUN
         → WorkDone D.Conn.wire N.site N.launcher scene.hall.numbers.id most chairs okd old places w (O.wire console) served.connections served.starved (is_fault overseen)
         → Runs D.Conn.wire N.site N.run_seed N.launcher most (record { steady = N.steady; keeper_faults = N.keeper_faults; sink_faults = N.sink_faults; children = N.children }) old.entrances w ran
         (record { entrances = map D.entrance result.doors.items; console = O.wire result.console; children = F.family result.children; keepers = map (keeper_of K.tables K.told K.faults K.steady) result.keepers.items; given = S.given log; faults = S.faults log }))) }

@@ -1,7 +1,7 @@
 //! The workers of a run in one scope.
 
 ghost use Rattle.std.specs.Prelude.{◌≡◌, ◌≤◌, ◌<◌, ◌+◌, ◌*◌, ℕ, true, length, vec_len, vec_capacity, slice_index_or};
-ghost use Rattle.okws_base.specs.declared.limit.TheConstants.{MOST_SERVICES, MOST_TEMPLATES, MOST_CONNECTIONS, GREATEST_RETRY};
+ghost use Rattle.okws_base.specs.declared.limit.TheConstants.{MOST_SERVICES, MOST_TEMPLATES, GREATEST_RETRY};
 ghost use Rattle.turn_lock.specs.BoardSeats.{AllAt};
 ghost use Rattle.site_worker.specs.declared.worker.TheConstants.{TURN_ITEMS};
 ghost use Rattle.site_run.specs.Opening.{IsUnopened};
@@ -11,6 +11,7 @@ ghost use Rattle.site_run.specs.Rows.{Seated, Spacious, SameRoom, first_spare};
 ghost use Rattle.site_run.specs.Tied.{Unused};
 ghost use Rattle.okws_serve.specs.Doors.{is_fault};
 ghost use Rattle.okws_serve.specs.Manned.{AllWork, WorkDone};
+ghost use Rattle.okws_serve.specs.declared.outfit.TheConstants.{MOST_BEGUN};
 
 use crate::leaving::{Served, leave_console, leave_doors};
 use crate::manning::{Console, man_all};
@@ -125,7 +126,7 @@ where
     requires site { ground.now.site.now ≡ N.site }
     requires few { (length N.site.services ≤ MOST_SERVICES) × (length N.site.templates ≤ MOST_TEMPLATES) }
     requires retry { N.site.retry ≤ GREATEST_RETRY }
-    requires most { ground.now.most ≤ MOST_CONNECTIONS }
+    requires most { ground.now.most ≤ MOST_BEGUN }
     requires seated { Seated ground.now.turn.now (length N.site.services) chairs.old }
     requires unused { Unused N.site chairs.old }
     requires unopened { IsUnopened chairs.old }

@@ -2,7 +2,7 @@
 
 ghost use Rattle.std.specs.Prelude.{◌≡◌, ◌≤◌, ◌<◌, ◌+◌, [], true, length, map, vec_len, IfSome, IsSome, IfNone};
 ghost use Rattle.std.specs.Arc.{arc_value};
-ghost use Rattle.okws_base.specs.declared.limit.TheConstants.{MOST_CONNECTIONS, MOST_DOORS};
+ghost use Rattle.okws_base.specs.declared.limit.TheConstants.{MOST_DOORS};
 ghost use Rattle.turn_lock.specs.Rows.{AllCount};
 ghost use Rattle.site_locks.specs.Sat.{ids_of};
 ghost use Rattle.site_making.specs.Keepers.{keeper_of, AreKeepers, are_steady, faults_at, AreBacked};
@@ -10,6 +10,7 @@ ghost use Rattle.site_making.specs.Making.{IsServable};
 ghost use Rattle.site_run.specs.Places.{AllIdle};
 ghost use Rattle.site_run.specs.Rooms.{IsStock};
 ghost use Rattle.okws_serve.specs.Runs.{Runs};
+ghost use Rattle.okws_serve.specs.declared.outfit.TheConstants.{MOST_BEGUN};
 
 use crate::outfit::{Left, Limits, Outfit};
 use crate::outside::Outside;
@@ -57,7 +58,7 @@ where
     F::Link: Send,
     K::Pin: Send,
     requires servable { IsServable (arc_value site.now) }
-    requires limit { limits.connections ≤ MOST_CONNECTIONS }
+    requires limit { limits.connections ≤ MOST_BEGUN }
     requires doors { (0 < vec_len outfit.doors) × (vec_len outfit.doors ≤ MOST_DOORS) }
     requires idle { AllIdle (map D.entrance outfit.doors.items) }
     requires declared { vec_len outfit.keepers ≡ length (arc_value site.now).proxies }
@@ -105,7 +106,7 @@ where
     requires faults { N.sink_faults ≡ S.faults outfit.log }
     requires children { F.family outfit.children ≡ N.children }
     requires servable { IsServable N.site }
-    requires limit { limits.connections ≤ MOST_CONNECTIONS }
+    requires limit { limits.connections ≤ MOST_BEGUN }
     requires doors { (0 < vec_len outfit.doors) × (vec_len outfit.doors ≤ MOST_DOORS) }
     requires idle { AllIdle (map D.entrance outfit.doors.items) }
     requires declared { vec_len outfit.keepers ≡ length N.site.proxies }
@@ -170,7 +171,7 @@ where
     requires cells { (kit.cells.numbers ≡ N.launcher + 1) × AllCount (N.launcher + 1) kit.cells.turns × (length kit.cells.turns ≡ length N.site.services) }
     requires stock { IsStock N.site N.run_seed (vec_len outside.doors) kit.stock }
     requires tells { N.tells ≡ true }
-    requires limit { limits.connections ≤ MOST_CONNECTIONS }
+    requires limit { limits.connections ≤ MOST_BEGUN }
     requires launcher { N.launcher ≡ vec_len outside.doors + 1 }
     requires servable { IsServable N.site }
     requires doors { (0 < vec_len outside.doors) × (vec_len outside.doors ≤ MOST_DOORS) }

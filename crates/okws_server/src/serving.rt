@@ -55,7 +55,7 @@ where
         gate,
     } = things;
     let limits = Limits {
-        connections: server.connections,
+        connections: u64::from(server.connections),
         keeps: false,
     };
     let outfit = Outfit {

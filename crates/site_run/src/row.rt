@@ -47,7 +47,7 @@ pub struct Ground<
     pub cells: &'a CellLocks<N, C, F::Link>,
     pub turn: &'a Turn<Resting<N, J, C, K, S, F>>,
     pub numbers: &'a Board,
-    pub most: u32,
+    pub most: u64,
 }
 
 /// The seats of the workers at the columns, at the cells and at the launcher, those of number 0 first.

@@ -171,7 +171,7 @@ fn serve<'a, R: Abort + Wait + Threads + Sync>(
         gate: NoGate,
     };
     let limits = Limits {
-        connections: requests.min(200),
+        connections: u64::from(requests.min(200)),
         keeps: true,
     };
     let left = serve_site(rt, alloc, &site, &SEED, limits, outfit);

@@ -10,9 +10,9 @@ use Rattle.turn_lock.specs.declared.board_rule.Part.{Part}
 abbrev pub services : ℕ
 services = 64
 
--- A seat that drew a number from here on draws no more.
+-- A seat that drew a number from here on draws no more: so many can be counted in a word of 64 bits, with room for each seat.
 abbrev pub most_drawn : ℕ
-most_drawn = 1000000
+most_drawn = 2 ^ 62
 
 -- The number of a seat that was joined into another: above those of all seats.
 abbrev pub spent_number : ℕ

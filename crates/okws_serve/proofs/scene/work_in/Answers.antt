@@ -1,12 +1,12 @@
 use Rattle.std.proofs.Common.{◌≤◌, ℕ, ◌∙◌, length, sym, subst}
 use Rattle.atomic_table.specs.Seated.{TableId}
 use Rattle.turn_lock.specs.BoardSeats.{AllAt, BoardIs}
-use Rattle.okws_base.specs.declared.limit.TheConstants.{MOST_CONNECTIONS}
 use Rattle.turn_lock.specs.Seats.{TurnIs}
 use Rattle.site_run.specs.Places.{Placed}
 use Rattle.site_run.specs.Rows.{Seated}
 use Rattle.okws_serve.specs.Doors.{is_fault}
 use Rattle.okws_serve.specs.Manned.{WorkDone}
+use Rattle.okws_serve.specs.declared.outfit.TheConstants.{MOST_BEGUN}
 use Rattle.okws_serve.proofs.Surviving.{held_again, ready_spacious}
 use Rattle.okws_serve.proofs.scene.work_in.Goals as goal
 
@@ -14,7 +14,7 @@ pub run-requires-clause-few : goal.run-requires-clause-few
 run-requires-clause-few g c = λ κs within. (c.requires.servable.services, c.requires.servable.templates)
 
 pub run-requires-clause-most : goal.run-requires-clause-most
-run-requires-clause-most g c = λ κs within. subst (λ (m : ℕ). m ≤ MOST_CONNECTIONS) (sym c.ground-common.ensures.setting.1) c.requires.most
+run-requires-clause-most g c = λ κs within. subst (λ (m : ℕ). m ≤ MOST_BEGUN) (sym c.ground-common.ensures.setting.1) c.requires.most
 
 pub run-requires-clause-seated : goal.run-requires-clause-seated
 run-requires-clause-seated g c = λ κs within.

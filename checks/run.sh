@@ -32,16 +32,17 @@ last() {
     printf '%s\n' "$1" >"$folder/wanted"
 }
 
-# called LINE: keeps the last six lines that were printed, and wants this one, a blank one, and how the program is called.
+# called LINE: keeps the last seven lines that were printed, and wants this one, a blank one, and how the program is called.
 called() {
-    tail -n 6 "$folder/printed" >"$folder/last" && mv "$folder/last" "$folder/printed"
+    tail -n 7 "$folder/printed" >"$folder/last" && mv "$folder/last" "$folder/printed"
     cat >"$folder/wanted" <<ROWS
 $1
 
 okws check CONFIG
 okws play CONFIG SCRIPT
 okws drill SEED EVENTS
-okws serve CONFIG --port PORT --serve COUNT [--doors DOORS] [--store FILE] [--log FILE] [--audit FILE]
+okws serve CONFIG --port PORT (--serve COUNT | --always) [--doors DOORS] [--patience SECONDS] [--store FILE] [--log FILE]
+okws --version
 ROWS
 }
 
@@ -205,18 +206,21 @@ told "a script that isn't there" 3 "$folder/wanted"
 run check "$folder/nowhere"
 told "a configuration that isn't there" 3 "$folder/wanted"
 for words in "" "play whole.okws" "check" "serve whole.okws" "--help" "Check whole.okws" "drill" "drill 0" "drill 0 0 0" "drill 0 100001" \
-    "drill 18446744073709551616 0" "drill 00 0" "drill 0 05" "drill -1 0" "drill +1 0" "drill 0x1 0"; do
+    "--version check whole.okws" "--always" "drill 18446744073709551616 0" "drill 00 0" "drill 0 05" "drill -1 0" "drill +1 0" "drill 0x1 0"; do
     # Words are parted on purpose.
     # shellcheck disable=SC2086
     run $words
     case "$words" in
-        "" | --help) called "  -h, --help  Print help" ;;
+        "" | --help) called "  -h, --help     Print help" ;;
         *) called "For more information, try '--help'." ;;
     esac
     told "the words '$words'" 2 "$folder/wanted"
 done
+echo "okws 0.1" >"$folder/wanted"
+run --version
+told "the version" 0 "$folder/wanted"
 run play whole.okws $'\xff'
-called "  -h, --help  Print help"
+called "  -h, --help     Print help"
 told "a word that isn't UTF-8" 2 "$folder/wanted"
 : >"$folder/printed"
 "$okws" check whole.okws >/dev/full

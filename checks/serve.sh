@@ -52,14 +52,14 @@ def a_port():
         return s.getsockname()[1]
 
 class Server:
-    """A server of a site for so many connections, whose console is a pipe. It and its children are ended at the end of the block."""
+    """A server of a site for so many connections, or for all that come, whose console is a pipe. It and its children are ended at the end of the block."""
     def __init__(self, site, connections, *options, doors=2, port=None, files=None, without=''):
         """With at most so many open files, and without some of its standard streams as the shell writes it."""
         write('site', site)
         self.ports = [port] if port else [a_port() for _ in range(5)]
         self.limit_files = (lambda: resource.setrlimit(resource.RLIMIT_NOFILE, (files, files))) if files else None
         self.shell = ['/bin/sh', '-c', f'exec "$0" "$@" {without}'] if without else []
-        self.words = ['--doors', str(doors), '--serve', str(connections), *options]
+        self.words = ['--doors', str(doors), *(['--serve', str(connections)] if connections is not None else ['--always']), *options]
 
     def start(self, port):
         """Starts the server at a port, and waits until it listens there or has ended."""
@@ -312,6 +312,10 @@ def words_and_files_are_judged_first():
     write('good', SITE % './svc_probe')
     write('bad', 'okws 1\nproxy main\ngrant guest main 1\n')
     same(said('serve', 'good')[1], 2)
+    same(said('serve', 'good', '--port', '1')[1], 2)
+    same(said('serve', 'good', '--port', '1', '--serve', '1', '--always')[1], 2)
+    same(said('serve', 'good', '--port', '1', '--always', '--patience', '3601')[1], 2)
+    same(said('--version'), ('okws 0.1\n', 0))
     same(said('serve', 'good', '--port', '0', '--serve', '1')[1], 2)
     same(said('serve', 'none', '--port', '1', '--serve', '1'), ('read fault\n', 3))
     same(said('serve', 'bad', '--port', '1', '--serve', '1'), ('refused: config line 3 rule 11\n', 4))
@@ -533,6 +537,60 @@ def a_page_of_many_places_is_refused_soon():
         get(server.port, '/nowhere')
         same(server.ends()[1], 0)
 
+def silent_clients_keep_no_door():
+    with Server(SITE % './svc_probe', 66, '--patience', '2') as server:
+        silent = [socket.create_connection(('127.0.0.1', server.port), 30) for _ in range(64)]
+        for wait in (0, 2):
+            time.sleep(wait)
+            begun = time.monotonic()
+            same(get(server.port), ANN_AND_BOB)
+            assert time.monotonic() - begun < 5, time.monotonic() - begun
+        for client in silent:
+            same(client.recv(1), b'')
+            client.close()
+        same(server.ends(), (counts(66, 2, 2, 0, 0), 0))
+        same(server.told(), ['okws: doors: 64 faults', f'okws: listening on 127.0.0.1:{server.port}'])
+
+def a_slow_client_is_cut_off():
+    with Server(SITE % './svc_probe', 2, '--patience', '2') as server:
+        with socket.create_connection(('127.0.0.1', server.port), 30) as client:
+            begun = time.monotonic()
+            client.settimeout(1)
+            for byte in b'GET /guest HTTP/1.1':
+                client.sendall(bytes([byte]))
+                try:
+                    same(client.recv(1), b'')
+                    break
+                except TimeoutError:
+                    pass
+                except ConnectionResetError:
+                    break
+            assert 1.9 < time.monotonic() - begun < 4, time.monotonic() - begun
+        same(get(server.port), ANN_AND_BOB)
+        same(server.ends(), (counts(2, 1, 2, 0, 0), 0))
+
+def a_client_may_take_its_time_within_its_patience():
+    with Server(SITE % './svc_probe', 1, '--patience', '10') as server:
+        with socket.create_connection(('127.0.0.1', server.port), 30) as client:
+            for piece in (b'GET /gu', b'est HTTP/1.1\r\n', b'Host: a\r\n\r\n'):
+                time.sleep(0.5)
+                client.sendall(piece)
+            answer = b''
+            while piece := client.recv(65536):
+                answer += piece
+        same(answer, ANN_AND_BOB)
+        same(server.ends(), (counts(1, 1, 2, 0, 0), 0))
+
+def a_server_without_end_outlives_its_console():
+    with Server(SITE % './svc_probe', None) as server:
+        same(server.answers(b'relaunch guest\n'), b'relaunched 2\n')
+        server.process.stdin.close()
+        for _ in range(20):
+            same(get(server.port), ANN_AND_BOB)
+        same(server.process.poll(), None)
+        server.process.terminate()
+        same(server.process.wait(10), -signal.SIGTERM)
+
 CHECKS = [
     the_guestbook_shows_and_takes_entries, a_log_is_appended_to, a_log_that_cannot_be_opened_is_a_fault_at_the_end, requests_are_refused_by_the_standard,
     a_site_of_no_service_is_served, the_console_is_answered, a_published_page_reaches_a_running_service, a_refused_publication_is_dropped,
@@ -546,6 +604,7 @@ CHECKS = [
     what_goes_wrong_is_told_on_standard_error, a_child_has_path_alone_and_three_descriptors, a_file_of_rows_has_all_rows_after_an_orderly_end,
     a_new_file_of_rows_has_its_tables_when_the_doors_open,
     rows_of_tables_or_columns_in_another_order_are_refused, who_holds_a_file_of_rows_for_a_moment_is_waited_for, a_page_of_many_places_is_refused_soon,
+    silent_clients_keep_no_door, a_slow_client_is_cut_off, a_client_may_take_its_time_within_its_patience, a_server_without_end_outlives_its_console,
 ]
 passed = failed = 0
 for check in CHECKS:

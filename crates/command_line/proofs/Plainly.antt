@@ -6,9 +6,10 @@ use Rattle.std.proofs.lemmas.Bool.Decides.{nat_tests}
 use Rattle.std.proofs.lemmas.Fmt.{decimal_digit, first_decimal}
 use Rattle.okws_base.specs.declared.limit.TheConstants.{MOST_CONNECTIONS}
 use Rattle.command_line.specs.Parts.{Own, look_of}
-use Rattle.command_line.specs.Asked.{asked, Checks, Plays, Drills, Serves}
+use Rattle.command_line.specs.Asked.{asked, Checks, Plays, Drills, Serves, Versions}
 use Rattle.command_line.specs.Plain.{IsPlainWord}
-use Rattle.command_line.specs.declared.command.TheConstants.{MOST_EVENTS, USUAL_DOORS}
+use Rattle.command_line.specs.declared.command.TheConstants.{MOST_EVENTS, MOST_PATIENCE, USUAL_DOORS}
+use Rattle.command_line.specs.declared.command.Connections.TheVariants.{Count, Always}
 use Rattle.command_line.proofs.Written.{written_is_found}
 
 -- a word that doesn't begin with a hyphen is one of its own
@@ -38,7 +39,7 @@ drill_is_read seed events small le =
 
 pub serve_is_read : (config : List ℕ) (port connections : ℕ) → IsPlainWord config → 1 ≤ port → port ≤ 65535 → connections ≤ MOST_CONNECTIONS →
     asked (codes "serve" ∷ config ∷ codes "--port" ∷ fmt.decimal port ∷ codes "--serve" ∷ fmt.decimal connections ∷ []) ≡
-    Some (Serves (record { config = config; port = port; doors = USUAL_DOORS; connections = connections; store = None; log = None; audit = None }))
+    Some (Serves (record { config = config; port = port; doors = USUAL_DOORS; connections = Count connections; patience = None; store = None; log = None; audit = None }))
 serve_is_read config port connections h low high le =
     rw (
       plain_look config h,
@@ -47,3 +48,18 @@ serve_is_read config port connections h low high le =
       written_is_found 1 65535 port (omega arith) low high,
       written_is_found 0 MOST_CONNECTIONS connections (omega arith) (omega arith) le,
     ) refl
+
+pub always_is_read : (config : List ℕ) (port seconds : ℕ) → IsPlainWord config → 1 ≤ port → port ≤ 65535 → 1 ≤ seconds → seconds ≤ MOST_PATIENCE →
+    asked (codes "serve" ∷ config ∷ codes "--port" ∷ fmt.decimal port ∷ codes "--always" ∷ codes "--patience" ∷ fmt.decimal seconds ∷ []) ≡
+    Some (Serves (record { config = config; port = port; doors = USUAL_DOORS; connections = Always; patience = Some seconds; store = None; log = None; audit = None }))
+always_is_read config port seconds h low high some most =
+    rw (
+      plain_look config h,
+      plain_look (fmt.decimal port) (decimal_plain port (omega (arith, high))),
+      plain_look (fmt.decimal seconds) (decimal_plain seconds (omega (arith, most))),
+      written_is_found 1 65535 port (omega arith) low high,
+      written_is_found 1 MOST_PATIENCE seconds (omega arith) some most,
+    ) refl
+
+pub version_is_read : asked (codes "--version" ∷ []) ≡ Some Versions
+version_is_read = refl

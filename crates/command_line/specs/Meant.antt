@@ -2,7 +2,7 @@
 use Rattle.std.specs.Prelude.{ℕ, List, ◌++◌, map, option_map, Option, Some, None}
 use Rattle.std.specs.Borrow.{Bor}
 use Rattle.command_line.specs.Parts.{Parts, parts_of}
-use Rattle.command_line.specs.Asked.{Asked, Checks, Plays, Drills, Serves}
+use Rattle.command_line.specs.Asked.{Asked, Checks, Plays, Drills, Serves, Versions}
 use Rattle.command_line.specs.declared.parts.Parts.{Parts as Taken}
 use Rattle.command_line.specs.declared.command.Command.{Command}
 use Rattle.command_line.specs.declared.command.Command.TheVariants as command
@@ -29,11 +29,13 @@ abbrev pub meant : Command → Asked
 meant (command.Check config) = Checks config.now
 meant (command.Play config script) = Plays config.now script.now
 meant (command.Drill seed events) = Drills seed events
+meant command.Version = Versions
 meant (command.Serve server) = Serves (record {
   config = server.config.now;
   port = server.port;
   doors = server.doors;
   connections = server.connections;
+  patience = server.patience;
   store = option_map (λ s. s.now) server.store;
   log = option_map (λ s. s.now) server.log;
   audit = option_map (λ s. s.now) server.audit;

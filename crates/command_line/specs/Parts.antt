@@ -29,7 +29,11 @@ is_own (Long name value) = false
 
 -- ---- the parts
 
--- The words of their own, and the options with their values, each in order.
+-- This option has no value.
+abbrev pub is_flag : List ℕ → Bool
+is_flag name = bytes_eq name (codes "always")
+
+-- The words of their own, and the options with their values, each in order. The value of an option that has none is empty.
 pub record Parts : Type 0 where
   pub own : List (List ℕ)
   pub options : List (List ℕ × List ℕ)
@@ -51,8 +55,8 @@ abbrev pub first_part : Look → List ℕ → List (List ℕ) → Option Parts �
 first_part Own word behind others waiting = option_map (with_own word) others
 first_part Ending word behind others waiting = Some (record { own = behind; options = [] })
 first_part Short word behind others waiting = None
-first_part (Long name (Some value)) word behind others waiting = option_map (with_option name value) others
-first_part (Long name None) word behind others waiting = waiting name
+first_part (Long name (Some value)) word behind others waiting = if is_flag name then None else option_map (with_option name value) others
+first_part (Long name None) word behind others waiting = if is_flag name then option_map (with_option name []) others else waiting name
 
 -- The parts of words, where this option may wait for its value: the next word, which has to be one of its own.
 abbrev pub parts_from : Option (List ℕ) → List (List ℕ) → Option Parts

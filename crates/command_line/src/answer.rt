@@ -3,9 +3,9 @@
 ghost use Rattle.std.specs.Prelude.{◌≡◌, ◌++◌, IfOk, string_bytes};
 ghost use Rattle.command_line.specs.Usage.{TellsUsage};
 
-use crate::command::MOST_EVENTS;
+use crate::command::{MOST_EVENTS, MOST_PATIENCE};
 use clap::error::ErrorKind;
-use clap::{Arg, Command, Error, value_parser};
+use clap::{Arg, ArgAction, ArgGroup, Command, Error, value_parser};
 use okws_base::limit::{MOST_CONNECTIONS, MOST_DOORS};
 use std::alloc::{AllocError, Global};
 
@@ -17,7 +17,11 @@ pub const USAGE: &str = "\n\
     okws check CONFIG\n\
     okws play CONFIG SCRIPT\n\
     okws drill SEED EVENTS\n\
-    okws serve CONFIG --port PORT --serve COUNT [--doors DOORS] [--store FILE] [--log FILE] [--audit FILE]\n";
+    okws serve CONFIG --port PORT (--serve COUNT | --always) [--doors DOORS] [--patience SECONDS] [--store FILE] [--log FILE]\n\
+    okws --version\n";
+
+/// The line that tells the program's version.
+pub const VERSION: &str = "okws 0.1\n";
 
 /// The path of a file that a command needs.
 fn path<'a>(alloc: Global, name: &'a str, help: &'a str) -> Arg<'a> {
@@ -99,9 +103,50 @@ fn connections<'a>(alloc: Global) -> Arg<'a> {
     Arg::new(alloc, "serve")
         .long("serve")
         .value_name("COUNT")
-        .required(true)
         .value_parser(value_parser!(u32).range(0..=i64::from(MOST_CONNECTIONS)))
         .help("How many connections are served in all, 0 to 1000000")
+}
+
+fn always<'a>(alloc: Global) -> Arg<'a> {
+    Arg::new(alloc, "always")
+        .long("always")
+        .action(ArgAction::SetTrue)
+        .help("As many connections are served as come")
+}
+
+/// One of the two says how many connections are served.
+fn counts<'a>(alloc: Global) -> Result<ArgGroup<'a>, AllocError> {
+    ArgGroup::new(alloc, "connections")
+        .required(true)
+        .arg("serve")?
+        .arg("always")
+}
+
+fn patience<'a>(alloc: Global) -> Arg<'a> {
+    Arg::new(alloc, "patience")
+        .long("patience")
+        .value_name("SECONDS")
+        .value_parser(value_parser!(u16).range(1..=i64::from(MOST_PATIENCE)))
+        .help("How long a client is waited for, 1 to 3600; without end where it isn't told")
+}
+
+/// How many connections a server has, and how long it waits for each.
+fn with_limits<'a>(alloc: Global, serve: Command<'a>) -> Result<Command<'a>, AllocError> {
+    serve
+        .arg(connections(alloc))?
+        .arg(always(alloc))?
+        .group(counts(alloc)?)?
+        .arg(patience(alloc))
+}
+
+/// The file of the record, which no server writes yet.
+fn audit<'a>(alloc: Global) -> Arg<'a> {
+    file(
+        alloc,
+        "audit",
+        "Where the record of the run is written at its end",
+    )
+    .hide(true)
 }
 
 /// The files that a server may be given.
@@ -117,11 +162,7 @@ fn with_files<'a>(alloc: Global, serve: Command<'a>) -> Result<Command<'a>, Allo
             "log",
             "Where the log is written; nowhere where it isn't told",
         ))?
-        .arg(file(
-            alloc,
-            "audit",
-            "Where the record of the run is written at its end",
-        ))
+        .arg(audit(alloc))
 }
 
 fn serve<'a>(alloc: Global) -> Result<Command<'a>, AllocError> {
@@ -129,9 +170,8 @@ fn serve<'a>(alloc: Global) -> Result<Command<'a>, AllocError> {
         .about("Serves a site, whose services are programs")
         .arg(config(alloc))?
         .arg(port(alloc))?
-        .arg(doors(alloc))?
-        .arg(connections(alloc))?;
-    with_files(alloc, serve)
+        .arg(doors(alloc))?;
+    with_files(alloc, with_limits(alloc, serve)?)
 }
 
 /// The program with one more command, where that was made.
@@ -145,13 +185,23 @@ fn with_command<'a>(
     }
 }
 
+fn version<'a>(alloc: Global) -> Arg<'a> {
+    Arg::new(alloc, "version")
+        .long("version")
+        .action(ArgAction::SetTrue)
+        .help("Tells the version")
+}
+
 /// The program, as its help and its refusals are made.
 fn program<'a>(alloc: Global) -> Result<Command<'a>, AllocError> {
     let program = Command::new(alloc, "okws")
         .about("Web services in least-privilege compartments")
         .no_binary_name(true)
         .subcommand_required(true)
-        .arg_required_else_help(true);
+        .arg_required_else_help(true)
+        .args_conflicts_with_subcommands(true)
+        .override_usage("okws <COMMAND>\n       okws --version")
+        .arg(version(alloc))?;
     let program = with_command(program, check(alloc))?;
     let program = with_command(program, play(alloc))?;
     let program = with_command(program, drill(alloc))?;

@@ -1,18 +1,21 @@
 //! Which command the words are.
 
 ghost use Rattle.std.specs.Prelude.{◌≡◌, ◌^◌, ◌-◌, map, string_bytes, IfOk, Some, None, option_map};
-ghost use Rattle.command_line.specs.Asked.{asked, check_of, play_of, drill_of, serve_of, command_of, port_in, doors_in, connections_in, own_alone, drill_numbers, serve_config};
+ghost use Rattle.command_line.specs.Asked.{asked, check_of, play_of, drill_of, serve_of, version_of, command_of, port_in, doors_in, connections_in, patience_in, own_alone, drill_numbers, serve_config};
 ghost use Rattle.command_line.specs.Meant.{parts_meant, options_meant, meant};
 
 use crate::looks::is_same;
 use crate::numbers::number_in;
-use crate::options::{are_server_options, value_of};
+use crate::options::{are_server_options, has_option, value_of};
 use crate::parts::{Parts, parts_of};
 use okws_base::limit::{MOST_CONNECTIONS, MOST_DOORS};
 use std::alloc::{AllocError, Global};
 
 /// Events that a drill may have.
 pub const MOST_EVENTS: u32 = 100_000;
+
+/// The seconds for which a server may wait for a client.
+pub const MOST_PATIENCE: u16 = 3_600;
 
 /// The doors of a server where their number isn't told.
 pub const USUAL_DOORS: usize = 2;
@@ -41,6 +44,17 @@ pub enum Command<'w> {
     },
     /// A site is to be served.
     Serve(Server<'w>),
+    /// The program's version is to be told.
+    Version,
+}
+
+/// How many connections are served.
+#[derive(Clone, Copy, Debug, PartialEq, Eq)]
+pub enum Connections {
+    /// So many.
+    Count(u32),
+    /// As many as come.
+    Always,
 }
 
 /// What a server is asked for.
@@ -53,7 +67,9 @@ pub struct Server<'w> {
     /// How many doors, from 1.
     pub doors: usize,
     /// How many connections are served.
-    pub connections: u32,
+    pub connections: Connections,
+    /// For how many seconds a client is waited for, from 1, where that is told.
+    pub patience: Option<u16>,
     /// The file of the rows, where one is told.
     pub store: Option<&'w str>,
     /// The file of the log, where one is told.
@@ -131,11 +147,29 @@ fn doors_in(options: &[(&str, &str)]) -> Option<usize>
     }
 }
 
-fn connections_in(options: &[(&str, &str)]) -> Option<u32>
+fn connections_in(options: &[(&str, &str)]) -> Option<Connections>
     ensures { result ≡ connections_in (options_meant options.now) }
 {
-    let connections = number_in(0, u64::from(MOST_CONNECTIONS), value_of("serve", options)?)?;
-    Some(connections as u32)
+    match (has_option("always", options), value_of("serve", options)) {
+        (true, None) => Some(Connections::Always),
+        (false, Some(word)) => {
+            let count = number_in(0, u64::from(MOST_CONNECTIONS), word)?;
+            Some(Connections::Count(count as u32))
+        }
+        _ => None,
+    }
+}
+
+fn patience_in(options: &[(&str, &str)]) -> Option<Option<u16>>
+    ensures { result ≡ patience_in (options_meant options.now) }
+{
+    match value_of("patience", options) {
+        Some(word) => {
+            let seconds = number_in(1, u64::from(MOST_PATIENCE), word)?;
+            Some(Some(seconds as u16))
+        }
+        None => Some(None),
+    }
 }
 
 fn serve_config<'w>(options: &[(&'w str, &'w str)], config: &'w str) -> Option<Command<'w>>
@@ -144,11 +178,13 @@ fn serve_config<'w>(options: &[(&'w str, &'w str)], config: &'w str) -> Option<C
     let port = port_in(options)?;
     let doors = doors_in(options)?;
     let connections = connections_in(options)?;
+    let patience = patience_in(options)?;
     Some(Command::Serve(Server {
         config,
         port,
         doors,
         connections,
+        patience,
         store: value_of("store", options),
         log: value_of("log", options),
         audit: value_of("audit", options),
@@ -163,6 +199,15 @@ fn serve_of<'w>(parts: &Parts<'w>) -> Option<Command<'w>>
     }
     match parts.own.as_slice() {
         [config] => serve_config(&parts.options, config),
+        _ => None,
+    }
+}
+
+fn version_of<'w>(parts: &Parts<'w>) -> Option<Command<'w>>
+    ensures { option_map meant result ≡ version_of (parts_meant parts.now) }
+{
+    match own_alone(parts)? {
+        [] => Some(Command::Version),
         _ => None,
     }
 }
@@ -182,6 +227,9 @@ fn named<'w>(name: &str, parts: &Parts<'w>) -> Option<Command<'w>>
     }
     if is_same(name, "serve") {
         return serve_of(parts);
+    }
+    if is_same(name, "--version") {
+        return version_of(parts);
     }
     None
 }

@@ -3,7 +3,7 @@
 ghost use Rattle.std.specs.Prelude.{◌≡◌, ◌↔◌, IsTrue, Some, None, codes, option_map};
 ghost use Rattle.std.specs.Str.{bytes_eq};
 ghost use Rattle.clap.specs.Lexer.{strip_byte, name_and_value, long_of, short_of};
-ghost use Rattle.command_line.specs.Parts.{look_of, is_own};
+ghost use Rattle.command_line.specs.Parts.{look_of, is_own, is_flag};
 ghost use Rattle.command_line.specs.Looks.{look_meant};
 
 /// How a word looks.
@@ -24,6 +24,13 @@ pub(crate) fn is_same(one: &str, other: &str) -> bool
     ensures { result ≡ bytes_eq one.now other.now }
 {
     one == other
+}
+
+/// Whether an option of this name has no value.
+pub(crate) fn is_flag(name: &str) -> bool
+    ensures { result ≡ is_flag name.now }
+{
+    is_same(name, "always")
 }
 
 /// What follows a first hyphen.

@@ -20,7 +20,7 @@ pub(crate) fn value_of<'w>(name: &str, options: &[(&'w str, &'w str)]) -> Option
 }
 
 /// Whether an option of a name is among these.
-fn has_option(name: &str, options: &[(&str, &str)]) -> bool
+pub(crate) fn has_option(name: &str, options: &[(&str, &str)]) -> bool
     ensures { result ≡ has_option name.now (options_meant options.now) }
 {
     for (other, _) in options {
@@ -37,6 +37,8 @@ fn is_server_option(name: &str) -> bool
     is_same(name, "port")
         || is_same(name, "doors")
         || is_same(name, "serve")
+        || is_same(name, "always")
+        || is_same(name, "patience")
         || is_same(name, "store")
         || is_same(name, "log")
         || is_same(name, "audit")

@@ -1,10 +1,10 @@
 //! The parts of the words behind a command's name.
 
-ghost use Rattle.std.specs.Prelude.{◌≡◌, ◌≤◌, ◌∷◌, ◌++◌, map, length, string_bytes, Some, IfOk, IfSome, OnOk, Option, option_map};
-ghost use Rattle.command_line.specs.Parts.{Parts as Whole, parts_of, parts_from, with_own, with_option};
+ghost use Rattle.std.specs.Prelude.{◌≡◌, ◌≤◌, [], ◌∷◌, ◌++◌, map, length, string_bytes, Some, None, IfOk, IfSome, OnOk, Option, option_map, if◌then◌else◌};
+ghost use Rattle.command_line.specs.Parts.{Parts as Whole, parts_of, parts_from, with_own, with_option, is_flag};
 ghost use Rattle.command_line.specs.Meant.{parts_meant, joined, goes_on};
 
-use crate::looks::{Sort, is_own, sort_of};
+use crate::looks::{Sort, is_flag, is_own, sort_of};
 use std::alloc::{AllocError, Global};
 
 /// The words of their own, and the options with their values, each in order.
@@ -65,12 +65,42 @@ impl<'w> Parts<'w> {
                 Ok(Some(&[]))
             }
             Sort::Short => Ok(None),
-            Sort::Long(name, Some(value)) => {
-                self.take_option(name, value)?;
-                Ok(Some(behind))
-            }
-            Sort::Long(name, None) => self.take_value(name, behind),
+            Sort::Long(name, Some(value)) => self.take_given(name, value, behind),
+            Sort::Long(name, None) => self.take_named(name, behind),
         }
+    }
+
+    /// Takes an option with the value that its word gives it, and gives the words behind it.
+    fn take_given(
+        &mut self,
+        name: &'w str,
+        value: &'w str,
+        behind: &'w [String],
+    ) -> Result<Option<&'w [String]>, AllocError>
+        ensures left { IfOk result (λ left. joined (parts_meant self.old) (if is_flag name.now then None else option_map (with_option name.now value.now) (parts_of (map string_bytes behind.now))) ≡ goes_on (parts_meant self.new) (option_map (λ s. map string_bytes s.now) left)) }
+        ensures fewer { IfOk result (λ left. IfSome left (λ s. length s.now ≤ length behind.now)) }
+    {
+        if is_flag(name) {
+            return Ok(None);
+        }
+        self.take_option(name, value)?;
+        Ok(Some(behind))
+    }
+
+    /// Takes an option whose word gives it no value, and gives the words behind it, or behind its value.
+    fn take_named(
+        &mut self,
+        name: &'w str,
+        behind: &'w [String],
+    ) -> Result<Option<&'w [String]>, AllocError>
+        ensures left { IfOk result (λ left. joined (parts_meant self.old) (if is_flag name.now then option_map (with_option name.now []) (parts_of (map string_bytes behind.now)) else parts_from (Some name.now) (map string_bytes behind.now)) ≡ goes_on (parts_meant self.new) (option_map (λ s. map string_bytes s.now) left)) }
+        ensures fewer { IfOk result (λ left. IfSome left (λ s. length s.now ≤ length behind.now)) }
+    {
+        if !is_flag(name) {
+            return self.take_value(name, behind);
+        }
+        self.take_option(name, "")?;
+        Ok(Some(behind))
     }
 
     /// Takes the first word as the value of an option, and gives the words behind it.

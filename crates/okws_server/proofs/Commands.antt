@@ -8,11 +8,15 @@ use Rattle.std.proofs.lemmas.Option.{cond_some, option_and_then_some, none-some,
 use Rattle.plain_text.specs.Decimals.{decimal_value}
 use Rattle.okws_base.specs.declared.limit.TheConstants.{MOST_CONNECTIONS, MOST_DOORS}
 use Rattle.play_script.specs.declared.words.TheConstants.{MOST_EVENTS}
-use Rattle.command_line.specs.Asked.{Asked, Checks, Plays, Drills, asked, check_of, play_of, drill_of, drill_numbers, serve_of, serve_config, command_of, port_in, doors_in, connections_in, served_by, one_word, two_words, own_alone, are_server_options}
+use Rattle.command_line.specs.Asked.{Asked, Checks, Plays, Drills, Versions, asked, check_of, play_of, drill_of, drill_numbers, serve_of, serve_config, version_of, version_alone, command_of, port_in, doors_in, connections_in, connections_of, patience_in, served_by, one_word, two_words, own_alone, are_server_options}
 use Rattle.command_line.specs.Numbers.{is_plain, number_in}
-use Rattle.command_line.specs.Parts.{Parts, parts_of, value_of}
+use Rattle.command_line.specs.Parts.{Parts, parts_of, value_of, has_option}
+use Rattle.command_line.specs.declared.command.Connections.{Connections}
+use Rattle.command_line.specs.declared.command.Connections.TheVariants.{Count, Always}
 use Rattle.command_line.specs.declared.command.TheConstants.{USUAL_DOORS}
+use Rattle.okws_serve.specs.declared.outfit.TheConstants.{MOST_BEGUN}
 use Rattle.okws_server.specs.Commands.{IsWithin}
+use Rattle.okws_server.specs.Served.{limit_of}
 
 -- a number that a word writes is one of those that it may be
 number_within : (least most n : ℕ) (word : List ℕ) → number_in least most word ≡ Some n → (least ≤ n) × (n ≤ most)
@@ -50,14 +54,23 @@ doors_within : (options : List (List ℕ × List ℕ)) (told : Option (List ℕ)
 doors_within options None doors e = subst (λ d. (0 < d) × (d ≤ MOST_DOORS)) (same_Some USUAL_DOORS doors e) (omega arith, omega arith)
 doors_within options (Some word) doors e = let w = number_within 1 MOST_DOORS doors word e in (omega (arith, w.0), w.1)
 
+-- the connections of a server
+connections_within : (always : Bool) (told : Option (List ℕ)) (connections : Connections) → connections_of always told ≡ Some connections → limit_of connections ≤ MOST_BEGUN
+connections_within true None connections e = subst (λ c. limit_of c ≤ MOST_BEGUN) (same_Some Always connections e) (omega arith)
+connections_within true (Some word) connections e = absurd (none-some connections e)
+connections_within false None connections e = absurd (none-some connections e)
+connections_within false (Some word) connections e =
+    map_some Count (number_in 0 MOST_CONNECTIONS word) connections e (λ n found same.
+    let few = (number_within 0 MOST_CONNECTIONS n word found).1 in subst (λ c. limit_of c ≤ MOST_BEGUN) same (omega (arith, few)))
+
 serving_within : (options : List (List ℕ × List ℕ)) (config : List ℕ) (a : Asked) → serve_config options config ≡ Some a → IsWithin a
 serving_within options config a e =
-    option_and_then_some (λ port. option_and_then (λ doors. option_map (served_by options config port doors) (connections_in options)) (doors_in options)) (port_in options) a e (λ port _ h.
-    option_and_then_some (λ doors. option_map (served_by options config port doors) (connections_in options)) (doors_in options) a h (λ doors there k.
-    map_some (served_by options config port doors) (connections_in options) a k (λ connections found same.
-    option_and_then_some (number_in 0 MOST_CONNECTIONS) (value_of (codes "serve") options) connections found (λ word _ m.
+    option_and_then_some (λ port. option_and_then (λ doors. option_and_then (λ connections. option_map (served_by options config port doors connections) (patience_in options)) (connections_in options)) (doors_in options)) (port_in options) a e (λ port _ h.
+    option_and_then_some (λ doors. option_and_then (λ connections. option_map (served_by options config port doors connections) (patience_in options)) (connections_in options)) (doors_in options) a h (λ doors there k.
+    option_and_then_some (λ connections. option_map (served_by options config port doors connections) (patience_in options)) (connections_in options) a k (λ connections found m.
+    map_some (served_by options config port doors connections) (patience_in options) a m (λ patience _ same.
     let d = doors_within options (value_of (codes "doors") options) doors there in
-    subst IsWithin same (record { limit = (number_within 0 MOST_CONNECTIONS connections word m).1; some = d.0; few = d.1 })))))
+    subst IsWithin same (record { limit = connections_within (has_option (codes "always") options) (value_of (codes "serve") options) connections found; some = d.0; few = d.1 })))))
 
 serve_within : (parts : Parts) (a : Asked) → serve_of parts ≡ Some a → IsWithin a
 serve_within parts a e =
@@ -65,15 +78,25 @@ serve_within parts a e =
     (λ h. option_and_then_some (serve_config parts.options) (one_word parts.own) a h (λ config _ k. serving_within parts.options config a k))
     (λ h. absurd (none-some a h))
 
+version_within : (parts : Parts) (a : Asked) → version_of parts ≡ Some a → IsWithin a
+version_within parts a e = option_and_then_some version_alone (own_alone parts.options parts.own) a e (λ own _ h. go own h)
+  where
+    go : (own : List (List ℕ)) → version_alone own ≡ Some a → IsWithin a
+    go [] h = subst IsWithin (same_Some Versions a h) tt
+    go (word ∷ more) h = absurd (none-some a h)
+
 command_within : (name : List ℕ) (parts : Parts) (a : Asked) → command_of name parts ≡ Some a → IsWithin a
 command_within name parts a e =
     either (bytes_eq name (codes "check")) (check_of parts)
-    (if bytes_eq name (codes "play") then play_of parts else (if bytes_eq name (codes "drill") then drill_of parts else (if bytes_eq name (codes "serve") then serve_of parts else None)))
+    (if bytes_eq name (codes "play") then play_of parts else (if bytes_eq name (codes "drill") then drill_of parts else (if bytes_eq name (codes "serve") then serve_of parts else (if bytes_eq name (codes "--version") then version_of parts else None))))
     a e (check_within parts a) (λ h.
-    either (bytes_eq name (codes "play")) (play_of parts) (if bytes_eq name (codes "drill") then drill_of parts else (if bytes_eq name (codes "serve") then serve_of parts else None)) a h
+    either (bytes_eq name (codes "play")) (play_of parts)
+    (if bytes_eq name (codes "drill") then drill_of parts else (if bytes_eq name (codes "serve") then serve_of parts else (if bytes_eq name (codes "--version") then version_of parts else None))) a h
     (play_within parts a) (λ k.
-    either (bytes_eq name (codes "drill")) (drill_of parts) (if bytes_eq name (codes "serve") then serve_of parts else None) a k (drill_within parts a) (λ m.
-    either (bytes_eq name (codes "serve")) (serve_of parts) None a m (serve_within parts a) (λ n. absurd (none-some a n)))))
+    either (bytes_eq name (codes "drill")) (drill_of parts) (if bytes_eq name (codes "serve") then serve_of parts else (if bytes_eq name (codes "--version") then version_of parts else None)) a k
+    (drill_within parts a) (λ m.
+    either (bytes_eq name (codes "serve")) (serve_of parts) (if bytes_eq name (codes "--version") then version_of parts else None) a m (serve_within parts a) (λ n.
+    either (bytes_eq name (codes "--version")) (version_of parts) None a n (version_within parts a) (λ o. absurd (none-some a o))))))
 
 -- what words ask for is within what may be
 pub asked_within : (words : List (List ℕ)) (a : Asked) → asked words ≡ Some a → IsWithin a

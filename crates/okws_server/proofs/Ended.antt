@@ -11,6 +11,8 @@ use Rattle.monitor_model.specs.declared.record.Record.{Record}
 use Rattle.play_script.specs.Refusal.{script_refused}
 use Rattle.play_script.specs.Rule.{script_rule_number}
 use Rattle.config_reader.specs.declared.error.Refusal.{Refusal}
+use Rattle.command_line.specs.declared.answer.TheConstants.{VERSION}
+use Rattle.okws_server.specs.Commands.{TellsVersion}
 use Rattle.okws_server.specs.Ending.{Told, BreaksOff, no_memory_line}
 use Rattle.okws_server.specs.Headline.{IsWholeRun, IsRefused, IsEmptyRecord, IsDueOf, Leaves}
 use Rattle.okws_server.specs.Ran.{zero_seed, out_status, GivesConfig, IsRefusedBy, TellsRefusal, Plays, PlaysFiles, Played, Ends, Lists, Checked}
@@ -167,6 +169,14 @@ lists_at C old new f g false p n = p.whole refl
 
 pub lists_by : (C : Config) (old : Option (List ℕ)) (f : ℕ) (b : Printer) → PrintsOn (at_start old f) b (listing C) → Lists C old b.given (Rose f b.faults) (out_status b.stopped)
 lists_by C old f b h = lists_at C old b.given f b.faults b.stopped (printed_first old b.given (listing C) b.stopped h.prints) (counted_first f b.faults b.stopped h.counts)
+
+-- the program's version was told
+version_at : (old new : Option (List ℕ)) (f g : ℕ) (stopped : Bool) → Printed old new VERSION.now stopped → Counted f g stopped → TellsVersion old new (Rose f g) (out_status stopped)
+version_at old new f g true p n = (n.rose refl, p.part)
+version_at old new f g false p n = p.whole refl
+
+pub version_by : (old : Option (List ℕ)) (f : ℕ) (b : Printer) → PrintsOn (at_start old f) b VERSION.now → TellsVersion old b.given (Rose f b.faults) (out_status b.stopped)
+version_by old f b h = version_at old b.given f b.faults b.stopped (printed_first old b.given VERSION.now b.stopped h.prints) (counted_first f b.faults b.stopped h.counts)
 
 -- the objects that a run was given and gave back
 pub over_objects : {A : Type 0} (P : A → A → Type 0) (o p : Option A) (a b x y : A) → o ≡ Some a → p ≡ Some b → o ≡ Some x → p ≡ Some y → P a b → P x y

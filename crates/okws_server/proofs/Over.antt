@@ -17,12 +17,12 @@ use Rattle.site_run.specs.Closing.{AllKept}
 use Rattle.site_making.specs.Keepers.{KeeperIs}
 use Rattle.okws_serve.specs.Runs.{Runs, StartIs}
 use Rattle.okws_serve.specs.declared.outfit.Ran.{Ran}
-use Rattle.okws_server.specs.Served.{IsUntouched, RanAt, RanLogged, RanOver, RanUnlogged, shut}
+use Rattle.okws_server.specs.Served.{IsUntouched, RanAt, RanLogged, RanOver, RanUnlogged, limit_of, shut}
 use Rattle.okws_server.specs.Views.{Gear}
 
 over_by : {X : Type 0} (wire : X → ConnWire) (server : Serving) (C : Config) (seed : List ℕ) (a b : Gear) (ran : Ran) (given : Option (List ℕ)) (faults m : ℕ) (start : StartIs) (old new : List Entrance) (keepers : List KeeperIs) →
     old ≡ replicate server.doors new_entrance → m ≡ server.doors → (server.store ≡ None → start.steady ≡ true) → start.sink_faults ≡ 0 → start.children ≡ a.family → b.net ≡ record (a.net) { doors = new } → b.depot ≡ a.depot →
-    Runs wire C seed (m + 1) server.connections start old a.console ran (record { entrances = new; console = b.console; children = b.family; keepers = keepers; given = given; faults = faults }) →
+    Runs wire C seed (m + 1) (limit_of server.connections) start old a.console ran (record { entrances = new; console = b.console; children = b.family; keepers = keepers; given = given; faults = faults }) →
     RanOver wire server C seed a b keepers ran given faults
 over_by wire server C seed a b ran given faults m start old new keepers o many steady none family net depot h =
     let doors : (b.net).doors ≡ new = ap (λ n. n.doors) net in
@@ -31,9 +31,9 @@ over_by wire server C seed a b ran given faults m start old new keepers o many s
       steady = steady;
       sink = none;
       children = family;
-      runs = subst (λ x. Runs wire C seed (server.doors + 1) server.connections start (replicate server.doors new_entrance) a.console ran (record { entrances = x; console = b.console; children = b.family; keepers = keepers; given = given; faults = faults })) (sym doors)
-          (subst (λ x. Runs wire C seed (server.doors + 1) server.connections start x a.console ran (record { entrances = new; console = b.console; children = b.family; keepers = keepers; given = given; faults = faults })) o
-          (subst (λ x. Runs wire C seed (x + 1) server.connections start old a.console ran (record { entrances = new; console = b.console; children = b.family; keepers = keepers; given = given; faults = faults })) many h));
+      runs = subst (λ x. Runs wire C seed (server.doors + 1) (limit_of server.connections) start (replicate server.doors new_entrance) a.console ran (record { entrances = x; console = b.console; children = b.family; keepers = keepers; given = given; faults = faults })) (sym doors)
+          (subst (λ x. Runs wire C seed (server.doors + 1) (limit_of server.connections) start x a.console ran (record { entrances = new; console = b.console; children = b.family; keepers = keepers; given = given; faults = faults })) o
+          (subst (λ x. Runs wire C seed (x + 1) (limit_of server.connections) start old a.console ran (record { entrances = new; console = b.console; children = b.family; keepers = keepers; given = given; faults = faults })) many h));
       net = subst (λ x. b.net ≡ record (a.net) { doors = x }) (sym doors) net;
       depot = depot;
     }
@@ -41,13 +41,14 @@ over_by wire server C seed a b ran given faults m start old new keepers o many s
 -- a run over doors that were open
 pub ran_over : {X S : Type 0} (wire : X → ConnWire) (server : Serving) (C : Config) (seed : List ℕ) (a b : Gear) (ran : Option Ran) (log : Option S) (given : S → Option (List ℕ)) (faults : S → ℕ) (m : ℕ) (start : StartIs)
     (old new : List Entrance) (keepers : List KeeperIs) → old ≡ replicate server.doors new_entrance → m ≡ server.doors → (server.store ≡ None → start.steady ≡ true) → start.sink_faults ≡ 0 → start.children ≡ a.family → b.net ≡ record (a.net) { doors = new } →
-    b.depot ≡ a.depot →
-    IfSome ran (λ r. IfSome log (λ l. Runs wire C seed (m + 1) server.connections start old a.console r (record { entrances = new; console = b.console; children = b.family; keepers = keepers; given = given l; faults = faults l }))) →
+    b.depot ≡ a.depot → (most : ℕ) → most ≡ limit_of server.connections →
+    IfSome ran (λ r. IfSome log (λ l. Runs wire C seed (m + 1) most start old a.console r (record { entrances = new; console = b.console; children = b.family; keepers = keepers; given = given l; faults = faults l }))) →
     IfSome ran (λ r. IfSome log (λ l. RanOver wire server C seed a b keepers r (given l) (faults l)))
-ran_over wire server C seed a b None log given faults m start old new keepers o many steady none family net depot h = tt
-ran_over wire server C seed a b (Some r) None given faults m start old new keepers o many steady none family net depot h = tt
-ran_over wire server C seed a b (Some r) (Some l) given faults m start old new keepers o many steady none family net depot h =
-    over_by wire server C seed a b r (given l) (faults l) m start old new keepers o many steady none family net depot h
+ran_over wire server C seed a b None log given faults m start old new keepers o many steady none family net depot most limit h = tt
+ran_over wire server C seed a b (Some r) None given faults m start old new keepers o many steady none family net depot most limit h = tt
+ran_over wire server C seed a b (Some r) (Some l) given faults m start old new keepers o many steady none family net depot most limit h =
+    over_by wire server C seed a b r (given l) (faults l) m start old new keepers o many steady none family net depot
+    (subst (λ (k : ℕ). Runs wire C seed (m + 1) k start old a.console r (record { entrances = new; console = b.console; children = b.family; keepers = keepers; given = given l; faults = faults l })) limit h)
 
 -- ---- a run that never began
 

@@ -4,8 +4,10 @@ use Rattle.std.specs.Io.KnownBytes.{Appends}
 use Rattle.std.specs.List.{list_any}
 use Rattle.std.specs.declared.option.Option.{Option}
 use Rattle.std.specs.declared.option.Option.TheVariants.{Some, None}
-use Rattle.okws_base.specs.declared.limit.TheConstants.{MOST_CONNECTIONS, MOST_DOORS}
+use Rattle.okws_base.specs.declared.limit.TheConstants.{MOST_DOORS}
 use Rattle.command_line.specs.Asked.{Serving}
+use Rattle.command_line.specs.declared.command.Connections.{Connections}
+use Rattle.command_line.specs.declared.command.Connections.TheVariants.{Count, Always}
 use Rattle.command_line.specs.declared.command.Server.{Server}
 use Rattle.okws_outer.specs.Conns.{ConnWire}
 use Rattle.okws_outer.specs.Depots.{Depot}
@@ -23,6 +25,7 @@ use Rattle.store_keeper.specs.Depots.{Beside, GivesBack, GivesKept, HasAsked, Ha
 use Rattle.store_keeper.specs.Sites.{SitesAreAlike}
 use Rattle.okws_serve.specs.Runs.{Runs, StartIs}
 use Rattle.okws_serve.specs.declared.outfit.Ran.{Ran}
+use Rattle.okws_serve.specs.declared.outfit.TheConstants.{MOST_BEGUN}
 use Rattle.okws_server.specs.Counting.{counts_text}
 use Rattle.okws_server.specs.Ending.{Told, no_memory_line, read_fault_line}
 use Rattle.okws_server.specs.Headline.{IsEmptyRecord}
@@ -55,10 +58,16 @@ serving_of server = record {
   port = server.port;
   doors = server.doors;
   connections = server.connections;
+  patience = server.patience;
   store = option_map (λ s. s.now) server.store;
   log = option_map (λ s. s.now) server.log;
   audit = option_map (λ s. s.now) server.audit;
 }
+
+-- How many connections are begun at most: as many as were asked for, or, where that is as many as come, as many as may be begun.
+abbrev pub limit_of : Connections → ℕ
+limit_of (Count count) = count
+limit_of Always = MOST_BEGUN
 
 -- ---- the log's sink
 
@@ -116,11 +125,11 @@ pub record Spares (store : Option (List ℕ)) (plans : List ProxyPlan) (a b : De
 
 -- The server's doors were asked of the network.
 abbrev pub with_listened : Serving → Net → Net
-with_listened server net = record net { listened = record { port = server.port; count = server.doors; patience = None } ∷ net.listened }
+with_listened server net = record net { listened = record { port = server.port; count = server.doors; patience = server.patience } ∷ net.listened }
 
 -- What a server may be asked for: at most so many connections and doors, and one door at least.
 pub record IsServing (server : Serving) : Type 0 where
-  pub limit : server.connections ≤ MOST_CONNECTIONS
+  pub limit : limit_of server.connections ≤ MOST_BEGUN
   pub some : 0 < server.doors
   pub few : server.doors ≤ MOST_DOORS
 
@@ -170,7 +179,7 @@ pub record RanOver {X : Type 0} (wire : X → ConnWire) (server : Serving) (C : 
   pub steady : server.store ≡ None → start.steady ≡ true
   pub sink : start.sink_faults ≡ 0
   pub children : start.children ≡ a.family
-  pub runs : Runs wire C seed (server.doors + 1) server.connections start (replicate server.doors new_entrance) a.console ran
+  pub runs : Runs wire C seed (server.doors + 1) (limit_of server.connections) start (replicate server.doors new_entrance) a.console ran
       (record { entrances = (b.net).doors; console = b.console; children = b.family; keepers = keepers; given = given; faults = faults })
   pub net : b.net ≡ record (a.net) { doors = (b.net).doors }
   pub depot : b.depot ≡ a.depot

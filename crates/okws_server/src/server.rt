@@ -158,7 +158,10 @@ where
     requires words { IsServing (serving_of server.now) }
     ensures { ServesOver E.Network.Door.Conn.wire (serving_of server.now) (arc_value stock.site) seed (gear_of E.Network.net E.Children.family E.Console.wire E.Stores.depot E.Sinks.rack things) (gear_of E.Network.net E.Children.family E.Console.wire E.Stores.depot E.Sinks.rack result.0.2) (keeper_of K.tables K.told K.faults K.steady) K.parted stock.keepers.items result.1.items (O.given out.old) (O.given out.new) (Rose (O.faults out.old) (O.faults out.new)) result.0.1 result.0.0 }
 {
-    match things.network.listen(alloc, server.port, server.doors, None) {
+    match things
+        .network
+        .listen(alloc, server.port, server.doors, server.patience)
+    {
         Ok(doors) => {
             let ground = Ground { stock, seed, doors };
             serve_open::<R, O, E, K>(rt, alloc, server, ground, out, things)

@@ -4,22 +4,32 @@ ghost use Rattle.std.specs.Prelude.{◌≡◌, IfSome, IsNone, IsSome, map};
 ghost use Rattle.std.specs.Arc.{arc_value};
 ghost use Rattle.okws_outer.specs.Racks.{IsNewSink};
 ghost use Rattle.site_making.specs.Keepers.{keeper_of};
-ghost use Rattle.okws_server.specs.Served.{IsGround, IsUntouched, RanAt, RanLogged, RanOver, RanUnlogged, serving_of, shut};
+ghost use Rattle.okws_server.specs.Served.{IsGround, IsUntouched, RanAt, RanLogged, RanOver, RanUnlogged, limit_of, serving_of, shut};
 ghost use Rattle.okws_server.specs.Views.{gear_of};
 
 use crate::ground::{Ground, Stock};
 use crate::nowhere::Nowhere;
-use command_line::command::Server;
+use command_line::command::{Connections, Server};
 use okws_outer::keeper::Keeper;
 use okws_outer::network::Network;
 use okws_outer::sinks::Sinks;
 use okws_outer::stream::Sink;
-use okws_serve::outfit::{Limits, Outfit, Ran};
+use okws_serve::outfit::{Limits, MOST_BEGUN, Outfit, Ran};
 use okws_serve::serve::serve_site;
 use okws_world::equipment::{Equipment, Objects, ObjectsOf};
 use std::alloc::Global;
 use std::sync::Wait;
 use std::thread::Threads;
+
+// How many connections are begun at most.
+fn limit_of(connections: Connections) -> u64
+    ensures { result ≡ limit_of connections }
+{
+    match connections {
+        Connections::Count(count) => u64::from(count),
+        Connections::Always => MOST_BEGUN,
+    }
+}
 
 // Serves over doors that are open, with this sink for the log, and closes them. Where the run began, the
 // sink comes back with what it did.
@@ -55,7 +65,7 @@ where
         gate,
     } = things;
     let limits = Limits {
-        connections: u64::from(server.connections),
+        connections: limit_of(server.connections),
         keeps: false,
     };
     let outfit = Outfit {

@@ -7,22 +7,25 @@ ghost use Rattle.okws_outer.specs.Streams.{Rose};
 ghost use Rattle.okws_outer.specs.declared.world.Outside.{Outside};
 ghost use Rattle.okws_world.specs.declared.equipment.Objects.{Objects};
 ghost use Rattle.store_keeper.specs.Sites.{AllTell};
-ghost use Rattle.okws_server.specs.Commands.{Does, Obeys, Says, IsWithin};
+ghost use Rattle.okws_server.specs.Commands.{Does, Obeys, Says, TellsVersion, IsWithin};
 ghost use Rattle.okws_server.specs.Ending.{Told, no_memory_line, read_fault_line};
 ghost use Rattle.okws_server.specs.Ran.{Played};
 ghost use Rattle.okws_server.specs.Views.{gear_of, view_of};
 
 use crate::checking::check;
 use crate::drilling::drill;
-use crate::ending::{print_config_refusal, print_last, print_no_memory, print_read_fault};
+use crate::ending::{
+    out_status, print_config_refusal, print_last, print_no_memory, print_read_fault,
+};
 use crate::preparing::{Stop, prepare};
 use crate::script_run::{empty_record, play_prepared};
 use crate::server::serve;
 use crate::status::Status;
-use command_line::answer::answer;
+use command_line::answer::{VERSION, answer};
 use command_line::command::{Command, command_of};
 use monitor_model::record::Record;
 use okws_outer::files::Files;
+use okws_outer::printing::print;
 use okws_outer::stream::Sink;
 use okws_outer::world::{Outside, World};
 use okws_world::equipment::{Equipment, ObjectsOf};
@@ -92,6 +95,15 @@ pub fn answer_words<O: Sink>(alloc: Global, words: &[String], out: &mut O) -> St
     }
 }
 
+// Tells the program's version.
+fn tell_version<O: Sink>(out: &mut O) -> Status
+    ensures { TellsVersion (O.given out.old) (O.given out.new) (Rose (O.faults out.old) (O.faults out.new)) result }
+{
+    let mut stopped = false;
+    print(out, &mut stopped, VERSION.as_bytes());
+    out_status(stopped)
+}
+
 // Does what a command asks for.
 fn obey<R, F, O, E>(
     rt: &R,
@@ -127,6 +139,7 @@ where
             (status, record, things)
         }
         Command::Serve(server) => serve::<R, F, O, E>(rt, alloc, &server, seed, files, out, things),
+        Command::Version => (tell_version(out), empty_record(alloc), things),
     }
 }
 
@@ -166,7 +179,8 @@ where
 /// the program's own, prints how many frames of each kind were heard, and leaves its record.
 /// `serve CONFIG --port P --serve N` serves a site whose services are programs, at P of the loopback
 /// address, to N connections, with its rows in memory, or in files that are named after FILE of
-/// `--store FILE`. Other words are answered with how the program is called.
+/// `--store FILE`; with `--always` in the place of `--serve N` to as many as come. `--version` prints the
+/// program's version. Other words are answered with how the program is called.
 pub fn okws<R, W>(rt: &R, alloc: Global, words: &[String], world: &mut W) -> (Status, Record)
 where
     R: Wait + Threads + Sync,

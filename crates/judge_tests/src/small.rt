@@ -171,10 +171,12 @@ pub const CONNECTIONS: [Exchange<'static>; 2] = [
     Exchange {
         read: REQUEST,
         written: REPLIED,
+        is_cut: false,
     },
     Exchange {
         read: REQUEST,
         written: CRASHED,
+        is_cut: false,
     },
 ];
 

@@ -107,6 +107,7 @@ fn an_order_that_is_not_carried_out(rt: HostRuntime) {
 const MISSED: Exchange<'static> = Exchange {
     read: REQUEST,
     written: UNAVAILABLE,
+    is_cut: false,
 };
 
 #[test]
@@ -171,9 +172,17 @@ fn a_client_that_is_not_answered(rt: HostRuntime) {
     let lost = Exchange {
         read: b"GET /x HTTP/1.0\r\n\r\n",
         written: b"",
+        is_cut: false,
     };
-    let parts = broken_by(&rt, rt.alloc(), &[accept(b"/x")], &[lost], &quiet());
-    only(&rt, Part::Served, &parts);
+    let other = Exchange {
+        written: b"HTTP/1.1 2",
+        is_cut: true,
+        ..lost
+    };
+    for exchange in [lost, other] {
+        let parts = broken_by(&rt, rt.alloc(), &[accept(b"/x")], &[exchange], &quiet());
+        only(&rt, Part::Served, &parts);
+    }
 }
 
 #[test]
@@ -264,6 +273,7 @@ fn a_request_that_comes_before_the_launches(rt: HostRuntime) {
     let early = Exchange {
         read: b"GET /lost HTTP/1.0\r\n\r\n",
         written: NOT_FOUND,
+        is_cut: false,
     };
     let lines = [launcher(Deed::Begun, 1), accept(b"/lost")];
     let parts = begun_by(&rt, rt.alloc(), &lines, &[early]);

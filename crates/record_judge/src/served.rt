@@ -14,6 +14,8 @@ enum Asked<'a> {
     Path(&'a [u8]),
     /// Nothing came.
     Nothing,
+    /// A head that doesn't end.
+    Front,
     /// What no client here sends.
     Other,
 }
@@ -32,6 +34,9 @@ fn is_plain_path(path: &[u8]) -> bool {
 fn request_of(read: &[u8]) -> Asked<'_> {
     if read.is_empty() {
         return Asked::Nothing;
+    }
+    if !read.ends_with(b"\r\n\r\n") {
+        return Asked::Front;
     }
     let Some(rest) = read.strip_prefix(b"GET ") else {
         return Asked::Other;
@@ -65,16 +70,29 @@ fn response(
     Ok(text)
 }
 
+/// Whether a client was given this response: of one whose connection was cut, a front of it.
+fn is_given(exchange: &Exchange<'_>, text: &[u8]) -> bool {
+    if exchange.is_cut {
+        text.starts_with(exchange.written)
+    } else {
+        text == exchange.written
+    }
+}
+
 /// Whether this is the server's own response of a status.
-fn is_own(alloc: Global, written: &[u8], status: &[u8]) -> Result<bool, AllocError> {
+fn is_own(alloc: Global, exchange: &Exchange<'_>, status: &[u8]) -> Result<bool, AllocError> {
     let mut content = Vec::from_slice(alloc, status)?;
     content.push(b'\n')?;
     let text = response(alloc, status, b"text/plain", &content)?;
-    Ok(text.as_slice() == written)
+    Ok(is_given(exchange, &text))
 }
 
 /// Whether this is the response that a Reply asks for, one of status 200 without a Location.
-fn is_reply(alloc: Global, written: &[u8], said: &ServiceFrame) -> Result<bool, AllocError> {
+fn is_reply(
+    alloc: Global,
+    exchange: &Exchange<'_>,
+    said: &ServiceFrame,
+) -> Result<bool, AllocError> {
     let ServiceFrame::Reply {
         status: 200,
         content_type,
@@ -90,7 +108,7 @@ fn is_reply(alloc: Global, written: &[u8], said: &ServiceFrame) -> Result<bool, 
         content_type.as_slice(),
         content.as_slice(),
     )?;
-    Ok(location.as_slice().is_empty() && text.as_slice() == written)
+    Ok(location.as_slice().is_empty() && is_given(exchange, &text))
 }
 
 /// Whether a dialog carried this request, where it carried one.
@@ -106,13 +124,13 @@ fn carries(dialog: &Line<'_>, read: &[u8]) -> bool {
 }
 
 /// Whether this is the response of a dialog.
-fn is_end(alloc: Global, written: &[u8], dialog: &Line<'_>) -> Result<bool, AllocError> {
+fn is_end(alloc: Global, exchange: &Exchange<'_>, dialog: &Line<'_>) -> Result<bool, AllocError> {
     match (dialog.end, dialog.items.last()) {
-        (Some(End::Reply), Some(Item::Said(said))) => is_reply(alloc, written, said),
+        (Some(End::Reply), Some(Item::Said(said))) => is_reply(alloc, exchange, said),
         (Some(End::Reply), _) | (None, _) => Ok(false),
-        (Some(End::Superseded(_)), _) => is_own(alloc, written, b"503 Service Unavailable"),
-        (Some(End::Starved), _) => is_own(alloc, written, b"507 Insufficient Storage"),
-        _ => is_own(alloc, written, b"502 Bad Gateway"),
+        (Some(End::Superseded(_)), _) => is_own(alloc, exchange, b"503 Service Unavailable"),
+        (Some(End::Starved), _) => is_own(alloc, exchange, b"507 Insufficient Storage"),
+        _ => is_own(alloc, exchange, b"502 Bad Gateway"),
     }
 }
 
@@ -123,15 +141,14 @@ fn is_went(
     next: &Line<'_>,
     exchange: &Exchange<'_>,
 ) -> Option<bool> {
-    let written = exchange.written;
     match next.deed {
         Deed::Dialog => {
             let (_, dialog) = case.plain.entry(earlier, next)?;
-            let answered = is_end(case.alloc, written, dialog).ok()?;
+            let answered = is_end(case.alloc, exchange, dialog).ok()?;
             Some(answered && carries(dialog, exchange.read))
         }
-        Deed::Missed => is_own(case.alloc, written, b"503 Service Unavailable").ok(),
-        _ => is_own(case.alloc, written, b"507 Insufficient Storage").ok(),
+        Deed::Missed => is_own(case.alloc, exchange, b"503 Service Unavailable").ok(),
+        _ => is_own(case.alloc, exchange, b"507 Insufficient Storage").ok(),
     }
 }
 
@@ -143,10 +160,9 @@ fn is_due(
     exchange: &Exchange<'_>,
 ) -> Option<bool> {
     let accept = list.get(place)?;
-    let written = exchange.written;
     match accepted(case, list.get(..place)?, accept)? {
-        Way::NotOwned => is_own(case.alloc, written, b"404 Not Found").ok(),
-        Way::Down => is_own(case.alloc, written, b"503 Service Unavailable").ok(),
+        Way::NotOwned => is_own(case.alloc, exchange, b"404 Not Found").ok(),
+        Way::Down => is_own(case.alloc, exchange, b"503 Service Unavailable").ok(),
         Way::To(..) => {
             let behind = place.saturating_add(1);
             is_went(case, list.get(..behind)?, list.get(behind)?, exchange)
@@ -183,9 +199,10 @@ fn is_served(case: &Case<'_, '_>, list: &[Line<'_>], door: &[Exchange<'_>]) -> O
     let mut from = 0usize;
     for exchange in door {
         match request_of(exchange.read) {
-            Asked::Other => return Some(false),
+            Asked::Front if exchange.is_cut && exchange.written.is_empty() => {}
+            Asked::Front | Asked::Other => return Some(false),
             Asked::Nothing => {
-                if !is_own(case.alloc, exchange.written, b"400 Bad Request").ok()? {
+                if !is_own(case.alloc, exchange, b"400 Bad Request").ok()? {
                     return Some(false);
                 }
             }

@@ -119,11 +119,12 @@ pub struct Journal<'a> {
     pub lines: Vec<Line<'a>>,
 }
 
-/// What was read from a connection, and what was written on it.
+/// What was read from a connection, and what was written on it; and whether a call of it failed, so that it was cut.
 #[derive(Clone, Copy)]
 pub struct Exchange<'a> {
     pub read: &'a [u8],
     pub written: &'a [u8],
+    pub is_cut: bool,
 }
 
 /// The journals of okd, each proxy, pubd, oklogd, the launcher and each cell, in this order; the lists of the

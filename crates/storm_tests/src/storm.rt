@@ -58,7 +58,12 @@ fn exchanges<'a>(rt: &impl Abort, alloc: Global, door: &'a [Exchanged]) -> Vec<E
     let mut all = Vec::new(alloc);
     for told in door {
         let (read, written) = (told.read.as_slice(), told.written.as_slice());
-        all.push(Exchange { read, written }).expect(rt, MEMORY);
+        let exchange = Exchange {
+            read,
+            written,
+            is_cut: false,
+        };
+        all.push(exchange).expect(rt, MEMORY);
     }
     all
 }

@@ -6,6 +6,7 @@
 
 pub mod children;
 pub mod door;
+pub mod keeper;
 mod noted;
 pub mod sinks;
 pub mod stores;

@@ -1,7 +1,9 @@
 -- What a storm is over is as its run wants it.
-use Rattle.std.proofs.Common.{◌≡◌, ◌∙◌, ℕ, ◌<◌, List, [], ◌∷◌, ◌++◌, length, map, refl, sym, ap, subst, Result, Some}
-use Rattle.std.specs.Prelude.{Ok, Err, All, IfOk, IsNone}
+use Rattle.std.proofs.Common.{◌≡◌, ◌∙◌, ℕ, ◌<◌, List, [], ◌∷◌, ◌++◌, length, map, refl, sym, ap, subst, Some}
+use Rattle.std.specs.Prelude.{All, IsNone}
 use Rattle.std.proofs.lemmas.List.Elements.{All-head, All-tail}
+use Rattle.std.specs.declared.option.Option.{Option}
+use Rattle.okws_base.specs.declared.value.Value.{Value}
 use Rattle.okws_outer.specs.Doors.{Entrance, new_entrance}
 use Rattle.okws_plan.specs.Configuration.{tables, template_name}
 use Rattle.okws_plan.specs.Sound.{IsSound}
@@ -12,11 +14,9 @@ use Rattle.site_making.specs.Keepers.{KeeperIs, IsKeeper, AreKeepers}
 use Rattle.site_making.specs.Making.{IsServable}
 use Rattle.site_run.specs.Places.{AllIdle}
 
--- the keeper of a proxy, made for its tables
-pub keeper_is : {K E : Type 0} (f : K → KeeperIs) (C : Config) (p : ℕ) (ts : List Table) (r : Result K E) → ts ≡ tables C p → IfOk r (λ k. (f k).tables ≡ ts) → IfOk r (λ k. (f k).told ≡ Some (map (λ (t : Table). t.first) ts)) →
-    IfOk r (λ k. IsKeeper C p (f k))
-keeper_is f C p ts (Ok k) e t u = record { tables_are = t ∙ e; told_are = u ∙ ap (λ (x : List Table). Some (map (λ (t : Table). t.first) x)) e }
-keeper_is f C p ts (Err x) e t u = tt
+-- a keeper that has the tables and the rows of one that was made for the tables of a proxy
+pub keeper_over : (f : KeeperIs) (C : Config) (p : ℕ) (ts us : List Table) (told : Option (List (List (List Value)))) → ts ≡ tables C p → us ≡ ts → told ≡ Some (map (λ (t : Table). t.first) ts) → f.tables ≡ us → f.told ≡ told → IsKeeper C p f
+keeper_over f C p ts us told e t u a b = record { tables_are = a ∙ (t ∙ e); told_are = b ∙ (u ∙ ap (λ (x : List Table). Some (map (λ (t : Table). t.first) x)) e) }
 
 -- one keeper, of a site of one proxy
 pub keepers_are : {K : Type 0} (f : K → KeeperIs) (C D : Config) (ks before : List K) (k : K) → ks ≡ before ++ k ∷ [] → before ≡ [] → D ≡ C → IsKeeper C 0 (f k) →

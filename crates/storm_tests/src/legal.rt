@@ -3,8 +3,8 @@
 use crate::edits::{EDITS, Edit, change};
 use crate::holding::{MEMORY, holds};
 use crate::site::SEED;
-use crate::storm::{Storm, rage};
-use crate::weather::{Weather, orders};
+use crate::storm::{Calls, SOUND, Storm};
+use crate::weather::{Weather, orders, rage};
 use okws_outer::child::Ended;
 use record_judge::judge::{Part, broken};
 use record_lines::case::Case;
@@ -15,19 +15,22 @@ use std::sync::Wait;
 use std::thread::Threads;
 
 /// A storm in which nothing fails.
-const CALM: Weather = Weather {
+pub const CALM: Weather<'static> = Weather {
     relaunches: 200,
     relaunched: 0,
     order: b"relaunch guest\n",
     requests: 200,
     short: 0,
     torn: 0,
-    starts: &[],
+    links: &[],
+    conns: &[],
+    sizes: &[],
+    failing: SOUND,
     answers: &[],
 };
 
 /// A storm in which each third incarnation ends after a dialog, and children end now and then.
-const SHORT: Weather = Weather {
+const SHORT: Weather<'static> = Weather {
     relaunches: 40,
     requests: 60,
     short: 3,
@@ -36,17 +39,21 @@ const SHORT: Weather = Weather {
 };
 
 /// A storm in which a service cannot start at first, and another one at times, and links fail.
-const FAILING: Weather = Weather {
+const FAILING: Weather<'static> = Weather {
     relaunches: 40,
     requests: 60,
     torn: 4,
-    starts: &[1, 2, 3, 9, 17, 18, 40],
+    links: &[9],
+    failing: Calls {
+        starts: &[1, 2, 3, 9, 17, 18, 40],
+        ..SOUND
+    },
     ..CALM
 };
 
 /// A small storm, in which guest is up all the time, and fewer texts are logged than there are relaunches: so there
 /// is something to change for each edit, however the threads take turns.
-const SMALL: Weather = Weather {
+const SMALL: Weather<'static> = Weather {
     relaunches: 20,
     relaunched: 1,
     order: b"relaunch other\n",
@@ -54,8 +61,8 @@ const SMALL: Weather = Weather {
     ..CALM
 };
 
-/// The parts of what a storm left, as it stands in these lines, that are not legal.
-fn judged<'a>(
+/// The parts of what a run left, as it stands in these lines, that are not legal.
+pub fn judged<'a>(
     rt: &impl Abort,
     alloc: Global,
     storm: &Storm,
@@ -68,15 +75,19 @@ fn judged<'a>(
         seed: &SEED,
         orders: Some(orders),
         ended: &storm.ended,
-        failures: storm.failures,
-        faults: &[],
+        failures: storm.faults.starts.saturating_add(storm.faults.links),
+        faults: &[storm.faults.rows],
         plain,
     });
     parts.expect(rt, MEMORY)
 }
 
 /// Whether a storm, which ends well, has a legal record.
-fn is_legal<R: Abort + Wait + Threads + Sync>(rt: &R, alloc: Global, weather: &Weather) -> bool {
+fn is_legal<R: Abort + Wait + Threads + Sync>(
+    rt: &R,
+    alloc: Global,
+    weather: &Weather<'_>,
+) -> bool {
     let storm = rage(rt, alloc, weather);
     let ran = &storm.ran;
     holds(rt, !ran.starved, "starved");

@@ -1,9 +1,11 @@
-//! Tests of servers in storms: a judge reads the record that a run left, and finds it legal; and it finds which part of a
-//! record is not that was changed in one place.
+//! Tests of servers in storms, and of servers of which each call of the outside fails in turn: a judge reads the record that a run
+//! left, and finds it legal; and it finds which part of a record is not that was changed in one place.
 #![tactic(auto)]
 
 #[cfg(test)]
 mod edits;
+#[cfg(test)]
+mod failing;
 #[cfg(test)]
 mod holding;
 #[cfg(test)]

@@ -70,7 +70,7 @@ fn says(rt: &impl Abort, alloc: Global, incarnation: u32, dialogs: u32) -> Vec<u
 }
 
 /// What each incarnation of guest says.
-pub fn all_says(rt: &impl Abort, alloc: Global, weather: &Weather) -> Vec<Vec<u8>> {
+pub fn all_says(rt: &impl Abort, alloc: Global, weather: &Weather<'_>) -> Vec<Vec<u8>> {
     let mut all = Vec::new(alloc);
     for incarnation in 1..=weather.relaunches.saturating_mul(2) {
         let is_short = incarnation.checked_rem(weather.short) == Some(0);
@@ -87,7 +87,7 @@ pub fn all_says(rt: &impl Abort, alloc: Global, weather: &Weather) -> Vec<Vec<u8
 }
 
 /// What each incarnation of the other service says.
-pub fn other_says(rt: &impl Abort, alloc: Global, weather: &Weather) -> Vec<u8> {
+pub fn other_says(rt: &impl Abort, alloc: Global, weather: &Weather<'_>) -> Vec<u8> {
     let mut says = Vec::new(alloc);
     for _ in 0..weather.requests {
         push(rt, &mut says, LOGS);

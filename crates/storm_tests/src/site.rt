@@ -11,6 +11,7 @@ use config_reader::read;
 use index_keeper::IndexKeeper;
 use okws_outer::keeper::Keeper;
 use okws_plan::configuration::Config;
+use outer_memory::keeper::FailingKeeper;
 use site_columns::opening::{queries_at, read_names, tables_at};
 use std::alloc::{AllocError, Global};
 use std::process::Abort;
@@ -18,7 +19,7 @@ use std::sync::Arc;
 use token_core::Seed;
 
 /// Two services, of which one has a path, sessions, a template and the log, and the other a path and the log.
-const SITE: &[u8] = b"okws 1\n\
+pub const SITE: &[u8] = b"okws 1\n\
     proxy main\n\
     table main msgs id INT KEY who TEXT\n\
     row main msgs 1 'ann'\n\
@@ -42,47 +43,61 @@ pub const SEED: Seed = [7; 32];
 
 /// The site, and the keepers of its rows.
 #[derive(Drop)]
-pub struct Ground {
+pub struct Ground<'a> {
     pub site: Arc<Config, Global>,
-    pub keepers: Vec<IndexKeeper>,
+    pub keepers: Vec<FailingKeeper<'a, IndexKeeper>>,
 }
 
-/// The keeper of the rows of the first proxy.
-fn keeper(alloc: Global, config: &Config) -> Result<IndexKeeper, AllocError>
-    ensures { IfOk result (λ k. IsKeeper config.now 0 (keeper_of ⟦<IndexKeeper as Keeper>⟧.tables ⟦<IndexKeeper as Keeper>⟧.told ⟦<IndexKeeper as Keeper>⟧.faults ⟦<IndexKeeper as Keeper>⟧.steady k)) }
+/// The keeper of the rows of the first proxy, of which the calls of the numbers in `failing` fail.
+fn keeper<'a>(
+    alloc: Global,
+    config: &Config,
+    failing: &'a [u64],
+) -> Result<FailingKeeper<'a, IndexKeeper>, AllocError>
+    ensures { IfOk result (λ k. IsKeeper config.now 0 (keeper_of ⟦<FailingKeeper<'a, IndexKeeper> as Keeper>⟧.tables ⟦<FailingKeeper<'a, IndexKeeper> as Keeper>⟧.told ⟦<FailingKeeper<'a, IndexKeeper> as Keeper>⟧.faults ⟦<FailingKeeper<'a, IndexKeeper> as Keeper>⟧.steady k)) }
 {
-    IndexKeeper::new(alloc, tables_at(config, 0), queries_at(config, 0))
+    let rows = IndexKeeper::new(alloc, tables_at(config, 0), queries_at(config, 0))?;
+    Ok(FailingKeeper::new(rows, failing))
 }
 
 /// The site that was read, which has one proxy.
-fn ground_of(alloc: Global, config: Config) -> Result<Ground, AllocError>
+fn ground_of<'a>(
+    alloc: Global,
+    config: Config,
+    failing: &'a [u64],
+) -> Result<Ground<'a>, AllocError>
     requires sound { IsSound config }
     requires rules { AreRuled config }
     requires one { length config.proxies ≡ 1 }
     ensures servable { IfOk result (λ g. IsServable (arc_value g.site)) }
     ensures declared { IfOk result (λ g. vec_len g.keepers ≡ length (arc_value g.site).proxies) }
-    ensures keepers { IfOk result (λ g. AreKeepers (arc_value g.site) 0 (map (keeper_of ⟦<IndexKeeper as Keeper>⟧.tables ⟦<IndexKeeper as Keeper>⟧.told ⟦<IndexKeeper as Keeper>⟧.faults ⟦<IndexKeeper as Keeper>⟧.steady) g.keepers.items)) }
+    ensures keepers { IfOk result (λ g. AreKeepers (arc_value g.site) 0 (map (keeper_of ⟦<FailingKeeper<'a, IndexKeeper> as Keeper>⟧.tables ⟦<FailingKeeper<'a, IndexKeeper> as Keeper>⟧.told ⟦<FailingKeeper<'a, IndexKeeper> as Keeper>⟧.faults ⟦<FailingKeeper<'a, IndexKeeper> as Keeper>⟧.steady) g.keepers.items)) }
 {
     read_names(&config);
-    let keeper = keeper(alloc, &config)?;
+    let keeper = keeper(alloc, &config, failing)?;
     let mut keepers = Vec::new(alloc);
     keepers.push(keeper)?;
     let site = Arc::new(alloc, config)?;
     Ok(Ground { site, keepers })
 }
 
-/// The site, and the keepers of its rows.
-pub fn read_ground(rt: &impl Abort, alloc: Global) -> Ground
+/// A site that was read, which has one proxy, and the keeper of its rows, of which the calls of the numbers in `failing` fail.
+pub fn read_ground<'a>(
+    rt: &impl Abort,
+    alloc: Global,
+    site: &[u8],
+    failing: &'a [u64],
+) -> Ground<'a>
     ensures servable { IsServable (arc_value result.site) }
     ensures declared { vec_len result.keepers ≡ length (arc_value result.site).proxies }
-    ensures keepers { AreKeepers (arc_value result.site) 0 (map (keeper_of ⟦<IndexKeeper as Keeper>⟧.tables ⟦<IndexKeeper as Keeper>⟧.told ⟦<IndexKeeper as Keeper>⟧.faults ⟦<IndexKeeper as Keeper>⟧.steady) result.keepers.items) }
+    ensures keepers { AreKeepers (arc_value result.site) 0 (map (keeper_of ⟦<FailingKeeper<'a, IndexKeeper> as Keeper>⟧.tables ⟦<FailingKeeper<'a, IndexKeeper> as Keeper>⟧.told ⟦<FailingKeeper<'a, IndexKeeper> as Keeper>⟧.faults ⟦<FailingKeeper<'a, IndexKeeper> as Keeper>⟧.steady) result.keepers.items) }
 {
-    let config = match read(alloc, SITE) {
+    let config = match read(alloc, site) {
         Ok(config) => config,
         Err(_) => panic!(rt; "no lawful configuration"),
     };
     assert!(rt; config.proxies.as_slice().len() == 1);
-    match ground_of(alloc, config) {
+    match ground_of(alloc, config, failing) {
         Ok(ground) => ground,
         Err(_) => panic!(rt; "memory was refused"),
     }

@@ -1,4 +1,5 @@
-//! A server in a storm: the operator orders one relaunch after the other while two doors serve requests.
+//! A run of a server whose outside is in memory: two doors, children, a console, the rows of a proxy and a log, of which some calls
+//! may fail.
 
 ghost use Rattle.std.specs.Prelude.{◌≡◌, All, length, map, vec_len};
 ghost use Rattle.std.specs.Arc.{arc_value};
@@ -7,9 +8,7 @@ ghost use Rattle.site_making.specs.Keepers.{AreKeepers, keeper_of};
 ghost use Rattle.site_making.specs.Making.{IsServable};
 
 use crate::holding::MEMORY;
-use crate::says::{all_says, other_says};
 use crate::site::{Ground, SEED, read_ground};
-use crate::weather::{Weather, clients, console, plans};
 use index_keeper::IndexKeeper;
 use okws_outer::door::{Door, Served};
 use okws_outer::gate::NoGate;
@@ -18,10 +17,11 @@ use okws_outer::memory::conn::MemoryConn;
 use okws_outer::memory::sink::MemorySink;
 use okws_outer::network::Network;
 use okws_plan::configuration::Config;
-use okws_serve::outfit::{Limits, Outfit, Ran};
+use okws_serve::outfit::{Left, Limits, Outfit, Ran};
 use okws_serve::serve::serve_site;
-use outer_memory::children::MemoryChildren;
+use outer_memory::children::{ChildPlan, MemoryChildren};
 use outer_memory::door::{Client, MemoryDoor, MemoryNetwork};
+use outer_memory::keeper::FailingKeeper;
 use record_lines::case::Incarnation;
 use record_lines::plain::{Exchange, Plain, plain_of};
 use std::alloc::Global;
@@ -29,39 +29,95 @@ use std::process::Abort;
 use std::sync::{Arc, Wait};
 use std::thread::Threads;
 
-/// What was read from a connection, and what was written on it.
+/// The numbers of the calls that fail, of each object by its own count.
+#[derive(Clone, Copy)]
+pub struct Calls<'a> {
+    /// The accepts of each door.
+    pub accepts: &'a [u64],
+    /// The starts of children.
+    pub starts: &'a [u64],
+    /// The pulls and puts of the console.
+    pub console: &'a [u64],
+    /// The puts of the log's sink.
+    pub log: &'a [u64],
+    /// The runs and pins of the keeper.
+    pub rows: &'a [u64],
+}
+
+/// None of them fails.
+pub const SOUND: Calls<'static> = Calls {
+    accepts: &[],
+    starts: &[],
+    console: &[],
+    log: &[],
+    rows: &[],
+};
+
+/// What is planned of a run.
+#[derive(Clone, Copy)]
+pub struct Scene<'a> {
+    pub site: &'a [u8],
+    pub clients: &'a [Client<'a>],
+    pub children: &'a [ChildPlan<'a>],
+    /// What the operator says.
+    pub console: &'a [u8],
+    /// How many connections are begun, at most 200.
+    pub connections: u32,
+    /// Which calls fail.
+    pub failing: Calls<'a>,
+}
+
+/// How many calls have failed.
+#[derive(Clone, Copy)]
+pub struct Faults {
+    pub accepts: u64,
+    pub conns: u64,
+    pub starts: u64,
+    pub links: u64,
+    pub console: u64,
+    pub log: u64,
+    pub rows: u64,
+}
+
+/// What was read from a connection, and what was written on it; and whether it was cut.
 pub struct Exchanged {
-    read: Vec<u8>,
-    written: Vec<u8>,
+    pub read: Vec<u8>,
+    pub written: Vec<u8>,
+    pub is_cut: bool,
 }
 
 impl Drop for Exchanged {
     fn drop(self) {
-        let Exchanged { read, written } = self;
+        let Exchanged {
+            read,
+            written,
+            is_cut: _,
+        } = self;
         drop(read);
         drop(written);
     }
 }
 
-/// What a storm leaves: the site, what the run did, what went over each door, which children have ended, and how many
-/// starts and links failed.
+/// What a run leaves: the site, what the run did, what went over each door, what each child was given, in the order
+/// in which they were finished, which of them have ended, what the operator was answered, and what failed.
 pub struct Storm {
     pub site: Arc<Config, Global>,
     pub ran: Ran,
     pub doors: Vec<Vec<Exchanged>>,
+    pub heard: Vec<Vec<u8>>,
     pub ended: Vec<Incarnation>,
-    pub failures: u64,
+    pub answers: Vec<u8>,
+    pub faults: Faults,
 }
 
 /// What went over the connections of a door.
 fn exchanges<'a>(rt: &impl Abort, alloc: Global, door: &'a [Exchanged]) -> Vec<Exchange<'a>> {
     let mut all = Vec::new(alloc);
     for told in door {
-        let (read, written) = (told.read.as_slice(), told.written.as_slice());
         let exchange = Exchange {
-            read,
-            written,
-            is_cut: false,
+            read: &told.read,
+            written: &told.written,
+            is_cut: told.is_cut,
         };
         all.push(exchange).expect(rt, MEMORY);
     }
@@ -74,13 +130,17 @@ impl Drop for Storm {
             site,
             ran,
             doors,
+            heard,
             ended,
-            failures: _,
+            answers,
+            faults: _,
         } = self;
         drop(site);
         drop(ran);
         drop(doors);
+        drop(heard);
         drop(ended);
+        drop(answers);
     }
 }
 
@@ -110,11 +170,47 @@ fn ended(rt: &impl Abort, alloc: Global, children: &MemoryChildren<'_>) -> Vec<I
     all
 }
 
-/// How many starts and links have failed.
-fn failures(rt: &impl Abort, children: &MemoryChildren<'_>) -> u64 {
-    let mut count = children.faults();
+fn copy_of(rt: &impl Abort, alloc: Global, bytes: &[u8]) -> Vec<u8> {
+    Vec::from_slice(alloc, bytes).expect(rt, MEMORY)
+}
+
+/// What each child was given.
+fn heard(rt: &impl Abort, alloc: Global, children: &MemoryChildren<'_>) -> Vec<Vec<u8>> {
+    let mut all = Vec::new(alloc);
+    for end in children.finished().expect(rt, MEMORY) {
+        let given = end.given.as_ref().expect(rt, MEMORY);
+        all.push(copy_of(rt, alloc, given.as_slice()))
+            .expect(rt, MEMORY);
+    }
+    all
+}
+
+/// How many calls of links have failed.
+fn link_faults(rt: &impl Abort, children: &MemoryChildren<'_>) -> u64 {
+    let mut count = 0u64;
     for end in children.finished().expect(rt, MEMORY) {
         count = count.saturating_add(end.faults);
+    }
+    count
+}
+
+/// How many calls of doors, and how many of their connections, have failed.
+fn door_faults(rt: &impl Abort, doors: &[MemoryDoor<'_>]) -> (u64, u64) {
+    let (mut all, mut conns) = (0u64, 0u64);
+    for door in doors {
+        all = all.saturating_add(door.faults());
+        for served in door.finished().expect(rt, MEMORY) {
+            conns = conns.saturating_add(served.faults);
+        }
+    }
+    (all.saturating_sub(conns), conns)
+}
+
+/// How many calls of keepers have failed.
+fn row_faults(keepers: &[FailingKeeper<'_, IndexKeeper>]) -> u64 {
+    let mut count = 0u64;
+    for keeper in keepers {
+        count = count.saturating_add(keeper.faults());
     }
     count
 }
@@ -125,10 +221,10 @@ fn exchange_of(rt: &impl Abort, alloc: Global, served: &Served) -> Exchanged {
         panic!(rt; "memory was refused");
     };
     let read = came.as_slice().strip_suffix(left.as_slice());
-    let read = read.expect(rt, "other bytes are left");
     Exchanged {
-        read: Vec::from_slice(alloc, read).expect(rt, MEMORY),
-        written: Vec::from_slice(alloc, given.as_slice()).expect(rt, MEMORY),
+        read: copy_of(rt, alloc, read.expect(rt, "other bytes are left")),
+        written: copy_of(rt, alloc, given.as_slice()),
+        is_cut: served.faults > 0,
     }
 }
 
@@ -150,19 +246,56 @@ fn told(rt: &impl Abort, alloc: Global, doors: &[MemoryDoor<'_>]) -> Vec<Vec<Exc
     all
 }
 
+/// The objects that a run gave back.
+type Back<'a> = Left<
+    MemoryDoor<'a>,
+    MemoryConn<'a>,
+    MemoryChildren<'a>,
+    FailingKeeper<'a, IndexKeeper>,
+    MemorySink<'a>,
+    NoGate,
+>;
+
+/// What failed of them.
+fn faults_of(rt: &impl Abort, left: &Back<'_>) -> Faults {
+    let (accepts, conns) = door_faults(rt, &left.doors);
+    Faults {
+        accepts,
+        conns,
+        starts: left.children.faults(),
+        links: link_faults(rt, &left.children),
+        console: left.console.faults(),
+        log: left.log.as_ref().map_or(0, |log| log.faults()),
+        rows: row_faults(&left.keepers),
+    }
+}
+
+/// What a run left.
+fn storm_of(rt: &impl Abort, alloc: Global, site: Arc<Config, Global>, left: Back<'_>) -> Storm {
+    Storm {
+        site,
+        doors: told(rt, alloc, &left.doors),
+        heard: heard(rt, alloc, &left.children),
+        ended: ended(rt, alloc, &left.children),
+        answers: copy_of(rt, alloc, left.console.given()),
+        faults: faults_of(rt, &left),
+        ran: left.ran.expect(rt, MEMORY),
+    }
+}
+
 /// Serves a site over these doors, children and console.
 fn serve<'a, R: Abort + Wait + Threads + Sync>(
     rt: &R,
     alloc: Global,
-    ground: Ground,
+    ground: Ground<'a>,
     doors: Vec<MemoryDoor<'a>>,
     children: MemoryChildren<'a>,
     console: MemoryConn<'a>,
-    requests: u32,
+    scene: &Scene<'a>,
 ) -> Storm
     requires servable { IsServable (arc_value ground.site) }
     requires declared { vec_len ground.keepers ≡ length (arc_value ground.site).proxies }
-    requires keepers { AreKeepers (arc_value ground.site) 0 (map (keeper_of ⟦<IndexKeeper as Keeper>⟧.tables ⟦<IndexKeeper as Keeper>⟧.told ⟦<IndexKeeper as Keeper>⟧.faults ⟦<IndexKeeper as Keeper>⟧.steady) ground.keepers.items) }
+    requires keepers { AreKeepers (arc_value ground.site) 0 (map (keeper_of ⟦<FailingKeeper<'a, IndexKeeper> as Keeper>⟧.tables ⟦<FailingKeeper<'a, IndexKeeper> as Keeper>⟧.told ⟦<FailingKeeper<'a, IndexKeeper> as Keeper>⟧.faults ⟦<FailingKeeper<'a, IndexKeeper> as Keeper>⟧.steady) ground.keepers.items) }
     requires doors { length doors.items ≡ 2 }
     requires new { All (λ d. ⟦<MemoryDoor<'a> as Door>⟧.entrance d ≡ new_entrance) doors.items }
 {
@@ -172,48 +305,27 @@ fn serve<'a, R: Abort + Wait + Threads + Sync>(
         console,
         children,
         keepers,
-        log: MemorySink::new(alloc, 65_536, &[]).expect(rt, MEMORY),
+        log: MemorySink::new(alloc, 65_536, scene.failing.log).expect(rt, MEMORY),
         gate: NoGate,
     };
     let limits = Limits {
-        connections: u64::from(requests.min(200)),
+        connections: u64::from(scene.connections.min(200)),
         keeps: true,
     };
     let left = serve_site(rt, alloc, &site, &SEED, limits, outfit);
-    Storm {
-        site,
-        doors: told(rt, alloc, &left.doors),
-        ended: ended(rt, alloc, &left.children),
-        failures: failures(rt, &left.children),
-        ran: left.ran.expect(rt, MEMORY),
-    }
+    storm_of(rt, alloc, site, left)
 }
 
-/// Serves the site over these clients, children and console.
-fn serve_clients<'a, R: Abort + Wait + Threads + Sync>(
-    rt: &R,
-    alloc: Global,
-    clients: &'a [Client<'a>],
-    children: MemoryChildren<'a>,
-    console: &'a [u8],
-    requests: u32,
-) -> Storm {
-    let ground = read_ground(rt, alloc);
-    let console = MemoryConn::new(alloc, console, &[], 65_536, &[]).expect(rt, MEMORY);
-    let mut network = MemoryNetwork::new(alloc, clients, &[], &[]);
-    match network.listen(alloc, 8_080, 2) {
-        Ok(doors) => serve(rt, alloc, ground, doors, children, console, requests),
+/// A run.
+pub fn run<R: Abort + Wait + Threads + Sync>(rt: &R, alloc: Global, scene: &Scene<'_>) -> Storm {
+    let failing = scene.failing;
+    let ground = read_ground(rt, alloc, scene.site, failing.rows);
+    let children = MemoryChildren::new(alloc, scene.children, failing.starts);
+    let console = MemoryConn::new(alloc, scene.console, &[], 65_536, failing.console);
+    let console = console.expect(rt, MEMORY);
+    let mut network = MemoryNetwork::new(alloc, scene.clients, failing.accepts, &[]);
+    match network.listen(alloc, 8_080, 2, None) {
+        Ok(doors) => serve(rt, alloc, ground, doors, children, console, scene),
         Err(_) => panic!(rt; "memory was refused"),
     }
-}
-
-/// A storm.
-pub fn rage<R: Abort + Wait + Threads + Sync>(rt: &R, alloc: Global, weather: &Weather) -> Storm {
-    let says = all_says(rt, alloc, weather);
-    let other = other_says(rt, alloc, weather);
-    let plans = plans(rt, alloc, &says, &other, weather);
-    let children = MemoryChildren::new(alloc, &plans, weather.starts);
-    let clients = clients(rt, alloc, weather);
-    let console = console(rt, alloc, weather);
-    serve_clients(rt, alloc, &clients, children, &console, weather.requests)
 }

@@ -1,22 +1,23 @@
 #!/usr/bin/env bash
 # Serves sites over real sockets with real programs as services, and compares what clients, the console and the log are given.
 #   checks/serve.sh PROGRAM [FOLDER [CHECK]]     FOLDER has the services, or the crates whose programs they are; without it this repository's crates
-# With CHECK that one alone. Loopback only, on ports that the system gives. Every process that is started is ended, by its id.
+# Hostile services and clients are those of the tables in crates/storm_tests. With CHECK that one alone. Loopback only, on ports that the system gives. Every process that is started is ended, by its id.
 # The last line is 'N passed, M failed'.
 set -uo pipefail
 program=$(realpath "$1")
 services=$(realpath "${2:-$(dirname "$0")/../crates}")
 only=${3:-}
+tables=$(realpath "$(dirname "$0")/../crates/storm_tests/src/tables.rt")
 folder=$(mktemp -d)
 trap 'rm -rf "$folder"' EXIT
 for name in svc_guest svc_probe; do
     cp "$services/$name" "$folder/" 2>/dev/null || cp "$services/$name/out/$name" "$folder/" || exit 1
 done
 cd "$folder" || exit 1
-python3 - "$program" "$only" <<'P'
-import fcntl, os, resource, shutil, signal, socket, sqlite3, struct, subprocess, sys, termios, threading, time
+python3 - "$program" "$tables" "$only" <<'P'
+import fcntl, os, re, resource, shutil, signal, socket, sqlite3, struct, subprocess, sys, termios, threading, time
 
-PROGRAM, ONLY = sys.argv[1], sys.argv[2]
+PROGRAM, TABLES, ONLY = sys.argv[1:4]
 
 SITE = """okws 1
 proxy main
@@ -229,6 +230,38 @@ def requests_are_refused_by_the_standard():
             same(get(server.port, path), answer)
         same(exchange(server.port, b'GET /guest HTTP/1.1\r\n' + b'A: b\r\n' * 64 + b'A'), own('431 Request Header Fields Too Large'))
         same(server.ends(), (counts(11, 5, 2, 0, 0), 0))
+
+def rows(table):
+    """The rows of one of the tables, in their fields."""
+    with open(TABLES) as f:
+        text = re.search(f'const {table}: &str = "(.*?)";', f.read(), re.S)[1]
+    return [line.split(' | ') for line in text.split('\n') if line and not line.startswith('#')]
+
+def written_out(text):
+    """A text with its repetitions written out."""
+    return re.sub(r'{(\d+) ([^}]*)}', lambda it: int(it[1]) * it[2], text)
+
+def hostile_services_harm_their_own_dialog_alone():
+    tried = 0
+    for said, _, end in rows('SERVICES'):
+        word = '00000017410000t' + written_out(said).replace(' ', '') + REPLY_OK
+        # A line of a configuration has at most 65,536 bytes.
+        if 2 * len(word) < 65000:
+            with Server(SITE % f'./svc_probe {word} {word}' + 'grant other main 1\n', 3, doors=1) as server:
+                for _ in range(2):
+                    same(get(server.port, '/other'), OK if end == 'Reply' else BAD_GATEWAY)
+                same(get(server.port), ANN_AND_BOB)
+                same(server.ends(), (counts(3, 3, 2 if end == 'Reply' else 4, 0, 0), 0))
+            tried += 1
+    assert tried > 10, tried
+
+def hostile_clients_are_told_what_is_due():
+    table = rows('CLIENTS')
+    with Server(SITE.replace('./svc_guest', './svc_probe' + f' {REPLY_OK}' * len(table)) % './svc_probe', len(table), doors=1) as server:
+        for status, text in table:
+            answer = exchange(server.port, written_out(text).replace('~', '\r\n').encode())
+            same(answer, OK if status == '200 OK' else own(status))
+        same(server.ends()[1], 0)
 
 def a_site_of_no_service_is_served():
     with Server('okws 1\n', 1) as server:
@@ -593,7 +626,7 @@ def a_server_without_end_outlives_its_console():
 
 CHECKS = [
     the_guestbook_shows_and_takes_entries, a_log_is_appended_to, a_log_that_cannot_be_opened_is_a_fault_at_the_end, requests_are_refused_by_the_standard,
-    a_site_of_no_service_is_served, the_console_is_answered, a_published_page_reaches_a_running_service, a_refused_publication_is_dropped,
+    hostile_services_harm_their_own_dialog_alone, hostile_clients_are_told_what_is_due, a_site_of_no_service_is_served, the_console_is_answered, a_published_page_reaches_a_running_service, a_refused_publication_is_dropped,
     a_bad_frame_is_a_bad_gateway_and_three_of_them_give_the_service_up, a_killed_child_is_launched_again, a_service_that_cannot_start_is_given_up,
     a_held_dialog_keeps_no_other_client_waiting, a_taken_port_is_a_fault_and_starts_no_child, words_and_files_are_judged_first,
     rows_in_a_file_are_there_in_the_next_run, a_file_of_rows_is_one_servers, rows_of_other_columns_are_refused_and_kept,

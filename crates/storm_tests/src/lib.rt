@@ -1,5 +1,6 @@
-//! Tests of servers in storms, and of servers of which each call of the outside fails in turn: a judge reads the record that a run
-//! left, and finds it legal; and it finds which part of a record is not that was changed in one place.
+//! Tests of servers in storms, of servers of which each call of the outside fails in turn, and of hostile services and clients: a
+//! judge reads the record that a run left, and finds it legal; and it finds which part of a record is not that was changed in one
+//! place.
 #![tactic(auto)]
 
 #[cfg(test)]
@@ -9,6 +10,8 @@ mod failing;
 #[cfg(test)]
 mod holding;
 #[cfg(test)]
+mod hostile;
+#[cfg(test)]
 mod legal;
 #[cfg(test)]
 mod says;
@@ -16,5 +19,7 @@ mod says;
 mod site;
 #[cfg(test)]
 mod storm;
+#[cfg(test)]
+mod tables;
 #[cfg(test)]
 mod weather;

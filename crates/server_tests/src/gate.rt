@@ -1,7 +1,10 @@
 //! A gate at which a thread is held until another has come so far.
 
 use okws_outer::gate::{Gate, Point};
-use std::sync::{Condvar, Mutex, Wait};
+use std::process::Abort;
+use std::sync::atomic::{AtomicU64, Ordering};
+use std::sync::{Mutex, Wait};
+use std::thread::yield_now;
 
 /// Which coming to a point of the gate: that of a service's or a proxy's number, counted from 1. Those of
 /// connections are counted together, under the number 0.
@@ -18,6 +21,8 @@ pub struct Coming {
 /// Who is held, and until what has come.
 #[derive(Clone, Copy)]
 pub struct Hold {
+    /// What is said where that never comes.
+    pub name: &'static str,
     /// The coming that is held.
     pub at: Coming,
     /// The coming that ends it.
@@ -64,44 +69,67 @@ fn has_come(last: &Last, wanted: Coming) -> bool {
     false
 }
 
+/// How often a held thread looks whether it may go on; then the test fails.
+const TURNS: u32 = 10_000_000;
+
 /// A gate with holds.
 #[derive(Drop)]
 pub struct Held<'a, R> {
     rt: &'a R,
     holds: &'a [Hold],
     last: Mutex<Last>,
-    moved: Condvar,
+    answered: &'a AtomicU64,
 }
 
-impl<'a, R: Wait> Held<'a, R> {
-    /// A gate to which nobody came, at which threads wait by `rt`.
-    pub fn new(rt: &'a R, holds: &'a [Hold]) -> Self {
+/// The bit of a connection's number; those past the second share one.
+fn bit_of(number: u64) -> u64 {
+    match number {
+        0 => 1,
+        1 => 2,
+        _ => 4,
+    }
+}
+
+impl<'a, R: Abort + Wait> Held<'a, R> {
+    /// A gate to which nobody came, at which threads wait by `rt`; the bits of the connections that are answered are set in
+    /// `answered`.
+    pub fn new(rt: &'a R, holds: &'a [Hold], answered: &'a AtomicU64) -> Self {
         Held {
             rt,
             holds,
             last: Mutex::new([None; 8]),
-            moved: Condvar::new(),
+            answered,
         }
     }
 
-    /// Waits until it came to this.
-    fn wait_for(&self, wanted: Coming) {
-        let last = self.last.lock(self.rt);
-        let last = self
-            .moved
-            .wait_while(self.rt, last, |last| !has_come(last, wanted));
-        drop(last);
+    /// Waits until it came to what ends a hold.
+    fn wait_for(&self, hold: &Hold) {
+        for _ in 0..TURNS {
+            if has_come(&self.last.lock(self.rt), hold.until) {
+                return;
+            }
+            yield_now();
+        }
+        panic!(self.rt; "{} in vain", hold.name)
+    }
+
+    /// The number under which those who come to a point are counted.
+    fn counted(&self, point: Point, number: u64) -> u64 {
+        if point != Point::Answered {
+            return number;
+        }
+        self.answered.fetch_or(bit_of(number), Ordering::SeqCst);
+        0
     }
 }
 
-impl<'a, R: Wait> Gate for Held<'a, R> {
+impl<'a, R: Abort + Wait> Gate for Held<'a, R> {
     fn pass(&self, point: Point, number: u64) {
-        let number = if point == Point::Answered { 0 } else { number };
+        let number = self.counted(point, number);
         let coming = come(&mut self.last.lock(self.rt), point, number);
-        self.moved.notify_all();
         for hold in self.holds {
             if hold.at == coming {
-                self.wait_for(hold.until);
+                self.wait_for(hold);
             }
         }
     }

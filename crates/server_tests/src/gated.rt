@@ -7,6 +7,7 @@ use okws_outer::gate::Point;
 use std::alloc::Global;
 use std::process::Abort;
 use std::sync::Wait;
+use std::sync::atomic::{AtomicU64, Ordering};
 use std::thread::Threads;
 
 /// Three services at two proxies; the third one has no path.
@@ -83,12 +84,13 @@ const THIRD_RAISED: Coming = Coming {
     time: 2,
 };
 
-/// What a client of each service is answered by two doors.
+/// What a client of each service is answered by two doors, and the bits of the connections that the gate saw answered.
 #[derive(Drop)]
 struct Two {
     ended: Ended,
     guest: Vec<u8>,
     other: Vec<u8>,
+    answered: u64,
 }
 
 /// What the client with this request was answered.
@@ -121,13 +123,15 @@ fn both<'x, R: Abort + AllocGlobal + Wait + Threads + Sync>(
         console: &console,
         ..plain()
     };
-    let ended = serve(rt, alloc, &plan, Held::new(rt, holds));
+    let answered = AtomicU64::new(0);
+    let ended = serve(rt, alloc, &plan, Held::new(rt, holds, &answered));
     let guest = answer_to(rt, alloc, &ended, &guest);
     let other = answer_to(rt, alloc, &ended, &other);
     Two {
         ended,
         guest,
         other,
+        answered: answered.load(Ordering::SeqCst),
     }
 }
 
@@ -135,14 +139,17 @@ fn both<'x, R: Abort + AllocGlobal + Wait + Threads + Sync>(
 /// only once the dialog is held.
 const RELAUNCHED: [Hold; 3] = [
     Hold {
+        name: "a dialog of guest is held",
         at: GUEST_REQUESTED,
         until: ANSWERED,
     },
     Hold {
+        name: "a relaunch of third is held",
         at: THIRD_RAISED,
         until: GUEST_REQUESTED,
     },
     Hold {
+        name: "a dialog of other is held",
         at: OTHER_REQUESTED,
         until: GUEST_RAISED,
     },
@@ -155,6 +162,7 @@ fn a_dialog_of_a_relaunched_service_is_superseded(rt: HostRuntime) {
     same(&rt, &two.guest, want.as_bytes());
     same(&rt, &two.other, REPLIED.as_bytes());
     same(&rt, &two.ended.console, b"relaunched 2\nrelaunched 2\n");
+    holds(&rt, two.answered == 0b11, "connections 0 and 1");
 }
 
 /// Both clients are told what their services reply.
@@ -166,6 +174,7 @@ fn are_replied<R: Abort + AllocGlobal + Wait + Threads + Sync>(rt: &R, holds: &[
 #[test]
 fn a_held_turn_at_a_proxy_holds_nobody_at_another(rt: HostRuntime) {
     let held = [Hold {
+        name: "a Call at main is held",
         at: MAIN_CALLED,
         until: ANSWERED,
     }];
@@ -176,10 +185,12 @@ fn a_held_turn_at_a_proxy_holds_nobody_at_another(rt: HostRuntime) {
 fn two_dialogs_stand_open_at_once(rt: HostRuntime) {
     let held = [
         Hold {
+            name: "a dialog of guest is held",
             at: GUEST_REQUESTED,
             until: OTHER_REQUESTED,
         },
         Hold {
+            name: "a dialog of other is held",
             at: OTHER_REQUESTED,
             until: GUEST_REQUESTED,
         },
@@ -191,10 +202,12 @@ fn two_dialogs_stand_open_at_once(rt: HostRuntime) {
 fn two_turns_at_proxies_stand_open_at_once(rt: HostRuntime) {
     let held = [
         Hold {
+            name: "a Call at main is held",
             at: MAIN_CALLED,
             until: SIDE_CALLED,
         },
         Hold {
+            name: "a Call at side is held",
             at: SIDE_CALLED,
             until: MAIN_CALLED,
         },

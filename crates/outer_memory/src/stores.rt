@@ -32,6 +32,7 @@ pub struct MemoryStores<'a, M> {
     maker: M,
     made: Told<KeeperStart>,
     finished: Told<KeeperEnd>,
+    back: u64,
     refuses: bool,
     failing: Failing<'a>,
 }
@@ -45,6 +46,7 @@ impl<'a, M: KeeperMaker> MemoryStores<'a, M> {
             maker,
             made: Told::new(),
             finished: Told::new(),
+            back: 0,
             refuses: false,
             failing: Failing::at(failing),
         }
@@ -58,6 +60,7 @@ impl<'a, M: KeeperMaker> MemoryStores<'a, M> {
             maker,
             made: Told::new(),
             finished: Told::new(),
+            back: 0,
             refuses: true,
             failing: Failing::at(&[]),
         }
@@ -68,6 +71,11 @@ impl<'a, M: KeeperMaker> MemoryStores<'a, M> {
         ensures { result ≡ (⟦<MemoryStores<'a, M> as Stores>⟧.depot self.now).faults }
     {
         self.failing.faults
+    }
+
+    /// How many keepers were given back.
+    pub fn given_back(&self) -> u64 {
+        self.back
     }
 }
 
@@ -181,5 +189,6 @@ impl<'a, M: KeeperMaker> Stores for MemoryStores<'a, M> {
             keeper: &keeper,
         };
         self.finished = self.finished.and(&finished);
+        self.back = self.back.saturating_add(1);
     }
 }

@@ -102,10 +102,14 @@ pub struct Plan<'a> {
     pub starts: &'a [u64],
     /// The numbers of the listens that fail.
     pub listens: &'a [u64],
+    /// The numbers of the accepts that fail, of each door by its own count.
+    pub accepts: &'a [u64],
     /// The numbers of the pulls that fail of the files that are read.
     pub reads: &'a [u64],
     /// The numbers of the sinks' openings that fail.
     pub openings: &'a [u64],
+    /// The numbers of the puts of each sink that fail.
+    pub logs: &'a [u64],
     /// The numbers of the makings of keepers that fail.
     pub makings: &'a [u64],
     /// The numbers of each keeper's calls that fail.
@@ -116,6 +120,8 @@ pub struct Plan<'a> {
     pub slips: &'a [u64],
     /// For how many bytes there is room that are printed.
     pub room: usize,
+    /// The numbers of the puts that fail of what is printed.
+    pub prints: &'a [u64],
 }
 
 /// A server of one door and three connections, of which nothing fails.
@@ -129,13 +135,16 @@ pub fn plain() -> Plan<'static> {
         children: &[],
         starts: &[],
         listens: &[],
+        accepts: &[],
         reads: &[],
         openings: &[],
+        logs: &[],
         makings: &[],
         calls: &[],
         console: b"",
         slips: &[],
         room: 65_536,
+        prints: &[],
     }
 }
 
@@ -153,6 +162,8 @@ pub struct Ended {
     pub log: Option<Vec<u8>>,
     /// How many children were started.
     pub started: usize,
+    /// How many keepers the stores were given back.
+    pub kept: u64,
     /// What each finished child was given, in the order in which they were finished.
     pub heard: Vec<Vec<u8>>,
 }
@@ -167,6 +178,7 @@ impl Drop for Ended {
             console,
             log,
             started: _,
+            kept: _,
             heard,
         } = self;
         drop(printed);
@@ -186,11 +198,11 @@ fn objects<'a, R: Abort, G: Drop>(
 ) -> MemoryObjects<'a, Shaking<'a>, G> {
     let console = MemoryConn::new(alloc, plan.console, &[], 65_536, plan.slips);
     Objects {
-        network: MemoryNetwork::new(alloc, plan.clients, &[], plan.listens),
+        network: MemoryNetwork::new(alloc, plan.clients, plan.accepts, plan.listens),
         children: MemoryChildren::new(alloc, plan.children, plan.starts),
         console: console.expect(rt, MEMORY),
         stores: MemoryStores::new(Shaking { calls: plan.calls }, plan.makings),
-        sinks: MemorySinks::new(alloc, 65_536, &[], plan.openings),
+        sinks: MemorySinks::new(alloc, 65_536, plan.logs, plan.openings),
         gate,
     }
 }
@@ -266,6 +278,7 @@ fn ending<R: Abort, G>(
         console: copy_of(rt, alloc, things.console.given()),
         log: log_of(rt, alloc, &things.sinks),
         started: started.expect(rt, MEMORY).len(),
+        kept: things.stores.given_back(),
         heard: heard_of(rt, alloc, &things.children),
     }
 }
@@ -292,7 +305,7 @@ pub fn serve<R: Abort + Wait + Threads + Sync, G: Gate + Sync + Drop>(
         path: "site",
         bytes: plan.site.as_bytes(),
     }];
-    let out = MemorySink::new(alloc, plan.room, &[]).expect(rt, MEMORY);
+    let out = MemorySink::new(alloc, plan.room, plan.prints).expect(rt, MEMORY);
     let mut world = Fitted {
         outside: Some(Outside {
             files: MemoryFiles::new(&entries, 4_096, plan.reads),

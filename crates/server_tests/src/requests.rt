@@ -115,29 +115,6 @@ fn words_and_files_are_judged_first(rt: HostRuntime) {
 }
 
 #[test]
-fn a_port_that_is_taken_starts_no_child(rt: HostRuntime) {
-    let plan = Plan {
-        listens: &[0],
-        ..plain()
-    };
-    let ended = serve(&rt, rt.alloc(), &plan, NoGate);
-    holds(&rt, ended.status == Status::NetFault, "status");
-    same(&rt, &ended.printed, b"net fault\n");
-    holds(&rt, ended.started == 0, "started");
-}
-
-#[test]
-fn a_site_that_cannot_be_pulled_is_a_read_fault(rt: HostRuntime) {
-    let plan = Plan {
-        reads: &[0],
-        ..plain()
-    };
-    let ended = serve(&rt, rt.alloc(), &plan, NoGate);
-    holds(&rt, ended.status == Status::ReadFault, "status");
-    same(&rt, &ended.printed, b"read fault\n");
-}
-
-#[test]
 fn a_listing_past_the_room_is_an_out_fault(rt: HostRuntime) {
     let plan = Plan {
         words: &["check", "site"],

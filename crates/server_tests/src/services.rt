@@ -1,6 +1,6 @@
 //! What becomes of services and of the operator's commands.
 
-use crate::holding::{MEMORY, holds, same};
+use crate::holding::{holds, same};
 use crate::outside::{Ended as Run, Plan, REPLIED, REPLY, child, client, get, own, plain, serve};
 use okws_outer::child::Ended;
 use okws_outer::gate::NoGate;
@@ -111,18 +111,16 @@ fn the_operator_is_answered(rt: HostRuntime) {
 /// Log of `hi`, and a Reply of 200 with `ok` as plain text.
 const LOGS: &[u8] = b"\0\0\0\x07\x44\0\0\0\x02hi\0\0\0\x15\x45\0\xc8\x0atext/plain\0\0\0\0\x02ok";
 
-/// A run in which a service has a text logged, where these openings of the sinks fail.
-fn logged<R: Abort + AllocGlobal + Wait + Threads + Sync>(rt: &R, openings: &[u64]) -> Run {
+/// A run in which a service has a text logged.
+fn logged<R: Abort + AllocGlobal + Wait + Threads + Sync>(rt: &R) -> Run {
     let alloc = rt.alloc();
     let request = get(rt, alloc, "/guest");
-    let openings = Vec::from_slice(alloc, openings).expect(rt, MEMORY);
     let plan = Plan {
         words: &[
             "serve", "site", "--port", "8080", "--serve", "1", "--log", "log",
         ],
         clients: &[client(request.as_bytes())],
         children: &[child(0, 1, LOGS)],
-        openings: &openings,
         ..plain()
     };
     serve(rt, alloc, &plan, NoGate)
@@ -130,29 +128,8 @@ fn logged<R: Abort + AllocGlobal + Wait + Threads + Sync>(rt: &R, openings: &[u6
 
 #[test]
 fn texts_are_logged(rt: HostRuntime) {
-    let ended = logged(&rt, &[]);
+    let ended = logged(&rt);
     holds(&rt, ended.status == Status::Ok, "status");
     let log = ended.log.as_ref().map(|log| log.as_slice());
     holds(&rt, log == Some(b"guest 1 hi\n".as_slice()), "log");
-}
-
-#[test]
-fn a_log_that_cannot_be_opened_is_a_log_fault(rt: HostRuntime) {
-    let ended = logged(&rt, &[0]);
-    holds(&rt, ended.status == Status::LogFault, "status");
-    let want = b"connections 1\naccepts 1\nlaunches 2\npublications 0\nlogged 1\nlog fault\n";
-    same(&rt, &ended.printed, want);
-}
-
-#[test]
-fn a_console_that_fails_is_told_at_the_end(rt: HostRuntime) {
-    let plan = Plan {
-        words: &["serve", "site", "--port", "8080", "--serve", "0"],
-        slips: &[0],
-        ..plain()
-    };
-    let ended = serve(&rt, rt.alloc(), &plan, NoGate);
-    holds(&rt, ended.status == Status::ConsoleFault, "status");
-    let want = b"connections 0\naccepts 0\nlaunches 2\npublications 0\nlogged 0\nconsole fault\n";
-    same(&rt, &ended.printed, want);
 }

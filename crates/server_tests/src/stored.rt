@@ -25,11 +25,7 @@ const FAILED_FIRST: &str = "000000174100000000000000000001ade0b876903df1a0e56a5d
     0a";
 
 /// A run over stores of a POST, the same again, and a GET, of which such calls of the keepers fail.
-fn visits<R: Abort + AllocGlobal + Wait + Threads + Sync>(
-    rt: &R,
-    makings: &[u64],
-    calls: &[u64],
-) -> Ended {
+fn visits<R: Abort + AllocGlobal + Wait + Threads + Sync>(rt: &R, calls: &[u64]) -> Ended {
     let says = bytes(rt, rt.alloc(), FAILED_FIRST);
     let shown = get(rt, rt.alloc(), "/guest");
     let plan = Plan {
@@ -38,7 +34,6 @@ fn visits<R: Abort + AllocGlobal + Wait + Threads + Sync>(
         ],
         clients: &[client(POST), client(POST), client(shown.as_bytes())],
         children: &[child(0, 1, &says)],
-        makings,
         calls,
         ..plain()
     };
@@ -60,7 +55,7 @@ fn has_three_lines(answer: &[u8]) -> bool {
 
 #[test]
 fn a_write_that_failed_at_its_store_goes_through_when_asked_again(rt: HostRuntime) {
-    let ended = visits(&rt, &[], &[1]);
+    let ended = visits(&rt, &[1]);
     holds(&rt, ended.status == Status::Ok, "status");
     let given = ended.heard.first().expect(&rt, "no child");
     holds(
@@ -73,16 +68,8 @@ fn a_write_that_failed_at_its_store_goes_through_when_asked_again(rt: HostRuntim
 }
 
 #[test]
-fn a_store_that_cannot_be_made_is_a_fault(rt: HostRuntime) {
-    let ended = visits(&rt, &[0], &[]);
-    holds(&rt, ended.status == Status::StoreFault, "status");
-    same(&rt, &ended.printed, b"store fault\n");
-    holds(&rt, ended.started == 0, "started");
-}
-
-#[test]
 fn a_store_that_cannot_be_read_is_a_fault(rt: HostRuntime) {
-    let ended = visits(&rt, &[], &[0]);
+    let ended = visits(&rt, &[0]);
     holds(&rt, ended.status == Status::StoreFault, "status");
     same(&rt, &ended.printed, b"store fault\n");
     holds(&rt, ended.started == 0, "started");

@@ -69,10 +69,12 @@ static const int REFUSED[] = {
 /* Of processes that are started: in namespaces of their own, or as children of the server. */
 enum { ELSEWHERE = CLONE_NEWUSER | CLONE_NEWNS | CLONE_NEWPID | CLONE_NEWNET | CLONE_NEWIPC | CLONE_NEWUTS | CLONE_NEWCGROUP | CLONE_PARENT };
 enum { NEWEST_CALL = 451 /* cachestat, of Linux 6.5 */, KIND_OF_SOCKET = 0xf, KIND_OF_MAP = 0xf | MAP_ANONYMOUS };
-#ifdef __x86_64__
+#if defined __x86_64__
 static const unsigned PROCESSOR = AUDIT_ARCH_X86_64;
-#else
+#elif defined __aarch64__
 static const unsigned PROCESSOR = AUDIT_ARCH_AARCH64;
+#else
+#error "okws-run knows the system calls of x86-64 and ARM64 alone"
 #endif
 
 /* Calls of the processor's other kinds end the process; calls that are newer than this list are not there. */

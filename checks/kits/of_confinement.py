@@ -1,5 +1,5 @@
 """What a service reaches on the machine, plain and behind okws-run."""
-import os, re, shutil, socket, subprocess, time
+import glob, os, re, shutil, socket, subprocess, time
 from serving import OKWS, PYTHON, TOP, Server, Skipped, ask, children_of, needs, same, tree_of, wait_until, write
 from of_kits import guestbook
 
@@ -113,6 +113,13 @@ def what_is_named_is_given():
     same(run_confined(['--run', './told', '--run', '/bin/cat'], runs).stdout, 'a b\nreached\n')
     same(run_confined(['--env', 'A=b=c'], python("import os; print(os.environ['A'], sorted(os.environ))")).stdout, "b=c ['A', 'LANG', 'PATH']\n")
     same(run_confined([], ['env'], env={'SECRET': '1'}).stdout, 'PATH=/usr/local/bin:/usr/bin:/bin\nLANG=C.UTF-8\n')
+
+def debians_python_reads_its_own_module():
+    """Where it has no compiled one, it would tell on standard error at each start that it may not."""
+    own = glob.glob('/etc/python3*/sitecustomize.py')
+    if not own:
+        raise Skipped("this Python has no module in /etc")
+    same(run_confined([], python(f'open({own[0]!r}).close()')).stderr, '')
 
 def a_socket_is_of_the_internets_kinds_and_only_with_network():
     opens = python("import socket; [socket.socket(kind).close() for kind in (socket.AF_INET, socket.AF_INET6)]; socket.socket(socket.AF_UNIX)")
@@ -274,6 +281,7 @@ def svc_guest():
 CHECKS = [
     a_plain_spy_reaches_all_but_what_the_monitor_refuses, a_confined_spy_reaches_nothing, a_spy_behind_a_relay_reaches_nothing,
     a_spy_reaches_nothing_where_the_kernel_is_older, ways_around_are_refused, a_kernel_without_landlock_is_told, what_is_named_is_given,
+    debians_python_reads_its_own_module,
     a_socket_is_of_the_internets_kinds_and_only_with_network, memory_is_limited, standard_error_is_not_the_servers, descriptors_are_not_inherited,
     words_that_ask_for_nothing_are_refused,
     a_dialog_that_takes_too_long_is_ended, what_a_service_started_ends_with_its_dialog, a_confined_service_ends_with_the_server, the_kits_examples_run_confined,

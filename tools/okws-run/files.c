@@ -83,6 +83,7 @@ static const char *const READ_BY_ALL[] = {"/usr", "/lib", "/lib32", "/lib64", "/
 static const char *const READ_FOR_NETWORK[] = {"/etc/resolv.conf", "/etc/hosts", "/etc/nsswitch.conf", "/etc/gai.conf", "/etc/host.conf", "/etc/services",
     "/etc/ssl", "/etc/ca-certificates", "/run/systemd/resolve"};
 static const char *const LINKERS[] = {"/lib/ld-*.so*", "/lib64/ld-*.so*"};
+static const char *const PYTHONS_OWN = "/etc/python3*"; /* a module that Debian's looks for at its start */
 
 void confine_files(const struct asked *a, const char *program) {
     long version = landlock_version();
@@ -94,6 +95,7 @@ void confine_files(const struct asked *a, const char *program) {
     for (size_t i = 0; i < sizeof READ_BY_ALL / sizeof *READ_BY_ALL; i++) allow(ruleset, r.files, READ_BY_ALL[i], MAY_READ, 0);
     for (size_t i = 0; a->network && i < sizeof READ_FOR_NETWORK / sizeof *READ_FOR_NETWORK; i++) allow(ruleset, r.files, READ_FOR_NETWORK[i], MAY_READ, 0);
     for (size_t i = 0; i < sizeof LINKERS / sizeof *LINKERS; i++) allow_pattern(ruleset, r.files, LINKERS[i], MAY_RUN);
+    allow_pattern(ruleset, r.files, PYTHONS_OWN, MAY_READ);
     allow(ruleset, r.files, "/dev/null", MAY_READ | LANDLOCK_ACCESS_FS_WRITE_FILE, 0);
     allow_program(ruleset, r.files, program);
     for (size_t i = 0; i < a->count; i++) {

@@ -13,19 +13,19 @@ _okws() {
     local word=${COMP_WORDS[COMP_CWORD]} before=${COMP_WORDS[COMP_CWORD-1]} command=${COMP_WORDS[0]##*/} options=''
     COMPREPLY=()
     if [ "$command" = okws ]; then
-        [ "$COMP_CWORD" != 1 ] || { _okws_words 'check play drill serve help' "$word"; return; }
+        [ "$COMP_CWORD" != 1 ] || { _okws_words 'check play drill serve help --version' "$word"; return; }
         command="okws ${COMP_WORDS[1]}"
     fi
     case $command in
-        'okws serve') options='--port --serve --doors --store --log' ;;
-        okws-up) options='--port --doors --store --log --templates --run --grace --count --okws' ;;
+        'okws serve') options='--port --serve --always --doors --patience --store --log' ;;
+        okws-up) options='--port --doors --patience --store --log --templates --run --grace --count --okws' ;;
         okws-ctl) options='--site --run --json' ;;
         okws-front) options='--listen --certificate --doors' ;;
     esac
     case $before in
         --store|--log|--okws|--certificate) mapfile -t COMPREPLY < <(compgen -f -- "$word"); return ;;
         --templates|--run) mapfile -t COMPREPLY < <(compgen -d -- "$word"); return ;;
-        --port|--serve|--doors|--grace|--count|--site|--listen) return ;;
+        --port|--serve|--doors|--patience|--grace|--count|--site|--listen) return ;;
     esac
     [[ $word != -* ]] || { _okws_options "$options" "$word"; return; }
     case $command in

@@ -229,11 +229,11 @@ def the_page_shows_in_a_browser():
 
 
 COMPLETED = [
-    (['okws', ''], 'check play drill serve help'),
+    (['okws', ''], 'check play drill serve help --version'),
     (['okws', 'ch'], 'check'),
     (['okws', 'check', 'o'], 'one.okws'),
     (['okws', 'play', 'one.okws', 'o'], 'one.okws one.script'),
-    (['okws', 'serve', 'one.okws', '--port', '80', '--'], '--serve --doors --store --log'),
+    (['okws', 'serve', 'one.okws', '--port', '80', '--'], '--serve --always --doors --patience --store --log'),
     (['okws-show', ''], 'one.okws'),
     (['okws-ctl', 're'], 'relaunch'),
 ]

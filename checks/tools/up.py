@@ -112,6 +112,14 @@ def the_next_run_has_the_same_site():
         same((told['run'], told['earlier']), (2, {'connections': 3, 'accepts': 3, 'launches': 1, 'publications': 3, 'logged': 3}))
 
 
+def a_run_has_no_end_without_a_count():
+    with Up('endless') as up:
+        words = read(f'/proc/{status_of(up)["server"]["process"]}/cmdline').split('\0')
+        assert '--always' in words and '--serve' not in words, words
+        same(ask(up.port), ANN)
+        same((up.ctl('stop'), up.ends()), ('stopping\n', 0))
+
+
 def a_request_is_answered_before_the_end():
     with Up('grace') as up:
         told = []
@@ -254,7 +262,7 @@ def words_that_are_none_are_refused():
 
 CHECKS = [
     a_site_is_kept_and_steered, paths_may_have_spaces, a_folder_is_one_boxs, what_a_killed_box_leaves_is_taken_over, what_is_no_socket_is_left_alone,
-    template_files_that_fit_nothing_are_told, a_hangup_publishes_what_changed_and_opens_the_log_anew, the_next_run_has_the_same_site,
+    template_files_that_fit_nothing_are_told, a_hangup_publishes_what_changed_and_opens_the_log_anew, the_next_run_has_the_same_site, a_run_has_no_end_without_a_count,
     a_request_is_answered_before_the_end, a_second_signal_waits_for_nobody, a_box_can_be_ended_at_any_moment_of_its_start,
     a_refused_configuration_is_told_in_words, what_another_holds_ends_the_box_with_its_status,
     a_killed_server_ends_the_box_and_a_killed_child_is_told, orders_that_name_nothing_do_not_come_to_the_server,

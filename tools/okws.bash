@@ -32,7 +32,7 @@ _okws() {
         'okws check'|'okws serve'|okws-show|okws-up|okws-front) _okws_files okws "$word" ;;
         'okws play'|okws-draw) _okws_files '@(okws|script)' "$word" ;;
         okws-explain) _okws_words 'config query script denied console status frame' "$word"; [ -n "${COMPREPLY[*]}" ] || _okws_files '@(okws|script)' "$word" ;;
-        okws-ctl) _okws_words 'status publish relaunch stop' "$word" ;;
+        okws-ctl) _okws_words 'status publish relaunch reload stop' "$word" ;;
     esac
 }
 shopt -q extglob || shopt -s extglob

@@ -166,6 +166,11 @@ def run_folder(name=None):
     return f'/run/okws/{name}' if name else os.environ.get('RUNTIME_DIRECTORY') or 'run'
 
 
+def shown(name):
+    """A file's name as it may stand in a line: quoted where it has what isn't to be printed."""
+    return name if name.isprintable() else ascii(name)
+
+
 def template_files(folder, site):
     """Of each template its file in a folder, NAME or NAME.EXTENSION, and sentences on what doesn't fit."""
     files, odd = {}, []
@@ -174,11 +179,11 @@ def template_files(folder, site):
         if entry.startswith('.') or entry.endswith('~'):
             continue
         if name not in site.templates:
-            odd.append(f'{entry}: no template {name} is declared')
+            odd.append(f'{shown(entry)}: no template {shown(name)} is declared')
         elif name in files:
-            odd.append(f'{entry}: {os.path.basename(files[name])} is the file of template {name} already')
+            odd.append(f'{shown(entry)}: {shown(os.path.basename(files[name]))} is the file of template {name} already')
         elif not os.path.isfile(os.path.join(folder, entry)):
-            odd.append(f'{entry}: it is no file')
+            odd.append(f'{shown(entry)}: it is no file')
         else:
             files[name] = os.path.join(folder, entry)
     odd += [f'template {name}: no file in {folder}' for name in site.templates if name not in files]

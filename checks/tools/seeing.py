@@ -235,7 +235,7 @@ COMPLETED = [
     (['okws', 'play', 'one.okws', 'o'], 'one.okws one.script'),
     (['okws', 'serve', 'one.okws', '--port', '80', '--'], '--serve --always --doors --patience --store --log'),
     (['okws-show', ''], 'one.okws'),
-    (['okws-ctl', 're'], 'relaunch'),
+    (['okws-ctl', 're'], 'relaunch reload'),
 ]
 
 

@@ -83,6 +83,17 @@ def template_files_that_fit_nothing_are_told():
         same(ask(up.port), ANN)
 
 
+def a_file_whose_name_is_no_text_is_told_on_one_line():
+    write('names/templates/page.txt', '@{rows}')
+    with open(b'names/templates/\xff\n.txt', 'w'):
+        pass
+    with Up('names', '--templates', 'templates', environment={'PYTHONIOENCODING': 'utf-8:strict'}) as up:
+        told = r"'\udcff\n.txt': no template '\udcff\n' is declared"
+        same(up.ctl('reload', status=1), f'not all is reloaded: 0 published; {told}\n')
+        has(up.events(), f'templates: {told}')
+        same(ask(up.port), ANN)
+
+
 def a_hangup_publishes_what_changed_and_opens_the_log_anew():
     write('hup/templates/page.txt', 'a')
     with Up('hup', '--templates', 'templates', '--log', 'log') as up:
@@ -96,6 +107,38 @@ def a_hangup_publishes_what_changed_and_opens_the_log_anew():
         ask(up.port, content='3 cy')
         wait_until(lambda: 'entered 3' in read('hup/log'))
     assert 'entered 3' not in read('hup/log.1')
+
+
+def a_reload_says_what_it_did():
+    write('reload/templates/page.txt', 'a')
+    with Up('reload', '--templates', 'templates', '--log', 'log') as up:
+        same(up.ctl('reload'), 'reloaded: 0 published\n')
+        write('reload/templates/page.txt', 'b')
+        os.rename('reload/log', 'reload/log.1')
+        same(up.ctl('reload'), 'reloaded: 1 published\n')
+        same(ask(up.port), (200, 'b'))
+        ask(up.port, content='2 bob')
+        wait_until(lambda: 'entered 2' in read('reload/log'))
+        same(read('reload/log.1'), '')
+        write('reload/templates/page.txt', 'x' * 262145)
+        told = up.ctl('reload', status=1)
+        has(told, 'not all is reloaded: 0 published', 'page.txt: more than 262144 bytes')
+        same(ask(up.port), (200, 'b'))
+        has(up.events(), told.strip())
+    with Up('reload') as up:
+        same(up.ctl('reload'), 'reloaded: 0 published\n')
+
+
+def a_reload_tells_of_another_configuration():
+    with Up('other_site') as up:
+        write('other_site/site.okws', SITE + 'service more /bin/true\nuri /more more\n')
+        told = 'not all is reloaded: 0 published; site.okws has changed, which counts from the next start of okws-up alone'
+        same(up.ctl('reload', status=1), told + '\n')
+        up.process.send_signal(signal.SIGHUP)
+        wait_until(lambda: up.events().count(told) == 2)
+        same((ask(up.port, '/more')[0], ask(up.port)), (404, ANN))
+        os.unlink('other_site/site.okws')
+        has(up.ctl('reload', status=1), 'site.okws: No such file')
 
 
 def the_next_run_has_the_same_site():
@@ -218,6 +261,7 @@ def a_refused_page_has_no_commands_in_it():
     with Up('late', '--okws', './program', wait=False) as up:
         wait_until(lambda: os.path.exists('late/run/console'))
         has(up.ctl('publish', 'page', 'page', status=1), 'the site is not ready')
+        has(up.ctl('reload', status=1), 'the site is not ready')
         wait_until(lambda: 'serves' in up.events())
         has(up.ctl('publish', 'page', 'big', status=1), 'more than 262144 bytes')
         has(up.ctl('publish', 'pag', 'page', status=1), 'no such template')
@@ -262,9 +306,11 @@ def words_that_are_none_are_refused():
 
 CHECKS = [
     a_site_is_kept_and_steered, paths_may_have_spaces, a_folder_is_one_boxs, what_a_killed_box_leaves_is_taken_over, what_is_no_socket_is_left_alone,
-    template_files_that_fit_nothing_are_told, a_hangup_publishes_what_changed_and_opens_the_log_anew, the_next_run_has_the_same_site, a_run_has_no_end_without_a_count,
-    a_request_is_answered_before_the_end, a_second_signal_waits_for_nobody, a_box_can_be_ended_at_any_moment_of_its_start,
-    a_refused_configuration_is_told_in_words, what_another_holds_ends_the_box_with_its_status,
+    template_files_that_fit_nothing_are_told, a_file_whose_name_is_no_text_is_told_on_one_line,
+    a_hangup_publishes_what_changed_and_opens_the_log_anew, a_reload_says_what_it_did, a_reload_tells_of_another_configuration,
+    the_next_run_has_the_same_site, a_run_has_no_end_without_a_count, a_request_is_answered_before_the_end, a_second_signal_waits_for_nobody,
+    a_box_can_be_ended_at_any_moment_of_its_start, a_refused_configuration_is_told_in_words, what_another_holds_ends_the_box_with_its_status,
     a_killed_server_ends_the_box_and_a_killed_child_is_told, orders_that_name_nothing_do_not_come_to_the_server,
-    a_refused_page_has_no_commands_in_it, what_a_box_makes_is_its_users_alone, a_file_that_takes_no_log_is_told_at_once, systemd_is_told, words_that_are_none_are_refused,
+    a_refused_page_has_no_commands_in_it, what_a_box_makes_is_its_users_alone, a_file_that_takes_no_log_is_told_at_once, systemd_is_told,
+    words_that_are_none_are_refused,
 ]

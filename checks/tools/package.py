@@ -97,7 +97,7 @@ def an_installed_tree_is_whole():
         has(read(f'{top}/bin/okws-{name}').splitlines()[0], '#!/usr/bin/python3')
     broken = [path for path in glob.glob(f'{top}/**', recursive=True) if not os.path.exists(path)]
     same(broken, [])
-    has(read(f'{top}/lib/systemd/system/okws@.service'), 'ExecStart=/opt/okws/bin/okws-up', 'ExecStartPre=/opt/okws/bin/okws check')
+    has(read(f'{top}/lib/systemd/system/okws@.service'), 'ExecStart=/opt/okws/bin/okws-up', 'ExecStartPre=-/opt/okws/bin/okws check')
     assert os.path.exists(f'{top}/share/okws/docs/RULES.md') and os.path.exists(f'{top}/share/okws/kits/python/okws.py')
 
 
@@ -107,6 +107,18 @@ def the_unit_is_well_formed():
     unit = os.path.abspath('okws@.service')
     write(unit, re.sub(r'/usr/bin/okws\S*', '/bin/true', read(f'{TOOLS}/okws@.service')))
     same(subprocess.run(['systemd-analyze', 'verify', '--man=no', unit], capture_output=True, text=True, timeout=60).stderr, '')
+
+
+def the_unit_is_exposed_by_15_of_100():
+    """The number that docs/PEERS.md tells."""
+    if not shutil.which('systemd-analyze'):
+        raise Skipped('there is no systemd-analyze')
+    unit = os.path.abspath('okws@.service')
+    shutil.copy(f'{TOOLS}/okws@.service', unit)
+    told = subprocess.run(['systemd-analyze', 'security', '--offline=true', '--threshold=15', unit], capture_output=True, text=True, timeout=60)
+    if 'unrecognized option' in told.stderr:
+        raise Skipped('systemd-analyze is too old for it')
+    same((told.returncode, 'exposure level for okws@i.service: 1.5' in told.stdout), (0, True))
 
 
 def packages_name_the_commits_and_the_gate():
@@ -126,5 +138,5 @@ def a_package_has_no_error_by_lintian():
 
 CHECKS = [
     a_new_site_serves_a_page_with_a_form_from_the_tarball, a_new_site_serves_a_page_from_the_repository, a_folder_that_is_there_is_left_alone,
-    an_installed_tree_is_whole, the_unit_is_well_formed, packages_name_the_commits_and_the_gate, a_package_has_no_error_by_lintian,
+    an_installed_tree_is_whole, the_unit_is_well_formed, the_unit_is_exposed_by_15_of_100, packages_name_the_commits_and_the_gate, a_package_has_no_error_by_lintian,
 ]

@@ -87,7 +87,9 @@ static const char *const PYTHONS_OWN = "/etc/python3*"; /* a module that Debian'
 
 void confine_files(const struct asked *a, const char *program) {
     long version = landlock_version();
-    if (version < 1) stop("this kernel has no Landlock, so a service can't be confined.", "To start it all the same, leave okws-run and its options out");
+    if (version < 1)
+        stop("this kernel has no Landlock, or a container's filter refuses it, so a service can't be confined.",
+            "To start it all the same, leave okws-run and its options out");
     struct rules r = all_rules(version, a->network);
     size_t size = version >= 6 ? 24 : version >= 4 ? 16 : 8;
     int ruleset = (int)syscall(SYS_landlock_create_ruleset, &r, size, 0);

@@ -2,6 +2,7 @@
 import fcntl, os, sqlite3, struct
 
 MOST_PROXIES = 16
+SQL_TYPES = {'INT': 'INTEGER', 'TEXT': 'TEXT', 'BYTES': 'BLOB'}
 LOCK = 'hhqqi0q'      # a lock of fcntl(2): type, whence, start, length, process
 
 
@@ -37,6 +38,14 @@ def give(path, like):
     os.chmod(path, told.st_mode & 0o666)
     if (told.st_uid, told.st_gid) != (os.stat(path).st_uid, os.stat(path).st_gid):
         os.chown(path, told.st_uid, told.st_gid)
+
+
+def making(at, name, columns, with_names=True):
+    """The text by which okws makes the table of a number in its proxy. Earlier servers left the names out of it."""
+    def label(text):
+        return f' /* {text} */' if with_names else ''
+    told = ''.join(f', c{i}{label(one.name)} {SQL_TYPES[one.kind]} NOT NULL{" UNIQUE" if one.is_key else ""}' for i, one in enumerate(columns))
+    return f'CREATE TABLE t{at}{label(name)} (id INTEGER PRIMARY KEY AUTOINCREMENT{told}) STRICT'
 
 
 def counts(path):

@@ -1,5 +1,5 @@
 """Checks of okws-backup and okws-migrate."""
-import json, os, shutil, subprocess, sys, threading, time
+import json, os, shutil, sqlite3, subprocess, sys, threading, time
 import okws_stores
 from common import SITE, TOOLS, Skipped, Up, ask, has, run, same, wait_until, write
 
@@ -115,10 +115,62 @@ def rows_are_taken_over_to_other_columns():
     told = run('okws-migrate', 'site.okws', 'rows', 'new.okws', 'moved', cwd='migrate')
     same(told, 'main.msgs: 3 rows; stars INT is new; more BYTES is new\nmain.extra is new\n')
     has(run('okws-migrate', 'site.okws', 'rows', 'new.okws', 'moved', status=1, cwd='migrate'), 'is there already')
+    shutil.copy('migrate/rows.0', 'migrate/others.1')
+    has(run('okws-migrate', 'site.okws', 'others', 'new.okws', 'again', status=1, cwd='migrate'), 'others.0 is not there')
     with Up('migrate', '--store', 'moved', site=NEW.replace('SELECT id, who FROM msgs ORDER BY id', 'SELECT stars, note FROM msgs')) as up:
         same(ask(up.port), (200, '0 hi\n0 \n0 \n'))
     has(run('okws-backup', 'moved', 'copy', cwd='migrate'), 'moved.0 t0 3 rows', 'moved.0 t1 1 rows')
     same(serves('migrate', 'rows'), [1, 2, 3])
+
+
+EARLIER = """CREATE TABLE t0 (id INTEGER PRIMARY KEY AUTOINCREMENT, c0 INTEGER NOT NULL UNIQUE, c1 TEXT NOT NULL, c2 TEXT NOT NULL) STRICT;
+INSERT INTO t0 (c0, c1, c2) VALUES (7, 'cy', 'x'), (3, 'di', 'y');
+"""
+
+
+def make_by_hand(path, text):
+    """A store as a server that kept no names made it."""
+    os.makedirs(os.path.dirname(path), exist_ok=True)
+    database = sqlite3.connect(path)
+    database.execute('PRAGMA journal_mode = WAL')
+    database.executescript(text)
+    database.close()
+
+
+def a_store_of_an_earlier_server_is_taken_over():
+    make_by_hand('earlier/rows.0', EARLIER)
+    with Up('earlier', '--store', 'rows') as up:
+        same(up.ends(), 6)
+        has(up.events(), 'store fault', 'okws-migrate')
+    told = run('okws-migrate', 'site.okws', 'rows', 'site.okws', 'now/rows', status=6, cwd='earlier')
+    has(told, 'now/rows: ')
+    os.mkdir('earlier/now')
+    told = run('okws-migrate', 'site.okws', 'rows', 'site.okws', 'now/rows', cwd='earlier')
+    has(told, 'main: an earlier okws made it, without names', 'main.msgs: 2 rows\n')
+    run('okws-backup', '--restore', 'rows', 'now', cwd='earlier')
+    with Up('earlier', '--store', 'rows') as up:
+        same(ask(up.port, content='5 ed'), (303, ''))
+        same(ask(up.port), (200, '3 di\n5 ed\n7 cy\n'))
+        same(ask(up.port, content='7 flo'), (409, 'taken\n'))
+    told = run('okws-migrate', 'site.okws', 'rows', 'site.okws', 'again', cwd='earlier')
+    same(told, 'main.msgs: 3 rows\n')
+
+
+def a_store_of_other_tables_is_not_taken_over():
+    """The configuration before has another type, another key, another name, or a table more; or the store is the one with a table more."""
+    make_by_hand('others_tables/rows.0', EARLIER)
+    for before, after in (('note TEXT', 'note BYTES'), ('id INT KEY', 'id INT'), ('query main 1', 'table main more a INT\nquery main 1')):
+        site = SITE.replace(before, after, 1).replace("'hi'", "x''" if 'BYTES' in after else "'hi'")
+        write('others_tables/site.okws', site)
+        has(run('okws-migrate', 'site.okws', 'rows', 'site.okws', 'moved', status=1, cwd='others_tables'), 'is not main.')
+    same([name for name in os.listdir('others_tables') if name.startswith('moved')], [])
+    with Up('others_tables', '--store', 'named') as up:
+        same(ask(up.port), (200, '1 ann\n'))
+    write('others_tables/other.okws', SITE.replace('note TEXT', 'more TEXT').replace('who, note)', 'who, more)'))
+    told = run('okws-migrate', 'other.okws', 'named', 'site.okws', 'moved', status=1, cwd='others_tables')
+    has(told, 'table 0 is not main.msgs of other.okws', '/* note */')
+    make_by_hand('others_tables/rows.0', 'CREATE TABLE t1 (id INTEGER PRIMARY KEY AUTOINCREMENT, c0 INTEGER NOT NULL) STRICT')
+    has(run('okws-migrate', 'site.okws', 'rows', 'site.okws', 'moved', cwd='others_tables'), 'the rows of t1, which site.okws does not declare, stay behind')
 
 
 def rows_that_do_not_fit_leave_no_store():
@@ -135,5 +187,5 @@ def rows_that_do_not_fit_leave_no_store():
 CHECKS = [
     a_copy_under_writes_has_what_was_answered, a_copy_of_a_store_that_nobody_has_is_made_too, a_copy_comes_back_with_its_owner,
     a_server_goes_on_though_another_holder_has_ended, a_store_whose_server_is_not_seen_is_not_copied, a_damaged_store_is_no_copy,
-    rows_are_taken_over_to_other_columns, rows_that_do_not_fit_leave_no_store,
+    rows_are_taken_over_to_other_columns, a_store_of_an_earlier_server_is_taken_over, a_store_of_other_tables_is_not_taken_over, rows_that_do_not_fit_leave_no_store,
 ]

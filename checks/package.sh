@@ -2,9 +2,14 @@
 # Tries a Debian package as somebody does who has nothing else: in a fresh system of Debian's own packages a new user makes a site, starts it, and has its page.
 #   checks/package.sh PACKAGE.deb [SYSTEM]     SYSTEM is a folder that mmdebstrap has filled, which is left as it was but for the package and the user
 # It needs root and, without SYSTEM, mmdebstrap and a mirror of Debian, so it isn't in the gate. It prints how long each step took; the page has to be there
-# within a minute of the package's coming. Loopback only, on a port that the system gives.
+# within a minute of the package's coming, and Lintian, where it is there, must find no error in the package. Loopback only, on a port that the system gives.
 set -euo pipefail
 package=$(realpath "$1")
+if command -v lintian >/dev/null; then
+    lintian --fail-on error "$package"
+else
+    echo "there is no lintian, so the package isn't looked at"
+fi
 if [ $# = 2 ]; then
     root=$(realpath "$2")
 else

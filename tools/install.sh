@@ -49,7 +49,6 @@ fi
 for folder in tools kits bridges docs examples README.md; do put_folder "$folder"; done
 rm -rf "$share"/tools/{install,dist}.sh "$share/tools/okws-run" "$share"/docs/*.py
 name_interpreters
-find "$share/kits" -name '*.js' -exec chmod 644 {} +
 for tool in "$share"/tools/okws-* "$share"/bridges/okws-*; do
     [ ! -f "$tool" ] || ln -sf "../share/okws/${tool#"$share"/}" "$root/bin/$(basename "$tool")"
 done

@@ -132,7 +132,7 @@ def packages_name_the_commits_and_the_gate():
 def a_package_has_no_error_by_lintian():
     if not shutil.which('lintian'):
         raise Skipped('there is no lintian')
-    found = subprocess.run(['lintian', packages()['deb']], capture_output=True, text=True, timeout=120).stdout
+    found = subprocess.run(['lintian', packages()['deb']], capture_output=True, text=True, timeout=600).stdout
     same([line for line in found.splitlines() if line.startswith('E:')], [])
 
 

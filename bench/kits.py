@@ -2,8 +2,8 @@
 """Times services of several kinds behind okws, in turn, in one run: svc_guest plain, behind okws-run and behind its relay; and services in Python, C and Node, a
 WSGI application and a CGI program, confined. Each answers a GET with the two rows of the guestbook, the CGI program without asking for them.
     bench/kits.py OKWS SVC_GUEST [ROUNDS [MS]]      9 rounds of 300 ms each at 1 and at 8 clients
-It tells medians of requests a second, and each one's share of svc_guest's, plain; and how much of the time the host took processors away: where that is more
-than a few per cent the other figures say little. Needs cc and Debian's python3; what needs node is left out where that isn't there. Loopback only."""
+It tells medians of requests a second, and each one's share of svc_guest's, plain, as a table; and how much of the time the host took processors away: where that
+is more than a few per cent the other figures say little. Needs cc and Debian's python3; what needs node is left out where that isn't there. Loopback only."""
 import os, shutil, signal, socket, statistics, subprocess, sys, tempfile, time
 
 TOP = os.path.realpath(os.path.join(os.path.dirname(__file__), '..'))
@@ -26,8 +26,8 @@ PYTHON = f'./okws-run --read {TOP}/kits/python'
 BRIDGED = f'{PYTHON} --read {TOP}/bridges --read .'
 SERVICES = {
     'svc_guest': './svc_guest',
-    'svc_guest, okws-run': './okws-run ./svc_guest',
-    'svc_guest, --seconds': './okws-run --seconds 20 ./svc_guest',
+    'svc_guest behind okws-run': './okws-run ./svc_guest',
+    'svc_guest behind okws-run --seconds': './okws-run --seconds 20 ./svc_guest',
     'C': './okws-run ./hello',
     'Python': f'{PYTHON} {TOP}/kits/python/hello.py',
     'Node': f'./okws-run --read {TOP}/kits/node {TOP}/kits/node/hello.js',
@@ -78,18 +78,26 @@ def processors():
         times = [int(word) for word in told.readline().split()[1:9]]
     return sum(times), times[7]
 
-def measure(servers, rounds, ms):
-    for clients in (1, 8):
-        begun = processors()
-        rates = {name: [] for name in servers}
-        for _ in range(rounds):
-            for name, (_, port) in servers.items():
-                rates[name].append(rate(port, clients, ms))
-        ended = processors()
-        for name, found in rates.items():
-            share = statistics.median(one / other for one, other in zip(found, rates['svc_guest']))
-            print(f'{clients} clients: {name:22} {statistics.median(found):7.0f} a second, share {share:.2f}', flush=True)
-        print(f'{clients} clients: taken away {100 * (ended[1] - begun[1]) / max(ended[0] - begun[0], 1):.0f} %')
+def measure(servers, clients, rounds, ms):
+    """Of each server the median of its requests a second, and of its shares of svc_guest's; and how much of the time was taken away, in per cent."""
+    begun = processors()
+    rates = {name: [] for name in servers}
+    for _ in range(rounds):
+        for name, (_, port) in servers.items():
+            rates[name].append(rate(port, clients, ms))
+    ended = processors()
+    found = {name: (statistics.median(own), statistics.median(one / other for one, other in zip(own, rates['svc_guest']))) for name, own in rates.items()}
+    return found, 100 * (ended[1] - begun[1]) / max(ended[0] - begun[0], 1)
+
+def tell(measured):
+    """The figures as a table of the documents, and below it how much was taken away."""
+    print('| | ' + ' | '.join(f'{clients} client{"s" * (clients > 1)}: a second | times svc_guest' for clients in measured) + ' |')
+    print('|---' * (1 + 2 * len(measured)) + '|')
+    for name in SERVICES:
+        columns = [f'{found[name][0]:,.0f} | {found[name][1]:.2f}' for found, _ in measured.values() if name in found]
+        if columns:
+            print(f'| {name} | {" | ".join(columns)} |')
+    print('taken away: ' + ', '.join(f'{taken:.0f} %' for _, taken in measured.values()))
 
 def main(okws, guest, rounds='9', ms='300'):
     okws, guest = os.path.realpath(okws), os.path.realpath(guest)
@@ -102,7 +110,7 @@ def main(okws, guest, rounds='9', ms='300'):
             time.sleep(3)
             for _, port in servers.values():
                 rate(port, 1, 100)
-            measure(servers, int(rounds), ms)
+            tell({clients: measure(servers, clients, int(rounds), ms) for clients in (1, 8)})
         finally:
             for server, _ in servers.values():
                 for pid in reversed(tree(server.pid)) if server.poll() is None else []:

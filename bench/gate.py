@@ -61,12 +61,18 @@ def processes():
     return parents, times
 
 
+def words_of(pid):
+    """The words of a process that checks a crate, or none."""
+    words = read(f"/proc/{pid}/cmdline").decode(errors="replace").split("\0")
+    return words if len(words) > 2 and words[0].endswith("/rattle") and "--crate-name" in words else []
+
+
 def look(top, seen):
-    """Notes the processor time of each check below the process `top`."""
+    """Notes the processor time of each check below the process `top`. What a check starts itself, where it has several processors, is a part of its time."""
     parents, times = processes()
     for pid, seconds in times.items():
-        words = read(f"/proc/{pid}/cmdline").decode(errors="replace").split("\0")
-        if len(words) > 2 and words[0].endswith("/rattle") and "--crate-name" in words and descends(pid, top, parents):
+        words = words_of(pid)
+        if words and words_of(parents[pid]) != words and descends(pid, top, parents):
             crate = words[words.index("--crate-name") + 1]
             try:
                 is_edit = "/rt-edit" in os.readlink(f"/proc/{pid}/cwd")

@@ -27,7 +27,7 @@ CONSOLE_RULES = {
     3: f'more than {MOST_BYTES} bytes are to be published',
     4: 'the input ended inside the bytes that are to be published',
     5: 'the template has 1000000 editions: begin a new run',
-    6: 'a store of rows could not be opened: another server has it, its folder is missing, or its tables are other ones, for which there is okws-migrate',
+    6: 'the service had 1000000 incarnations: begin a new run',
 }
 
 

@@ -147,6 +147,7 @@ def each_rule_of_the_page_has_words():
         has(okws_rules.rule('query', number), f'rule {number} ')
     has(run('okws-explain', 'denied', '14'), 'rule 14 QueryNotGranted: ')
     has(run('okws-explain', 'console', '2'), 'no such template')
+    has(run('okws-explain', 'console', '6'), '1000000 incarnations')
     has(run('okws-explain', 'status', '5'), 'port')
     for kind, number in [('config', '17'), ('query', '12'), ('denied', '9'), ('console', '7'), ('status', '1')]:
         run('okws-explain', kind, number, status=2)

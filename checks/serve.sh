@@ -1,7 +1,8 @@
 #!/usr/bin/env bash
 # Serves sites over real sockets with real programs as services, and compares what clients, the console and the log are given.
 #   checks/serve.sh PROGRAM [FOLDER [CHECK]]     FOLDER has the services, or the crates whose programs they are; without it this repository's crates
-# Hostile services and clients are those of the tables in crates/storm_tests. With CHECK that one alone. Loopback only, on ports that the system gives. Every process that is started is ended, by its id.
+# Hostile services and clients are those of the tables in crates/storm_tests. With CHECK that one alone. Loopback only, on ports that the system gives. Every
+# process that is started is ended, by its id.
 # The last line is 'N passed, M failed'.
 set -uo pipefail
 program=$(realpath "$1")
@@ -626,7 +627,8 @@ def a_server_without_end_outlives_its_console():
 
 CHECKS = [
     the_guestbook_shows_and_takes_entries, a_log_is_appended_to, a_log_that_cannot_be_opened_is_a_fault_at_the_end, requests_are_refused_by_the_standard,
-    hostile_services_harm_their_own_dialog_alone, hostile_clients_are_told_what_is_due, a_site_of_no_service_is_served, the_console_is_answered, a_published_page_reaches_a_running_service, a_refused_publication_is_dropped,
+    hostile_services_harm_their_own_dialog_alone, hostile_clients_are_told_what_is_due, a_site_of_no_service_is_served, the_console_is_answered,
+    a_published_page_reaches_a_running_service, a_refused_publication_is_dropped,
     a_bad_frame_is_a_bad_gateway_and_three_of_them_give_the_service_up, a_killed_child_is_launched_again, a_service_that_cannot_start_is_given_up,
     a_held_dialog_keeps_no_other_client_waiting, a_taken_port_is_a_fault_and_starts_no_child, words_and_files_are_judged_first,
     rows_in_a_file_are_there_in_the_next_run, a_file_of_rows_is_one_servers, rows_of_other_columns_are_refused_and_kept,

@@ -14,7 +14,7 @@ row main msgs 1 'ann' 'hi'
 row main msgs 2 'bob' 'yo'
 query main 1 SELECT id, who FROM msgs ORDER BY id
 service guest {words}
-uri /guest guest
+uri /s0 guest
 grant guest main 1
 """
 WSGI = """def app(environ, start_response):
@@ -31,14 +31,14 @@ SERVICES = {
     'C': './okws-run ./hello',
     'Python': f'{PYTHON} {TOP}/kits/python/hello.py',
     'Node': f'./okws-run --read {TOP}/kits/node {TOP}/kits/node/hello.js',
-    'WSGI': f'{BRIDGED} {TOP}/bridges/okws-wsgi /guest listed.py:app',
-    'CGI': f'{BRIDGED} --run listed.cgi {TOP}/bridges/okws-cgi /guest listed.cgi',
+    'WSGI': f'{BRIDGED} {TOP}/bridges/okws-wsgi /s0 listed.py:app',
+    'CGI': f'{BRIDGED} --run listed.cgi {TOP}/bridges/okws-cgi /s0 listed.cgi',
 }
 
 def made(guest):
     """Makes what is needed in the present folder."""
     compiler = ['cc', '-O2', '-o']
-    subprocess.run([*compiler, 'serve', f'{TOP}/bench/serve.c', '-lpthread'], check=True)
+    subprocess.run([*compiler, 'clients', f'{TOP}/bench/clients.c', '-lpthread'], check=True)
     subprocess.run([*compiler, 'hello', f'{TOP}/kits/c/hello.c'], check=True)
     subprocess.run(f'cc -O2 -o okws-run {TOP}/tools/okws-run/*.c', shell=True, check=True)
     shutil.copy(guest, 'svc_guest')
@@ -68,7 +68,7 @@ def tree(pid):
     return [pid] + [below for child in children for below in tree(int(child))]
 
 def rate(port, clients, ms):
-    told = subprocess.run(['./serve', 'load', str(port), str(clients), str(ms)], capture_output=True, text=True, check=True).stdout.split()
+    told = subprocess.run(['./clients', str(port), 'get', str(clients), str(ms), '1'], capture_output=True, text=True, check=True).stdout.split()
     if told[2] != '0':
         sys.exit(f'{told[2]} answers at {port} were other ones')
     return float(told[0])

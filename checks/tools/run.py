@@ -1,9 +1,9 @@
 """Runs the checks of the tools: run.py PROGRAM [CHECK]. The last line is 'N passed, N failed, N skipped'."""
 import os, shutil, subprocess, sys, tempfile, time
 import common
-import front, package, rows, seeing, up
+import front, package, rows, seeing, speed, up
 
-CHECKS = [*up.CHECKS, *seeing.CHECKS, *front.CHECKS, *rows.CHECKS, *package.CHECKS]
+CHECKS = [*up.CHECKS, *seeing.CHECKS, *front.CHECKS, *rows.CHECKS, *package.CHECKS, *speed.CHECKS]
 
 
 def main():

@@ -60,7 +60,7 @@ each check examples/site.okws
 # A server whose clients ask as the standard has it and as it hasn't, one after the other, until a run comes to no such allocation.
 serves() {
     python3 - "$okws" "$folder" <<'P'
-import os, socket, subprocess, sys, time
+import os, select, socket, subprocess, sys, time
 
 OKWS, FOLDER = sys.argv[1:3]
 REPLY = ''.join(f'\\{byte:03o}' for byte in bytes.fromhex('000000154500c80a746578742f706c61696e00000000026f6b'))
@@ -85,6 +85,10 @@ def ask(process, port, request):
             with socket.create_connection(('127.0.0.1', port), 30) as s:
                 s.sendall(request)
                 s.shutdown(socket.SHUT_WR)
+                if not select.select([s], [], [], 3)[0] and process.stdin:
+                    # (a door without a thread of its own is served once the console has ended)
+                    process.stdin.close()
+                    process.stdin = None
                 answer = b''
                 while piece := s.recv(65536):
                     answer += piece

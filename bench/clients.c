@@ -1,8 +1,8 @@
 /* Clients for bench/serve.py and bench/kits.py: each connection has one request, and is read to its end.
  *   clients PORT KIND CLIENTS MS SERVICES      KIND is get, post or big
- * So many clients at once ask for so many milliseconds, in turn for each service. Printed are how many requests a second were answered by 200 and a content that ends
- * in the twelve bytes of kinds.h; how many were answered so in all, and how many otherwise; and of the former the microseconds from before the connection was
- * made until its end in the middle, of 99 in a hundred, and of 999 in a thousand. */
+ * So many clients at once ask for so many milliseconds, in turn for each service. Printed are how many requests a second were answered by 200 and a content
+ * that ends in the twelve bytes of kinds.h; how many were answered so in all, and how many otherwise; and the microseconds from before a connection of the
+ * former was made until its end: in the middle, and what 99 in a hundred, and 999 in a thousand, had at most. */
 #define _GNU_SOURCE
 #include "kinds.h"
 #include <errno.h>

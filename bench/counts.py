@@ -2,7 +2,7 @@
 """Counts what a request takes of okws and of the bare loop of bench/serve.py, side by side, where times would swing: instructions of the programs, switches,
 and system calls, of the servers and of their children.
 
-    bench/counts.py OKWS FOLDER [KIND [CLIENTS [MS]]]    svc_guest stands in FOLDER; KIND is get, post or big; one client; 1,500 ms for each count
+    bench/counts.py OKWS FOLDER [KIND [CLIENTS [MS]]]    svc_guest stands in FOLDER; KIND: get, post or big; 1 client; 1500 ms
 
 Instructions are counted by valgrind, as the difference of two runs, and those of the system by `perf stat` where the machine counts them; system calls by strace.
 Who looks whether something has come before it sleeps looks more often where it is slowed down: `poll`, and what it costs, is more there than in a
@@ -102,21 +102,33 @@ def totals():
     return found
 
 
+def has_ended(pid):
+    try:
+        with open(f'/proc/{pid}/stat') as told:
+            return told.read().rpartition(')')[2].split()[0] == 'Z'
+    except FileNotFoundError:
+        return True
+
+
+def end(pids):
+    """Ends these, the last first, such that each writes what was counted of it before the next is ended."""
+    for pid in reversed(pids):
+        until = time.monotonic() + 30
+        os.kill(pid, signal.SIGTERM)
+        while not has_ended(pid) and time.monotonic() < until:
+            time.sleep(0.02)
+
+
 def counted(make, clients, ms, least):
     """How many requests a server answered under valgrind, at least so many, and the instructions of it and of its children."""
     server = make()
-    pids = []
     try:
         while server.answered < least:
             server.measured(clients, ms)
         pids = tree(server.process.pid)
+        end(pids)
     finally:
-        for pid in pids or [server.process.pid]:
-            os.kill(pid, signal.SIGTERM)
-        server.process.wait()
-    until = time.monotonic() + 20
-    while any(os.path.exists(f'/proc/{pid}') for pid in pids) and time.monotonic() < until:
-        time.sleep(0.1)
+        server.end()
     found = totals()
     return server.answered, [found.pop(pids[0]), sum(found.values())]
 

@@ -1,8 +1,8 @@
 /* The bare loop that bench/serve.py and bench/counts.py put beside a server.
  *   loop PORT KIND DOORS CHILDREN      KIND is get, post or big
- * DOORS threads accept. Each goes to the child that the request's path names and back, over two pipes and under one lock a child, by as many round trips and with
- * messages as long as those that okws has with a service: for get a Request, a Call, its Rows and a Reply; for post a Request of 262,144 bytes and a Reply; for big a
- * Request and a Reply of a million bytes. Nothing is parsed, decided or kept. */
+ * DOORS threads accept. Each goes to the child that the request's path names and back, over two pipes and under one lock a child, by as many round trips and
+ * with messages as long as those that okws has with a service: for get a Request, a Call, its Rows and a Reply; for post a Request of 262,144 bytes and a
+ * Reply; for big a Request and a Reply of a million bytes. Nothing is parsed, decided or kept. */
 #define _GNU_SOURCE
 #include "kinds.h"
 #include <errno.h>
@@ -33,7 +33,7 @@ static int put(int to, const char *bytes, size_t left) {
 
 static void serve_child(int to, int from) {
     char *bytes = calloc(1, ROOM);
-    prctl(PR_SET_PDEATHSIG, SIGKILL);
+    prctl(PR_SET_PDEATHSIG, SIGTERM);
     for (;;)
         for (const struct trip *t = TRIPS[kind]; t < TRIPS[kind] + 2 && t->down > 0; t++)
             if (!get(from, bytes, t->down) || !put(to, bytes, t->up)) _exit(0);

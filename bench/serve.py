@@ -3,10 +3,11 @@
 
     bench/serve.py OKWS FOLDER [ROUNDS [MS [CASE]]]    svc_guest stands in FOLDER; 11 rounds of 300 ms each; all cases, or those whose name begins so
 
-A table is printed, a line for each case and number of clients at once: of the loop and of okws the requests a second, the microseconds of processor time that a
-request takes server and children, and the microseconds that a client waits in the middle, of 99 requests in a hundred, and of 999 in a thousand. Each figure is the
-middle one of the rounds; `share` is the middle of the rounds' shares of okws' requests a second in the loop's. Then come how much of the time the host
-took the processors away, and how much other programs had: where either is more than a few per cent the other figures say little. The yardstick is the loop itself.
+A table is printed, a line for each case and number of clients at once: of the loop and of okws the requests a second, the microseconds of processor time
+that a request takes server and children, and the microseconds that a client waits: in the middle, 99 clients in a hundred at most, 999 in a thousand. Each
+figure is the middle one of the rounds; `share` is the middle of the rounds' shares of okws' requests a second in the loop's. Then come how much of the time
+the host took the processors away, and how much other programs had: where either is more than a few per cent the other figures say little. The yardstick is
+the loop itself.
 
 A case is a kind of request, so many services at so many doors, and words for okws. Where a case has several of these, all are measured in one round. With many
 services the clients ask them in turn; they have one proxy. Loopback only. Needs cc.
@@ -62,6 +63,7 @@ class Server:
         until = time.monotonic() + 120
         while not self.listens():
             if time.monotonic() > until or self.process.poll() is not None:
+                self.end()
                 sys.exit(f'{words[0]} does not listen')
             time.sleep(0.01)
 
@@ -169,18 +171,18 @@ def measure(case, servers, clients, rounds, ms):
 
 
 def run_case(case, okws, rounds, ms):
-    servers = []
-    try:
-        for setting in case.settings:
-            servers.append((loop_of(setting), okws_of(setting, okws)))
-        for server in [server for pair in servers for server in pair]:
-            server.measured(1, 50)
+    """Measures a case at each number of clients; tells the most memory that one of its servers of okws had, and how many requests that answered."""
+    with contextlib.ExitStack() as stack:
+        def kept(server):
+            stack.callback(server.end)
+            return server
+        servers = [(kept(loop_of(setting)), kept(okws_of(setting, okws))) for setting in case.settings]
+        for pair in servers:
+            for server in pair:
+                server.measured(1, 50)
         for clients in case.clients:
             measure(case, servers, clients, rounds, ms)
         return max((own.peak(), own.answered) for _, own in servers)
-    finally:
-        for server in [server for pair in servers for server in pair]:
-            server.end()
 
 
 def yardstick(rounds, ms):

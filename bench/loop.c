@@ -91,7 +91,7 @@ int main(int words, char **word) {
     for (int i = 0; i < count && i < 10; i++) start(&children[i]);
     listener = socket(AF_INET, SOCK_STREAM | SOCK_CLOEXEC, 0);
     setsockopt(listener, SOL_SOCKET, SO_REUSEADDR, &yes, sizeof yes);
-    if (bind(listener, (struct sockaddr *)&place, sizeof place) || listen(listener, 4096)) die("listen");
+    if (bind(listener, (struct sockaddr *)&place, sizeof place) || listen(listener, 1024)) die("listen");
     for (int i = 1; i < doors; i++) pthread_create(&other, NULL, door, NULL);
     door(NULL);
 }

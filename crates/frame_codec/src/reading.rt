@@ -5,10 +5,10 @@ ghost use Rattle.std.specs.Int.{w32};
 ghost use Rattle.frame_codec.specs.Reading.{Gives, number_at, payload_at};
 ghost use Rattle.frame_codec.specs.Spelling.{four, is_lawful_length};
 ghost use Rattle.frame_codec.specs.Stream.{Begins, IsShort, IsBad};
-ghost use Rattle.frame_codec.specs.Answer.{TellsBy, Tells, ServerTells, IsAnswer, sized, frame_at};
+ghost use Rattle.frame_codec.specs.Answer.{TellsBy, IsAnswer, sized, frame_at};
 
 use crate::field::{Misread, ReadError, u32_at};
-use crate::frame::{ServerFrame, ServiceFrame};
+use crate::frame::ServiceFrame;
 use crate::framing::Frame;
 use crate::part::lawful_length;
 use okws_base::limit::LONGEST_FRAME;
@@ -91,20 +91,6 @@ pub fn read_frame<F: FrameRead>(alloc: Global, bytes: &[u8]) -> Read<F>
     ensures { TellsBy F.parts F.fits bytes.now result }
 {
     F::read(alloc, bytes)
-}
-
-/// Reads one frame of what a service says from the front, as `read_frame`.
-pub fn read_service_frame(alloc: Global, bytes: &[u8]) -> Read<ServiceFrame>
-    ensures { Tells bytes.now result }
-{
-    read_frame(alloc, bytes)
-}
-
-/// Reads one frame of what a service hears from the front, as `read_frame`.
-pub fn read_server_frame(alloc: Global, bytes: &[u8]) -> Read<ServerFrame>
-    ensures { ServerTells bytes.now result }
-{
-    read_frame(alloc, bytes)
 }
 
 /// The number that four bytes spell.

@@ -1,9 +1,8 @@
 //! What a service hears: which frames have a spelling, how long it is, and the spelling itself.
 
-ghost use Rattle.std.specs.Prelude.{◌≡◌, ◌↔◌, ◌<◌, ◌==◌, ℕ, List, length, IfOk, IsSome, IfSome, IsTrue};
+ghost use Rattle.std.specs.Prelude.{◌≡◌, ◌↔◌, ◌<◌, ◌==◌, List, length, IfOk, IsSome, IfSome, IsTrue};
 ghost use Rattle.std.specs.List.{list_all};
 ghost use Rattle.okws_base.specs.declared.value.Value.{Value};
-ghost use Rattle.frame_codec.specs.Size.{capped};
 ghost use Rattle.frame_codec.specs.Spelling.{size, server_parts, server_spelling, FitsServer, HasSpelling};
 ghost use Rattle.frame_codec.specs.Taking.{Takes};
 ghost use Rattle.frame_codec.specs.Bounds.{IsServerBounded};
@@ -11,7 +10,7 @@ ghost use Rattle.frame_codec.specs.Bounds.{IsServerBounded};
 use crate::frame::{Issued, ServerFrame};
 use crate::framing::{Frame, length_of, write};
 use crate::kind;
-use crate::part::{count_all, spell_all};
+use crate::part::spell_all;
 use crate::taker::{Taker, take_count, take_name, take_string};
 use okws_base::value::Row;
 use std::alloc::{AllocError, Global};
@@ -30,14 +29,6 @@ fn are_bounded(columns: u8, rows: &[Row]) -> bool
     ensures no { FitsServer (ServerFrame.Rows columns rows.now) → IsTrue result }
 {
     rows.len() <= u32::MAX as usize && are_wide(rows, columns)
-}
-
-/// Bytes of the kind and fields of a Rows frame of these rows, at most usize::MAX, whatever its
-/// number of columns.
-pub fn rows_length(rows: &[Row]) -> usize
-    ensures { (columns : ℕ) → result ≡ capped (size (server_parts (ServerFrame.Rows columns rows.now))) }
-{
-    count_all(6, rows)
 }
 
 #[tactic(auto, unfolding(crate::specs::Spelling::two, crate::specs::Spelling::four))]

@@ -2,7 +2,7 @@
 
 use frame_codec::frame::ServerFrame;
 use frame_codec::reading;
-pub use frame_codec::reading::read_server_frame;
+pub use frame_codec::reading::read_frame;
 
 /// What stands at the front of bytes that came from the server.
 pub type Read = reading::Read<ServerFrame>;

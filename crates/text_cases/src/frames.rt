@@ -3,7 +3,7 @@
 use crate::notation::written_out;
 use crate::printing::{put_digits, put_text, put_values};
 use frame_codec::frame::{Issued, ServerFrame, ServiceFrame};
-use frame_codec::reading::{Read, read_server_frame, read_service_frame};
+use frame_codec::reading::{Read, read_frame};
 use frame_codec::server::write_server_frame;
 use frame_codec::service::write_service_frame;
 use okws_base::value::Row;
@@ -201,17 +201,17 @@ pub fn digits_of(alloc: Global, text: &str) -> Result<Vec<u8>, AllocError> {
 /// What a service's frame at the front of bytes says.
 pub fn service(out: &mut String, alloc: Global, digits: &str) -> Result<(), AllocError> {
     let bytes = digits_of(alloc, digits)?;
-    put_service_read(out, alloc, &read_service_frame(alloc, &bytes))
+    put_service_read(out, alloc, &read_frame(alloc, &bytes))
 }
 
 /// What a server's frame at the front of bytes says.
 pub fn server(out: &mut String, alloc: Global, digits: &str) -> Result<(), AllocError> {
     let bytes = digits_of(alloc, digits)?;
-    put_server_read(out, alloc, &read_server_frame(alloc, &bytes))
+    put_server_read(out, alloc, &read_frame(alloc, &bytes))
 }
 
 fn is_short(alloc: Global, bytes: &[u8]) -> bool {
-    matches!(read_server_frame(alloc, bytes), Read::Short)
+    matches!(read_frame::<ServerFrame>(alloc, bytes), Read::Short)
 }
 
 /// How many of the parts that bytes begin with, each shorter than they are, are short.

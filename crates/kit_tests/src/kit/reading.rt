@@ -3,13 +3,13 @@
 use super::{OPENED, decoded, fed};
 use crate::holding::holds;
 use frame_codec::frame::ServerFrame;
-use svc_kit::reading::{Read, read_server_frame};
+use svc_kit::reading::{Read, read_frame};
 use svc_kit::receiving::{NextFrame, next};
 
 #[test]
 fn what_the_server_says_is_read(rt: HostRuntime) {
     let bytes = decoded(&rt, rt.alloc(), OPENED);
-    let read = read_server_frame(rt.alloc(), &bytes);
+    let read: Read = read_frame(rt.alloc(), &bytes);
     let is = matches!(read, Read::Frame(ServerFrame::Opened(0), 9));
     holds(&rt, is, "read");
     let mut link = fed(&rt, rt.alloc(), 1, &[OPENED]);

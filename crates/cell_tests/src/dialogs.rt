@@ -156,7 +156,10 @@ fn spoken(
         cell.feed_end();
     }
     let letter = last_answer(&mut cell, &mut columns);
-    let link = if cell.busy() { None } else { cell.retire() };
+    let link = match cell.open_request() {
+        Some(_) => None,
+        None => cell.retire(),
+    };
     let _pasts = cell.close();
     match link {
         Some(link) => {
@@ -245,10 +248,9 @@ fn status_of(dialog: &Finished) -> Option<u16> {
 
 /// What is at hand of a cell.
 fn hand_of<L: Link>(cell: &Cell<L>) -> Hand {
-    let count = if cell.busy() {
-        cell.last_items().len()
-    } else {
-        0
+    let count = match cell.open_request() {
+        Some(_) => cell.last_items().len(),
+        None => 0,
     };
     let status = match cell.last_dialog() {
         Some(dialog) => status_of(dialog),

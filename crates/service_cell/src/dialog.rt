@@ -74,14 +74,6 @@ fn finish_replied(events: &mut Events, worker: u16, items: Course)
 }
 
 impl<L: Link> Cell<L> {
-    /// Whether a dialog is open.
-    pub fn busy(&self) -> bool
-        ensures open { IsTrue result ↔ IsSome self.now.open_dialog }
-        ensures there { IsTrue result → incarnation self.now.past ≢ 0 }
-    {
-        self.speaking.is_some()
-    }
-
     /// What `begin` was told is the number of the open dialog's request.
     pub fn open_request(&self) -> Option<u32>
         ensures request { result ≡ option_map (λ o. o.request) self.now.open_dialog }

@@ -31,13 +31,6 @@ impl<N: Numbered, C: CellNames, L: Link> Model for CellNote<N, C, L> {
 }
 
 impl<N: Numbered, C: CellNames, L: Link> CellNote<N, C, L> {
-    /// The service at whose cell it was made.
-    pub fn service(&self) -> u16
-        ensures { result ≡ self.now.service }
-    {
-        self.service
-    }
-
     /// Another note of the same. It takes no turn and no memory.
     pub fn again(&mut self, locks: &CellLocks<N, C, L>) -> CellNote<N, C, L>
         ensures same { self.new ≡ self.old }

@@ -104,11 +104,8 @@ get_verdict C J s k name =
 abbrev pub next_edition : List (Entry PubdEvent) → ℕ → Published
 next_edition J t = if nat_lt (edition J t) MOST_EDITIONS then Edition (edition J t + 1) else EditionsSpent
 
--- What a publication of a template is answered where its name is that of number t, or of none.
+-- A publication, whose template has number t, or none where no template has the name, is refused where there is none, where it is over 262,144 bytes, or where the template has had
+-- 1,000,000 editions; else its edition is one more than before.
 abbrev pub publish_at : List (Entry PubdEvent) → Option ℕ → List ℕ → Published
 publish_at J None content = NoSuchTemplate
 publish_at J (Some t) content = if nat_le (length content) LONGEST_TEMPLATE then next_edition J t else TooLong
-
--- A publication is refused where no template has the name, where it is over 262,144 bytes, or where the template has had 1,000,000 editions; else its edition is one more than before.
-abbrev pub publish_verdict : Config → List (Entry PubdEvent) → List ℕ → List ℕ → Published
-publish_verdict C J name content = publish_at J (template_named (in_force C J) name) content

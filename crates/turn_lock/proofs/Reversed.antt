@@ -141,16 +141,6 @@ fresh-push z label b (x ∷ cs) c a n = (subst (λ k. IsFresh z label k x) (leng
   lengths : (l : List (SeatIs _)) → length l + suc b ≡ length (l ++ c ∷ []) + b
   lengths l = let h = len l c in omega arith
 
-pub fresh_pops : {E : Type 0} (z : TableId) (label b : ℕ) (cs : List (SeatIs E)) (c : SeatIs E) → AreFresh z label b (cs ++ c ∷ []) → AreFresh z label (suc b) cs × IsFresh z label b c
-fresh_pops z label b [] c a = (tt, subst (λ k. IsFresh z label k c) (omega arith) a.0)
-fresh_pops z label b (x ∷ cs) c a = let h = fresh_pops z label b cs c a.1 in ((subst (λ k. IsFresh z label k x) (lengths cs) a.0, h.0), h.1) where
-  len : {A : Type 0} (l : List A) (y : A) → length (l ++ y ∷ []) ≡ length l + 1
-  len [] y = refl
-  len (x ∷ l) y = let h = len l y in omega arith
-
-  lengths : (l : List (SeatIs _)) → length (l ++ c ∷ []) + b ≡ length l + suc b
-  lengths l = let h = len l c in omega arith
-
 pub push_length : {A : Type 0} (l : List A) (x : A) → length (l ++ x ∷ []) ≡ suc (length l)
 push_length [] x = refl
 push_length (y ∷ l) x = ap suc (push_length l x)

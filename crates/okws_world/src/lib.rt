@@ -5,4 +5,3 @@
 
 pub mod equipment;
 pub mod equipped;
-pub mod memory;

@@ -16,6 +16,8 @@ mod guestbook;
 #[cfg(test)]
 mod holding;
 #[cfg(test)]
+mod memory;
+#[cfg(test)]
 mod outside;
 #[cfg(test)]
 mod requests;

@@ -1,6 +1,7 @@
 //! A server's outside in memory, what is planned of it, and what a run left.
 
 use crate::holding::MEMORY;
+use crate::memory::MemoryObjects;
 use crate::shaky::Shaking;
 use okws_base::items::Items;
 use okws_outer::gate::Gate;
@@ -12,7 +13,6 @@ use okws_server::okws;
 use okws_server::status::Status;
 use okws_world::equipment::Objects;
 use okws_world::equipped::Fitted;
-use okws_world::memory::MemoryObjects;
 use outer_memory::children::{ChildPlan, MemoryChildren};
 use outer_memory::door::{Client, MemoryNetwork};
 use outer_memory::sinks::MemorySinks;

@@ -2,6 +2,7 @@
 //! here: the other worked scripts, which are run by the program, and want of memory.
 
 use crate::holding::{MEMORY, holds, same};
+use crate::memory::absent;
 use crate::outside::owned;
 use okws_outer::memory::files::{Entry, MemoryFiles};
 use okws_outer::memory::sink::MemorySink;
@@ -9,7 +10,6 @@ use okws_outer::world::Outside;
 use okws_server::okws;
 use okws_server::status::Status;
 use okws_world::equipped::Fitted;
-use okws_world::memory::absent;
 use std::alloc::Global;
 use std::process::Abort;
 use std::sync::Wait;

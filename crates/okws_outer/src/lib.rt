@@ -18,7 +18,6 @@ pub mod gate;
 pub mod keeper;
 pub mod memory;
 pub mod network;
-pub mod optional;
 pub mod pinned;
 pub mod printing;
 pub mod reading;

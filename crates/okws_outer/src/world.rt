@@ -1,6 +1,6 @@
 //! The outside of one run, whose objects are taken for the run and given back.
 
-ghost use Rattle.std.specs.Prelude.{◌≡◌, Some, None, IsSome, Option};
+ghost use Rattle.std.specs.Prelude.{◌≡◌, Some, IsSome, Option};
 ghost use Rattle.okws_outer.specs.declared.world.Outside.{Outside};
 
 use crate::files::Files;
@@ -37,32 +37,4 @@ pub trait World {
     /// Takes all objects back.
     fn close(&mut self, all: Outside<Self::Files, Self::Out>)
         ensures { objects self.new ≡ Some all };
-}
-
-/// A world that holds its objects.
-#[derive(Drop)]
-pub struct Held<F, O> {
-    /// The objects, None while they are out.
-    pub objects: Option<Outside<F, O>>,
-}
-
-impl<F: Files + Drop, O: Sink + Send + Drop> World for Held<F, O> {
-    type Files = F;
-
-    type Out = O;
-
-    ghost objects = { λ w. w.objects };
-
-    fn open(&mut self) -> Outside<F, O>
-        requires { IsSome self.old.objects }
-        ensures { self.old.objects ≡ Some result }
-    {
-        self.objects.take().unwrap()
-    }
-
-    fn close(&mut self, all: Outside<F, O>)
-        ensures { self.new.objects ≡ Some all }
-    {
-        self.objects = Some(all);
-    }
 }

@@ -11,7 +11,6 @@ use okws_outer::memory::source::MemorySource;
 use okws_outer::printing::print;
 use okws_outer::reading::{ReadError, read_file, read_whole};
 use okws_outer::stream::{Link, Pull, Put, Sink, Source};
-use okws_outer::world::{Held, Outside, World};
 
 const FILES: [Entry<'static>; 2] = [
     Entry {
@@ -138,25 +137,11 @@ fn files_are_read_by_their_paths(rt: HostRuntime) {
 
 #[test]
 fn printing_goes_on_after_a_fault(rt: HostRuntime) {
-    let files = MemoryFiles::new(&FILES, 3, &[]);
-    let out = MemorySink::new(rt.alloc(), 9, &[1]).expect(&rt, MEMORY);
-    let mut world = Held {
-        objects: Some(Outside {
-            files,
-            out,
-            seed: [0; 32],
-        }),
-    };
-    let Outside {
-        files,
-        mut out,
-        seed,
-    } = world.open();
+    let mut out = MemorySink::new(rt.alloc(), 9, &[1]).expect(&rt, MEMORY);
     let mut stopped = false;
     for bytes in [b"ab".as_slice(), b"cd", b"ef"] {
         print(&mut out, &mut stopped, bytes);
     }
     holds(&rt, stopped, "stopped");
     holds(&rt, out.given() == b"ab".as_slice(), "given");
-    world.close(Outside { files, out, seed });
 }

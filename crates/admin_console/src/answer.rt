@@ -8,7 +8,7 @@ use crate::rule::Rule;
 use itoa::Buffer;
 
 /// What a command is answered, by a line.
-#[derive(Clone, Copy, Debug, PartialEq, Eq)]
+#[derive(Clone, Copy, PartialEq, Eq)]
 pub enum Answer {
     /// `published N`: the edition's number.
     Published(u32),

@@ -9,7 +9,7 @@ ghost use Rattle.admin_console.specs.declared.controls.Relaunching.{Relaunching}
 use okws_base::items::Items;
 
 /// What became of a publication.
-#[derive(Clone, Copy, Debug, PartialEq, Eq)]
+#[derive(Clone, Copy)]
 pub enum Publishing {
     /// The edition's number, from 1.
     Edition(u32),
@@ -20,7 +20,7 @@ pub enum Publishing {
 }
 
 /// What became of a relaunch.
-#[derive(Clone, Copy, Debug, PartialEq, Eq)]
+#[derive(Clone, Copy)]
 pub enum Relaunching {
     /// This incarnation is up.
     Up(u32),

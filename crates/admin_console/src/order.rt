@@ -16,7 +16,7 @@ use plain_text::words::{first_word, one_word, two_words};
 pub const LONGEST_COMMAND: usize = 256;
 
 /// What a line says.
-#[derive(Clone, Copy, Debug, PartialEq, Eq)]
+#[derive(Clone, Copy)]
 pub enum Order {
     /// Publish the bytes that follow, so many, as an edition of the template.
     Publish { template: u16, size: u32 },

@@ -48,7 +48,7 @@ impl Reader {
 }
 
 /// What taking a line ends with.
-#[derive(Clone, Copy, PartialEq, Eq)]
+#[derive(Clone, Copy)]
 pub(crate) enum Taken {
     /// The line, with the LF that ends it.
     Line,
@@ -132,7 +132,7 @@ pub(crate) fn take_command<R: Wait, C: Conn>(
 }
 
 /// What passing over bytes ends with.
-#[derive(Clone, Copy, PartialEq, Eq)]
+#[derive(Clone, Copy)]
 pub(crate) enum Passed {
     /// All of them came.
     Whole,

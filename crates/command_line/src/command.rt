@@ -21,7 +21,7 @@ pub const MOST_PATIENCE: u16 = 3_600;
 pub const USUAL_DOORS: usize = 2;
 
 /// What the words ask for.
-#[derive(Clone, Copy, Debug, PartialEq, Eq)]
+#[derive(Clone, Copy, Debug)]
 pub enum Command<'w> {
     /// The queries of a configuration are to be listed.
     Check {
@@ -49,7 +49,7 @@ pub enum Command<'w> {
 }
 
 /// How many connections are served.
-#[derive(Clone, Copy, Debug, PartialEq, Eq)]
+#[derive(Clone, Copy, Debug)]
 pub enum Connections {
     /// So many.
     Count(u32),
@@ -58,7 +58,7 @@ pub enum Connections {
 }
 
 /// What a server is asked for.
-#[derive(Clone, Copy, Debug, PartialEq, Eq)]
+#[derive(Clone, Copy, Debug)]
 pub struct Server<'w> {
     /// The path of the configuration.
     pub config: &'w str,

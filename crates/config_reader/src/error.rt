@@ -9,7 +9,7 @@ use std::alloc::{AllocError, AllocFailed};
 
 /// The rules of configurations, numbered from 1 in this order. Each presupposes that no lower one
 /// is broken.
-#[derive(Clone, Copy, Debug, PartialEq, Eq)]
+#[derive(Clone, Copy)]
 pub enum ConfigRule {
     /// Line 1 isn't the words `okws` and `1`.
     FirstLine,
@@ -73,14 +73,14 @@ impl ConfigRule {
 
 /// The first broken line, counted from 1, and the lowest rule that it breaks. A file that is too
 /// long is refused as line 0.
-#[derive(Clone, Copy, Debug, PartialEq, Eq)]
+#[derive(Clone, Copy)]
 pub struct Refusal {
     pub line: u32,
     pub rule: ConfigRule,
 }
 
 /// Why a file gave no configuration.
-#[derive(Debug, Drop)]
+#[derive(Drop)]
 pub enum ConfigError {
     Refused(Refusal),
     /// Memory was refused.
@@ -104,7 +104,7 @@ impl<T: Drop> From<AllocFailed<T>> for ConfigError {
 }
 
 /// Why a line declared nothing.
-#[derive(Debug, Drop)]
+#[derive(Drop)]
 pub enum LineError {
     /// The lowest rule that the line breaks.
     Broken(ConfigRule),

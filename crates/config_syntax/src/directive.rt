@@ -6,7 +6,7 @@ ghost use Rattle.config_syntax.specs.Declarations.{directive_of};
 use plain_text::parts::is_same;
 
 /// What a line declares, by its first word.
-#[derive(Clone, Copy, PartialEq, Eq)]
+#[derive(Clone, Copy)]
 pub enum Directive {
     Proxy,
     Table,

@@ -15,11 +15,11 @@ use okws_base::value::{Text, Token, Value};
 use std::alloc::{AllocError, AllocFailed, Global};
 
 /// No such value stands there.
-#[derive(Clone, Copy, Debug, PartialEq, Eq)]
+#[derive(Clone, Copy)]
 pub(crate) struct Misread;
 
 /// Why nothing could be read and kept.
-#[derive(Clone, Copy, Debug, PartialEq, Eq)]
+#[derive(Clone, Copy)]
 pub enum ReadError {
     /// No such value stands there.
     Bad,

@@ -57,7 +57,7 @@ impl Drop for ServiceFrame {
 }
 
 /// A token, and the proxy for which it was made.
-#[derive(Clone, Copy, PartialEq, Eq)]
+#[derive(Clone, Copy)]
 pub struct Issued {
     pub proxy: u16,
     pub token: Token,

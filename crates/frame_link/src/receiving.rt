@@ -28,7 +28,7 @@ pub enum NextFrame<F = ServiceFrame> {
 }
 
 /// What filling a room answers.
-#[derive(Clone, Copy, PartialEq, Eq)]
+#[derive(Clone, Copy)]
 enum Came {
     /// The room is full.
     All,
@@ -39,7 +39,7 @@ enum Came {
 }
 
 /// What filling a vector answers.
-#[derive(Clone, Copy, PartialEq, Eq)]
+#[derive(Clone, Copy)]
 enum Filled {
     /// So many bytes are there as were wanted.
     Whole,

@@ -16,7 +16,7 @@ use frame_codec::taker::Taker;
 use okws_outer::stream::{Link, Put};
 
 /// A call of a link failed and was counted.
-#[derive(Clone, Copy, Debug, PartialEq, Eq)]
+#[derive(Clone, Copy)]
 pub struct LinkFault;
 
 fn put<L: Link>(link: &mut L, bytes: &[u8]) -> Result<(), LinkFault>

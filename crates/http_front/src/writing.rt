@@ -16,7 +16,7 @@ use okws_outer::conn::Conn;
 use okws_outer::stream::Put;
 
 /// What writing a response answers.
-#[derive(Clone, Copy, Debug, PartialEq, Eq)]
+#[derive(Clone, Copy, PartialEq, Eq)]
 pub enum Responded {
     /// All of it was given.
     Sent,

@@ -8,7 +8,7 @@ use plain_text::decimals::{capped_decimal, is_a_numeral};
 use plain_text::words::is_blank_byte;
 
 /// What the value of a Content-Length field says.
-#[derive(Clone, Copy, Debug, PartialEq, Eq)]
+#[derive(Clone, Copy)]
 pub enum ContentLength {
     /// A number of bytes, at most 262,144.
     Length(usize),

@@ -1,7 +1,7 @@
 //! What the crew's calls answer.
 
 /// Why a child was not started and booted.
-#[derive(Clone, Copy, Debug, PartialEq, Eq)]
+#[derive(Clone, Copy)]
 pub enum Missed {
     /// The start failed, or the link did; the fault was counted.
     Failed,

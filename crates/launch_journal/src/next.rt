@@ -1,7 +1,7 @@
 //! What may come next of a service.
 
 /// What may come next of a service, by what was entered of it.
-#[derive(Clone, Copy, Debug, PartialEq, Eq)]
+#[derive(Clone, Copy)]
 pub enum Next {
     /// Its next incarnation may begin.
     Begin,

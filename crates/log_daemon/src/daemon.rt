@@ -40,7 +40,7 @@ impl Granting for LogColumn {
 }
 
 /// What writing out comes to.
-#[derive(Clone, Copy, Debug, PartialEq, Eq)]
+#[derive(Clone, Copy, PartialEq, Eq)]
 pub enum WriteOut {
     /// The sink was given all of the log's text.
     Written,

@@ -5,7 +5,7 @@ use okws_base::items::Items;
 use okws_base::value::Row;
 
 /// What a proxy answers an Open or a Call; sessions count from 0.
-#[derive(PartialEq, Eq, Drop)]
+#[derive(Drop)]
 pub enum Verdict {
     Opened(u32),
     Rows { columns: usize, rows: Items<Row> },
@@ -17,7 +17,7 @@ pub enum Verdict {
 
 /// An edition of a template, by the template's name, that is pushed to an incarnation; editions
 /// count from 1.
-#[derive(PartialEq, Eq, Drop)]
+#[derive(Drop)]
 pub struct Push {
     pub template: Items<u8>,
     pub edition: u32,
@@ -32,7 +32,7 @@ pub enum Got {
 }
 
 /// What a publication is answered. Only one that gets an edition is entered.
-#[derive(Clone, Copy, PartialEq, Eq)]
+#[derive(Clone, Copy)]
 pub enum Published {
     Edition(u32),
     NoSuchTemplate,

@@ -101,7 +101,7 @@ impl Exact for Value {
 }
 
 /// The type of a column or of a parameter.
-#[derive(Clone, Copy, PartialEq, Eq)]
+#[derive(Clone, Copy)]
 pub enum Kind {
     Int,
     Text,

@@ -12,7 +12,7 @@ use okws_base::name::Name;
 use std::alloc::Global;
 
 /// A child, by its service and its incarnation.
-#[derive(Clone, Copy, Debug, PartialEq, Eq)]
+#[derive(Clone, Copy)]
 pub struct ChildName {
     /// The service, by its number.
     pub service: u16,

@@ -6,11 +6,11 @@ ghost use Rattle.okws_outer.specs.declared.error.MakeError.TheVariants.{NoMemory
 use std::alloc::AllocError;
 
 /// A call failed and was counted.
-#[derive(Clone, Copy, Debug, PartialEq, Eq)]
+#[derive(Clone, Copy)]
 pub struct Fault;
 
 /// Why an object was not made.
-#[derive(Clone, Copy, Debug, PartialEq, Eq)]
+#[derive(Clone, Copy, Debug)]
 pub enum MakeError {
     /// The call failed and was counted.
     Failed,

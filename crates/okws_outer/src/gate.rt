@@ -1,7 +1,7 @@
 //! A gate, at which tests hold what goes on between two steps of the server.
 
 /// A place in the server's work, with the number that stands beside it.
-#[derive(Clone, Copy, Debug, PartialEq, Eq)]
+#[derive(Clone, Copy, PartialEq, Eq)]
 pub enum Point {
     /// A dialog's Request was put; the number is that of the service.
     Requested,
@@ -21,7 +21,7 @@ pub trait Gate {
 }
 
 /// The gate of the program, at which nothing is held.
-#[derive(Clone, Copy, Debug)]
+#[derive(Clone, Copy)]
 pub struct NoGate;
 
 impl Gate for NoGate {

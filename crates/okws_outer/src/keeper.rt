@@ -17,7 +17,7 @@ use okws_plan::statement::{Answer, Statement};
 use std::alloc::{AllocError, Global};
 
 /// Why a statement was not run.
-#[derive(Clone, Copy, Debug, PartialEq, Eq)]
+#[derive(Clone, Copy, Debug)]
 pub enum RunError {
     /// The keeper failed and counted it.
     Failed,

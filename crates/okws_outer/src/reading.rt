@@ -10,7 +10,7 @@ use crate::stream::{Pull, Source};
 use std::alloc::{AllocError, Global};
 
 /// Why a source was not read.
-#[derive(Clone, Copy, Debug, PartialEq, Eq)]
+#[derive(Clone, Copy, PartialEq, Eq)]
 pub enum ReadError {
     /// A pull failed and was counted.
     Failed,

@@ -12,7 +12,7 @@ ghost use Rattle.okws_outer.specs.Wire.{Wire, Receives, Gives, GainsRoom};
 use std::alloc::AllocError;
 
 /// What a pull answers.
-#[derive(Clone, Copy, Debug, PartialEq, Eq)]
+#[derive(Clone, Copy, PartialEq, Eq)]
 pub enum Pull {
     /// So many bytes came, 1 at the least; they stand at the front of what was given for them.
     Took(usize),
@@ -23,7 +23,7 @@ pub enum Pull {
 }
 
 /// What a put answers.
-#[derive(Clone, Copy, Debug, PartialEq, Eq)]
+#[derive(Clone, Copy, PartialEq, Eq)]
 pub enum Put {
     /// All bytes were given.
     Done,

@@ -131,7 +131,7 @@ impl Drop for Owned {
 }
 
 /// A query of a proxy that a service may call.
-#[derive(Clone, Copy, PartialEq, Eq)]
+#[derive(Clone, Copy)]
 pub struct Granted {
     pub service: u16,
     pub proxy: u16,
@@ -139,7 +139,7 @@ pub struct Granted {
 }
 
 /// A template that a service may read.
-#[derive(Clone, Copy, PartialEq, Eq)]
+#[derive(Clone, Copy)]
 pub struct Readable {
     pub service: u16,
     pub template: u16,

@@ -11,7 +11,7 @@ pub enum Place {
 }
 
 /// The method of a request (RFC 9110, section 9.3).
-#[derive(Clone, Copy, PartialEq, Eq)]
+#[derive(Clone, Copy)]
 pub enum Method {
     Get,
     Head,

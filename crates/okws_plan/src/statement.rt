@@ -19,7 +19,7 @@ impl Drop for Operand {
 }
 
 /// How a condition compares: `=`, `<>`, `<`, `<=`, `>`, `>=`.
-#[derive(Clone, Copy, PartialEq, Eq)]
+#[derive(Clone, Copy)]
 pub enum Comparison {
     Equal,
     Differs,

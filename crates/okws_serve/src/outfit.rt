@@ -24,7 +24,7 @@ pub struct Outfit<D, O, F, K, S, G> {
 }
 
 /// How far a run goes, and what it keeps.
-#[derive(Clone, Copy, Debug, PartialEq, Eq)]
+#[derive(Clone, Copy)]
 pub struct Limits {
     /// How many connections are begun.
     pub connections: u64,

@@ -15,7 +15,7 @@ use play_script::rule::ScriptRule;
 use std::alloc::{AllocError, Global};
 
 /// Where a script is broken: the line, counted from 1, or 0 for the file as a whole, and the rule.
-#[derive(Clone, Copy, Debug, PartialEq, Eq)]
+#[derive(Clone, Copy)]
 pub struct Broken {
     pub line: usize,
     pub rule: ScriptRule,

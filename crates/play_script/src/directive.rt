@@ -6,7 +6,7 @@ ghost use Rattle.play_script.specs.Directive.{step_named, change_named, other_na
 use okws_plan::script::{Line, Method, Place};
 
 /// A directive that the name of a service alone follows.
-#[derive(Clone, Copy, Debug, PartialEq, Eq)]
+#[derive(Clone, Copy)]
 pub enum Step {
     Begin,
     Boot,
@@ -18,14 +18,14 @@ pub enum Step {
 }
 
 /// A directive that the names of a service and a column follow.
-#[derive(Clone, Copy, Debug, PartialEq, Eq)]
+#[derive(Clone, Copy)]
 pub enum Change {
     Install,
     Revoke,
 }
 
 /// What a line asks for.
-#[derive(Clone, Copy, Debug, PartialEq, Eq)]
+#[derive(Clone, Copy)]
 pub enum Directive {
     Step(Step),
     Change(Change),

@@ -4,7 +4,7 @@ ghost use Rattle.std.specs.Prelude.{◌≡◌};
 ghost use Rattle.play_script.specs.Rule.{script_rule_number};
 
 /// The rule that a script breaks, the lowest one at its first broken line.
-#[derive(Clone, Copy, Debug, PartialEq, Eq)]
+#[derive(Clone, Copy)]
 pub enum ScriptRule {
     /// The line isn't in the grammar.
     BadLine,

@@ -10,7 +10,7 @@ use token_core::{Seed, word};
 pub const MOST_EVENTS: u32 = 100_000;
 
 /// What a word asks for.
-#[derive(Clone, Copy, Debug, PartialEq, Eq)]
+#[derive(Clone, Copy, PartialEq, Eq)]
 pub enum Act {
     /// An edition of the template `page`.
     Publish,

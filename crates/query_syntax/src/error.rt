@@ -7,7 +7,7 @@ ghost use Rattle.query_syntax.specs.declared.error.CompileError.TheVariants.{NoM
 use std::alloc::{AllocError, AllocFailed};
 
 /// The rules of query texts, numbered from 1 in this order.
-#[derive(Clone, Copy, Debug, PartialEq, Eq)]
+#[derive(Clone, Copy, Debug)]
 pub enum TextRule {
     /// No token begins here, or a text, bytes or an integer is malformed or out of range.
     BadToken,
@@ -55,14 +55,14 @@ impl TextRule {
 }
 
 /// A rule that a text breaks, and the byte, counted from 0, at which it does.
-#[derive(Clone, Copy, Debug, PartialEq, Eq)]
+#[derive(Clone, Copy)]
 pub struct Refusal {
     pub at: usize,
     pub rule: TextRule,
 }
 
 /// Why a text gave no statement.
-#[derive(Debug, Drop)]
+#[derive(Drop)]
 pub enum CompileError {
     TextRefused(Refusal),
     NoMemory,

@@ -7,7 +7,7 @@ use okws_base::items::Items;
 use okws_base::value::Value;
 
 /// A token that has one spelling: a keyword, or a sign. `End` stands behind the last token.
-#[derive(Clone, Copy, PartialEq, Eq)]
+#[derive(Clone, Copy)]
 pub enum Fixed {
     Select,
     From,

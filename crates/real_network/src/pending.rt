@@ -74,7 +74,7 @@ impl Looked {
 }
 
 /// Whether more clients may come now.
-#[derive(Clone, Copy, PartialEq, Eq)]
+#[derive(Clone, Copy)]
 enum Coming {
     /// All who have come are in.
     Yes,

@@ -27,14 +27,14 @@ use okws_plan::event::Call;
 use std::alloc::{AllocError, Global};
 
 /// The service and the incarnation that speak.
-#[derive(Clone, Copy, PartialEq, Eq)]
+#[derive(Clone, Copy)]
 pub(crate) struct Who {
     pub(crate) service: u16,
     pub(crate) incarnation: u32,
 }
 
 /// How an exchange went.
-#[derive(Clone, Copy, PartialEq, Eq)]
+#[derive(Clone, Copy)]
 pub(crate) enum Exchanged {
     Goes,
     Reply,

@@ -15,12 +15,25 @@ pub const LONGEST_FIELD: usize = 255;
 
 /// The parts of a service's Reply, with room for the longest: one serves for one connection after the
 /// other, and filling it takes no memory.
-#[derive(Drop)]
 pub struct Reply {
     status: StatusCode,
     content_type: Vec<u8>,
     location: Vec<u8>,
     content: Vec<u8>,
+}
+
+impl Drop for Reply {
+    fn drop(self) {
+        let Reply {
+            status: _,
+            content_type,
+            location,
+            content,
+        } = self;
+        drop(content_type);
+        drop(location);
+        drop(content);
+    }
 }
 
 impl Model for Reply {

@@ -12,13 +12,25 @@ use std::alloc::{AllocError, Global};
 /// Both directions of a connection in memory: its bytes come in pieces of listed sizes, and as many
 /// bytes may be given as there is room for from its making on. A put past the room gives what fits,
 /// and is a fault.
-#[derive(Drop)]
 pub struct MemoryConn<'a> {
     left: &'a [u8],
     last: &'a [u8],
     sizes: &'a [usize],
     room: Room,
     failing: Failing<'a>,
+}
+
+impl<'a> Drop for MemoryConn<'a> {
+    fn drop(self) {
+        let MemoryConn {
+            left: _,
+            last: _,
+            sizes: _,
+            room,
+            failing: _,
+        } = self;
+        drop(room);
+    }
 }
 
 impl<'a> MemoryConn<'a> {

@@ -21,12 +21,23 @@ pub struct Entry<'a> {
 
 /// Files in memory, which come in pieces of at most `piece` bytes, and of 1 where `piece` is 0. Of
 /// entries of one path the first stands.
-#[derive(Drop)]
 pub struct MemoryFiles<'a> {
     entries: &'a [Entry<'a>],
     piece: usize,
     opened: Told<Items<u8>>,
     failing: Failing<'a>,
+}
+
+impl<'a> Drop for MemoryFiles<'a> {
+    fn drop(self) {
+        let MemoryFiles {
+            entries: _,
+            piece: _,
+            opened,
+            failing: _,
+        } = self;
+        drop(opened);
+    }
 }
 
 /// A file that is open.

@@ -33,13 +33,26 @@ pub trait FedLink: Link {
 /// Both directions of a link in memory: bytes are fed to it, and come out of it in pieces of at most
 /// `piece` bytes, and of 1 where `piece` is 0; bytes that are put to it are kept, as many as room was
 /// made for. A put past the room gives what fits, and is a fault.
-#[derive(Drop)]
 pub struct MemoryLink<'a> {
     coming: Coming,
     ended: bool,
     piece: usize,
     room: Room,
     failing: Failing<'a>,
+}
+
+impl<'a> Drop for MemoryLink<'a> {
+    fn drop(self) {
+        let MemoryLink {
+            coming,
+            ended: _,
+            piece: _,
+            room,
+            failing: _,
+        } = self;
+        drop(coming);
+        drop(room);
+    }
 }
 
 impl<'a> MemoryLink<'a> {

@@ -9,10 +9,16 @@ use std::alloc::{AllocError, Global};
 
 /// Bytes that were given, as many as there is room for from the sink's making on. A put past the
 /// room gives what fits, and is a fault.
-#[derive(Drop)]
 pub struct MemorySink<'a> {
     room: Room,
     failing: Failing<'a>,
+}
+
+impl<'a> Drop for MemorySink<'a> {
+    fn drop(self) {
+        let MemorySink { room, failing: _ } = self;
+        drop(room);
+    }
 }
 
 impl<'a> MemorySink<'a> {

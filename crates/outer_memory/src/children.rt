@@ -138,7 +138,6 @@ impl<'a> Link for ChildLink<'a> {
 }
 
 /// Children in memory, which do what is planned.
-#[derive(Drop)]
 pub struct MemoryChildren<'a> {
     alloc: Global,
     plans: &'a [ChildPlan<'a>],
@@ -146,6 +145,21 @@ pub struct MemoryChildren<'a> {
     finished: Noted<ChildEnd>,
     refuses: bool,
     failing: Failing<'a>,
+}
+
+impl<'a> Drop for MemoryChildren<'a> {
+    fn drop(self) {
+        let MemoryChildren {
+            alloc: _,
+            plans: _,
+            started,
+            finished,
+            refuses: _,
+            failing: _,
+        } = self;
+        drop(started);
+        drop(finished);
+    }
 }
 
 impl<'a> MemoryChildren<'a> {

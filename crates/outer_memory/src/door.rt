@@ -31,7 +31,6 @@ pub struct Client<'a> {
 
 /// A door in memory. An accept fails too where memory is refused for the connection, which is then
 /// lost, and where no client is left.
-#[derive(Drop)]
 pub struct MemoryDoor<'a> {
     alloc: Global,
     clients: &'a [Client<'a>],
@@ -40,6 +39,21 @@ pub struct MemoryDoor<'a> {
     out: Option<&'a [u8]>,
     finished: Noted<Served>,
     failing: Failing<'a>,
+}
+
+impl<'a> Drop for MemoryDoor<'a> {
+    fn drop(self) {
+        let MemoryDoor {
+            alloc: _,
+            clients: _,
+            next,
+            out: _,
+            finished,
+            failing: _,
+        } = self;
+        drop(next);
+        drop(finished);
+    }
 }
 
 /// A connection that is finished, and its client's bytes.
@@ -127,7 +141,6 @@ impl<'a> Door for MemoryDoor<'a> {
 }
 
 /// A network in memory, on whose port these clients come in this order.
-#[derive(Drop)]
 pub struct MemoryNetwork<'a> {
     alloc: Global,
     clients: &'a [Client<'a>],
@@ -136,6 +149,22 @@ pub struct MemoryNetwork<'a> {
     doors: Vec<MemoryDoor<'a>>,
     refuses: bool,
     failing: Failing<'a>,
+}
+
+impl<'a> Drop for MemoryNetwork<'a> {
+    fn drop(self) {
+        let MemoryNetwork {
+            alloc: _,
+            clients: _,
+            refusals: _,
+            listened,
+            doors,
+            refuses: _,
+            failing: _,
+        } = self;
+        drop(listened);
+        drop(doors);
+    }
 }
 
 impl<'a> MemoryNetwork<'a> {

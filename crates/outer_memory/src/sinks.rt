@@ -15,7 +15,6 @@ use okws_outer::stream::Sink;
 use std::alloc::{AllocError, Global};
 
 /// Sinks in memory, one for each opening. An opening fails too where memory is refused for the sink.
-#[derive(Drop)]
 pub struct MemorySinks<'a> {
     alloc: Global,
     room: usize,
@@ -24,6 +23,22 @@ pub struct MemorySinks<'a> {
     closed: Noted<SinkEnd>,
     refuses: bool,
     failing: Failing<'a>,
+}
+
+impl<'a> Drop for MemorySinks<'a> {
+    fn drop(self) {
+        let MemorySinks {
+            alloc: _,
+            room: _,
+            puts: _,
+            opened,
+            closed,
+            refuses: _,
+            failing: _,
+        } = self;
+        drop(opened);
+        drop(closed);
+    }
 }
 
 impl<'a> MemorySinks<'a> {

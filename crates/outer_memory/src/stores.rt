@@ -27,7 +27,6 @@ pub trait KeeperMaker {
 }
 
 /// Stores in memory, which have no files.
-#[derive(Drop)]
 pub struct MemoryStores<'a, M> {
     maker: M,
     made: Told<KeeperStart>,
@@ -35,6 +34,22 @@ pub struct MemoryStores<'a, M> {
     back: u64,
     refuses: bool,
     failing: Failing<'a>,
+}
+
+impl<'a, M: Drop> Drop for MemoryStores<'a, M> {
+    fn drop(self) {
+        let MemoryStores {
+            maker,
+            made,
+            finished,
+            back: _,
+            refuses: _,
+            failing: _,
+        } = self;
+        drop(maker);
+        drop(made);
+        drop(finished);
+    }
 }
 
 impl<'a, M: KeeperMaker> MemoryStores<'a, M> {

@@ -55,10 +55,10 @@ fn script<'a>(alloc: Global) -> Arg<'a> {
 }
 
 fn play<'a>(alloc: Global) -> Result<Command<'a>, AllocError> {
+    let files = vec![in alloc; config(alloc), script(alloc)]?;
     Command::new(alloc, "play")
         .about("Plays a script of a site, without sockets or programs")
-        .arg(config(alloc))?
-        .arg(script(alloc))
+        .args(files)
 }
 
 fn seed<'a>(alloc: Global) -> Arg<'a> {
@@ -76,10 +76,10 @@ fn events<'a>(alloc: Global) -> Arg<'a> {
 }
 
 fn drill<'a>(alloc: Global) -> Result<Command<'a>, AllocError> {
+    let numbers = vec![in alloc; seed(alloc), events(alloc)]?;
     Command::new(alloc, "drill")
         .about("Plays a script that a number gives, and counts what was heard")
-        .arg(seed(alloc))?
-        .arg(events(alloc))
+        .args(numbers)
 }
 
 fn port<'a>(alloc: Global) -> Arg<'a> {
@@ -130,13 +130,22 @@ fn patience<'a>(alloc: Global) -> Arg<'a> {
         .help("How long a client is waited for, 1 to 3600; without end where it isn't told")
 }
 
-/// How many connections a server has, and how long it waits for each.
-fn with_limits<'a>(alloc: Global, serve: Command<'a>) -> Result<Command<'a>, AllocError> {
-    serve
-        .arg(connections(alloc))?
-        .arg(always(alloc))?
-        .group(counts(alloc)?)?
-        .arg(patience(alloc))
+/// The file of the rows.
+fn store<'a>(alloc: Global) -> Arg<'a> {
+    file(
+        alloc,
+        "store",
+        "Where rows are kept; in memory where it isn't told",
+    )
+}
+
+/// The file of the log.
+fn log<'a>(alloc: Global) -> Arg<'a> {
+    file(
+        alloc,
+        "log",
+        "Where the log is written; nowhere where it isn't told",
+    )
 }
 
 /// The file of the record, which no server writes yet.
@@ -149,40 +158,48 @@ fn audit<'a>(alloc: Global) -> Arg<'a> {
     .hide(true)
 }
 
-/// The files that a server may be given.
-fn with_files<'a>(alloc: Global, serve: Command<'a>) -> Result<Command<'a>, AllocError> {
-    serve
-        .arg(file(
-            alloc,
-            "store",
-            "Where rows are kept; in memory where it isn't told",
-        ))?
-        .arg(file(
-            alloc,
-            "log",
-            "Where the log is written; nowhere where it isn't told",
-        ))?
-        .arg(audit(alloc))
+/// What a server is told, in the order in which its help lists it.
+fn server_words<'a>(alloc: Global) -> Result<Vec<Arg<'a>>, AllocError> {
+    Ok(vec![in alloc;
+        config(alloc),
+        port(alloc),
+        doors(alloc),
+        connections(alloc),
+        always(alloc),
+        patience(alloc),
+        store(alloc),
+        log(alloc),
+        audit(alloc),
+    ]?)
 }
 
 fn serve<'a>(alloc: Global) -> Result<Command<'a>, AllocError> {
-    let serve = Command::new(alloc, "serve")
+    let words = server_words(alloc)?;
+    let counts = counts(alloc)?;
+    Command::new(alloc, "serve")
         .about("Serves a site, whose services are programs")
-        .arg(config(alloc))?
-        .arg(port(alloc))?
-        .arg(doors(alloc))?;
-    with_files(alloc, with_limits(alloc, serve)?)
+        .args(words)?
+        .group(counts)
 }
 
-/// The program with one more command, where that was made.
-fn with_command<'a>(
-    program: Command<'a>,
+/// Adds one more command, where that was made.
+fn put_command<'a>(
+    commands: &mut Vec<Command<'a>>,
     command: Result<Command<'a>, AllocError>,
-) -> Result<Command<'a>, AllocError> {
+) -> Result<(), AllocError> {
     match command {
-        Ok(command) => program.subcommand(command),
+        Ok(command) => Ok(commands.push(command)?),
         Err(error) => Err(error),
     }
+}
+
+fn commands<'a>(alloc: Global) -> Result<Vec<Command<'a>>, AllocError> {
+    let mut commands = Vec::new(alloc);
+    put_command(&mut commands, check(alloc))?;
+    put_command(&mut commands, play(alloc))?;
+    put_command(&mut commands, drill(alloc))?;
+    put_command(&mut commands, serve(alloc))?;
+    Ok(commands)
 }
 
 fn version<'a>(alloc: Global) -> Arg<'a> {
@@ -194,18 +211,16 @@ fn version<'a>(alloc: Global) -> Arg<'a> {
 
 /// The program, as its help and its refusals are made.
 fn program<'a>(alloc: Global) -> Result<Command<'a>, AllocError> {
-    let program = Command::new(alloc, "okws")
+    let commands = commands(alloc)?;
+    Command::new(alloc, "okws")
         .about("Web services in least-privilege compartments")
         .no_binary_name(true)
         .subcommand_required(true)
         .arg_required_else_help(true)
         .args_conflicts_with_subcommands(true)
         .override_usage("okws <COMMAND>\n       okws --version")
-        .arg(version(alloc))?;
-    let program = with_command(program, check(alloc))?;
-    let program = with_command(program, play(alloc))?;
-    let program = with_command(program, drill(alloc))?;
-    with_command(program, serve(alloc))
+        .arg(version(alloc))?
+        .subcommands(commands)
 }
 
 /// The text of a refusal.

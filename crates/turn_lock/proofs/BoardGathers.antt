@@ -1,11 +1,13 @@
 -- Seats that were just made, and seats that are joined into one, one after another.
-use Rattle.std.proofs.Common.{◌≡◌, ◌≢◌, ℕ, suc, ◌+◌, ◌<◌, List, [], ◌∷◌, ◌++◌, length, refl, sym, ap, ◌∙◌, subst, arith}
+use Rattle.std.proofs.Common.{◌≡◌, ◌≢◌, ℕ, suc, ◌+◌, ◌<◌, ◌≤◌, List, [], ◌∷◌, ◌++◌, length, refl, sym, ap, ◌∙◌, subst, ⊎_elim, arith}
+use Rattle.std.proofs.lemmas.Bool.{cases_lt}
 use Rattle.atomic_table.specs.Seated.{TableId}
 use Rattle.turn_lock.specs.declared.board_rule.Part.{Part}
 use Rattle.atomic_table.specs.declared.shared.Seat.{Seat}
 use Rattle.turn_lock.specs.declared.board_rule.View.{View}
-use Rattle.turn_lock.specs.Board.{none_begun, spent_number, part_of, view_of, AllSaw, AllDrew}
-use Rattle.turn_lock.specs.BoardSeats.{SeatIs, seat_of, parts, IsSeat, IsFresh, AreFresh, AreRising, AllAt, SeatsSaw, SeatsDrew, Gathering}
+use Rattle.turn_lock.specs.Board.{none_begun, most_drawn, spent_number, part_of, view_of, AllUnder, from_on, with_rest, AllSaw, AllDrew}
+use Rattle.turn_lock.specs.BoardSeats.{SeatIs, seat_of, parts, IsSeat, MayDraw, IsFresh, AreFresh, AreRising, AllAt, SeatsSaw, SeatsDrew, Gathering}
+use Rattle.turn_lock.proofs.BoardLists.{from_none}
 
 pub push_length : {A : Type 0} (l : List A) (x : A) → length (l ++ x ∷ []) ≡ suc (length l)
 push_length [] x = refl
@@ -96,3 +98,18 @@ rising-push z k n (x ∷ cs) c e a f = (a.0, rising-push z (suc k) n cs c (omega
 pub rising-pop : (z : TableId) (k : ℕ) (cs : List SeatIs) (c : SeatIs) → AreRising z k (cs ++ c ∷ []) → AreRising z k cs × IsFresh z (k + length cs) c
 rising-pop z k [] c a = (tt, subst (λ i. IsFresh z i c) (omega arith) a.0)
 rising-pop z k (x ∷ cs) c a = let r = rising-pop z (suc k) cs c a.1 in ((a.0, r.0), subst (λ i. IsFresh z i c) (omega arith) r.1)
+
+-- whoever may draw behind all that was left might before
+pub may_before : (r : ℕ) (drawn : List ℕ) → AllUnder r drawn → MayDraw (from_on r most_drawn ++ drawn) → MayDraw drawn
+may_before r [] u m = tt
+may_before r (x ∷ xs) u m = ⊎_elim (λ (l : r < most_drawn). let h = u.0 in omega arith)
+    (λ (l : most_drawn ≤ r). subst (λ ys. MayDraw (ys ++ x ∷ xs)) (from_none r most_drawn l) m) (cases_lt r most_drawn)
+
+-- a seat that drew all that was left is one still
+pub rests : (p q : Seat ℕ View) (r : ℕ) → q.me ≡ (with_rest r p.me.0, p.me.1) → AllUnder r p.me.0.part.drawn → IsSeat p → IsSeat q
+rests p q r is u s = record {
+  numbered = λ e. s.numbered (sym (ap (λ m. m.0.part.number) is) ∙ e);
+  length_is = ap (λ m. length m.0.part.seen) is ∙ s.length_is;
+  room = λ m. subst (λ k. 0 < k) (sym (ap (λ x. x.0.room) is)) (s.room (may_before r p.me.0.part.drawn u (subst (λ xs. MayDraw xs) (ap (λ x. x.0.part.drawn) is) m)));
+  none_out = ap (λ m. m.1) is ∙ s.none_out;
+}

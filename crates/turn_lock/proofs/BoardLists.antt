@@ -1,12 +1,13 @@
 -- Lists of numbers, and lists of views.
-use Rattle.std.proofs.Common.{◌≡◌, ◌≢◌, ◌⊎◌, inl, inr, ℕ, zero, suc, ◌+◌, ◌<◌, ◌≤◌, eqb, cond, List, [], ◌∷◌, ◌++◌, length, le_refl, set, get_or, refl, sym, ap, ◌∙◌, subst, ⊎_elim, arith, eq-eqb, ne_eqb}
+use Rattle.std.proofs.Common.{◌≡◌, ◌≢◌, ◌⊎◌, inl, inr, ℕ, zero, suc, ◌+◌, ◌<◌, ◌≤◌, eqb, cond, List, [], ◌∷◌, ◌++◌, length, max, le_refl, set, get_or, refl, sym, ap, ◌∙◌, subst, ⊎_elim, arith, leb, eq-eqb, ne_eqb}
 use mathlib.Core.Logic.{dite}
+use Rattle.std.proofs.lemmas.Bool.{cases_lt, le-leb, lt-leb}
 use mathlib.Core.Option as maybe
 use native.Mathlib.Decide.{ℕ_discrete}
 use lib.ListN.{get_elem?}
 use Rattle.atomic_table.proofs.Lists.{at_set}
 use Rattle.turn_lock.specs.declared.board_rule.View.{View}
-use Rattle.turn_lock.specs.Board.{UpTo, AllUnder, drawn_by, total}
+use Rattle.turn_lock.specs.Board.{UpTo, AllUnder, drawn_by, from_on, total}
 
 module _ {A : Type 0} where
   pub inside : (l : List A) (i : ℕ) (a : A) → get_elem? l i ≡ maybe.some a → i < length l
@@ -116,6 +117,60 @@ module _ (hand : ℕ → ℕ) (c number : ℕ) where
   -- and by no other
   pub drawn-other : (m : ℕ) → m ≢ number → drawn_by hand_after m (suc c) ≡ drawn_by hand m c
   drawn-other m ne = let q = ne_eqb (hand_after c) m (λ e. ne (sym e ∙ pick_here c c number (hand c) refl)) in rw q (drawn-same hand hand_after m c same_below)
+
+-- where no number is left, none is drawn
+pub from_none : (c d : ℕ) → d ≤ c → from_on c d ≡ []
+unfolding from_on
+from_none c zero l = refl
+from_none c (suc d) l = let q = lt-leb c d (omega arith) in rw q refl
+
+module _ (hand : ℕ → ℕ) (c number : ℕ) where
+  -- this seat draws all numbers from c on
+  abbrev pub hand_rest : ℕ → ℕ
+  hand_rest k = cond (leb c k) number (hand k)
+
+  pub rest_here : (k : ℕ) → c ≤ k → hand_rest k ≡ number
+  rest_here k l = let q = le-leb c k l in rw q refl
+
+  pub rest_else : (k : ℕ) → k < c → hand_rest k ≡ hand k
+  rest_else k l = let q = lt-leb c k (omega arith) in rw q refl
+
+  pub rest-same : (m : ℕ) → drawn_by hand_rest m c ≡ drawn_by hand m c
+  rest-same m = drawn-same hand hand_rest m c rest_else
+
+  rest-own-to : (d : ℕ) → c ≤ d → drawn_by hand_rest number d ≡ from_on c d ++ drawn_by hand number c
+  unfolding from_on
+  rest-own-to zero l =
+      let z : c ≡ 0 = omega arith in
+      ap (drawn_by hand number) (sym z)
+  rest-own-to (suc d) l = dite (ℕ_discrete c (suc d))
+      (λ e. subst (λ x. drawn_by hand_rest number x ≡ from_on c x ++ drawn_by hand number c) e (rest-same number ∙ ap (λ l. l ++ drawn_by hand number c) (sym (from_none c c (le_refl c)))))
+      (λ ne. let b : c ≤ d = omega arith in
+      let q = le-leb c d b in let h = eq-eqb number number refl in
+      rw (q, h) (ap (λ l. d ∷ l) (rest-own-to d b)))
+
+  rest-other-to : (m d : ℕ) → m ≢ number → c ≤ d → drawn_by hand_rest m d ≡ drawn_by hand m c
+  rest-other-to m zero ne l = let z : c ≡ 0 = omega arith in ap (drawn_by hand m) (sym z)
+  rest-other-to m (suc d) ne l = dite (ℕ_discrete c (suc d))
+      (λ e. subst (λ x. drawn_by hand_rest m x ≡ drawn_by hand m c) e (rest-same m))
+      (λ no. let b : c ≤ d = omega arith in
+      let q = ne_eqb (hand_rest d) m (λ e. ne (sym e ∙ rest_here d b)) in
+      rw q (rest-other-to m d ne b))
+
+  -- the numbers that were drawn up to the greater of the two
+  pub rest-own : (d : ℕ) → drawn_by hand_rest number (max c d) ≡ from_on c d ++ drawn_by hand number c
+  rest-own d = ⊎_elim
+      (λ (l : c < d). subst (λ x. drawn_by hand_rest number x ≡ from_on c d ++ drawn_by hand number c) (let q : d ≡ max c d = omega arith in q) (rest-own-to d (omega arith)))
+      (λ (l : d ≤ c). subst (λ x. drawn_by hand_rest number x ≡ from_on c d ++ drawn_by hand number c) (let q : c ≡ max c d = omega arith in q)
+      (rest-same number ∙ ap (λ l. l ++ drawn_by hand number c) (sym (from_none c d l))))
+      (cases_lt c d)
+
+  -- and none by another seat
+  pub rest-other : (m d : ℕ) → m ≢ number → drawn_by hand_rest m (max c d) ≡ drawn_by hand m c
+  rest-other m d ne = ⊎_elim
+      (λ (l : c < d). subst (λ x. drawn_by hand_rest m x ≡ drawn_by hand m c) (let q : d ≡ max c d = omega arith in q) (rest-other-to m d ne (omega arith)))
+      (λ (l : d ≤ c). subst (λ x. drawn_by hand_rest m x ≡ drawn_by hand m c) (let q : c ≡ max c d = omega arith in q) (rest-same m))
+      (cases_lt c d)
 
 pub total_set : (vs : List View) (i : ℕ) (v w : View) → get_elem? vs i ≡ maybe.some v → total (set vs i w) + v.room ≡ total vs + w.room
 total_set [] i v w e = absurd (maybe.some-ne-none v (sym e))

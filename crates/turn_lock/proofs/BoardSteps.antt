@@ -1,17 +1,17 @@
 -- Each step on a word of the board keeps its rule.
-use Rattle.std.proofs.Common.{◌≡◌, ◌≢◌, inl, inr, ℕ, suc, ◌+◌, ◌-◌, ◌%◌, ◌^◌, ◌<◌, ◌≤◌, cond, Bool, true, false, List, [], ◌∷◌, set, get_or, refl, sym, ap, ◌∙◌, subst, ⊎_elim, arith}
+use Rattle.std.proofs.Common.{◌≡◌, ◌≢◌, inl, inr, ℕ, suc, ◌+◌, ◌-◌, ◌%◌, ◌^◌, ◌<◌, ◌≤◌, cond, max, Bool, true, false, List, [], ◌∷◌, ◌++◌, set, get_or, refl, sym, ap, ◌∙◌, subst, ⊎_elim, arith}
 use mathlib.Core.Logic.{dite}
 use mathlib.Core.Option as maybe
 use native.Mathlib.Decide.{ℕ_discrete}
 use Rattle.atomic_table.specs.Table.{State, keeps, step, Allows}
 use Rattle.std.proofs.Math.Nat.{mod-eq_of_lt}
 use Rattle.std.proofs.Math.Dec.{ltb}
-use Rattle.std.proofs.lemmas.Bool.{ltb-true, ltb-false}
+use Rattle.std.proofs.lemmas.Bool.{cases_lt, ltb-true, ltb-false}
 use Rattle.std.proofs.lemmas.List.{set-get_or}
 use Rattle.turn_lock.specs.declared.board_rule.View.{View}
 use Rattle.turn_lock.specs.declared.board_rule.Part.{Part}
-use Rattle.turn_lock.specs.Board.{most_drawn, spent_number, UpTo, AllUnder, drawn_by, World, IsSpent, Owns, Fits, AllFit, Knows, total, Kept, saw, with_number, M, looked, raised, drew}
-use Rattle.turn_lock.proofs.BoardLists.{all_stay, up_to-refl, up_to-at, up_to-look, up_to-raise, under-at, under-set, drawn-under, hand_after, drawn-own, drawn-other, pick_here, pick_else, total_set}
+use Rattle.turn_lock.specs.Board.{most_drawn, spent_number, UpTo, AllUnder, drawn_by, World, IsSpent, Owns, Fits, AllFit, Knows, total, Kept, from_on, saw, with_number, M, looked, raised, drew, with_rest, drew_rest}
+use Rattle.turn_lock.proofs.BoardLists.{all_stay, up_to-refl, up_to-at, up_to-look, up_to-raise, under-at, under-set, drawn-under, hand_after, drawn-own, drawn-other, hand_rest, rest_here, rest_else, rest-own, rest-other, pick_here, pick_else, total_set}
 
 module _ (n : ℕ) (W : World) (greatest : List ℕ) (count : ℕ) (hand : ℕ → ℕ) where
   -- the world after a step on a word
@@ -198,4 +198,53 @@ module _ (n : ℕ) where
         tt,
         subst (λ z. Kept n record { words = set st.words 0 z; homes = st.homes; views = set st.views id w }) next kept,
         (ap (λ z. (with_number z v, me.1)) (sym word), subst (λ z. AllUnder z v.part.drawn) (sym word) (subst (AllUnder c) own.all (drawn-under W.hand number c))),
+      )
+
+  pub draws_rest : (slots id : ℕ) (me : M) → me.0.part.number ≢ spent_number → Allows (Kept n) slots id me 0 (λ r. max r most_drawn) (drew_rest (step slots 0 most_drawn 0 maybe.none) me)
+  draws_rest slots id me numbered st r _ at _ =
+      let W = r.world in
+      let v = me.0 in
+      let k = r.each id v at in
+      let own = own_part n W id v.part numbered k.fits in
+      let number : ℕ = v.part.number in
+      let word : get_or st.words 0 0 ≡ W.count = ap (λ ws. get_or ws 0 0) r.words in
+      let few = r.few in
+      let c : ℕ = W.count in
+      let H : ℕ → ℕ = hand_rest W.hand c number in
+      let w : View = with_rest c v in
+      let bound = r.counted in
+      let sums = total_set st.views id v w at in
+      let W' : World = after n W W.greatest (max c most_drawn) H in
+      let kept : Kept n record { words = set st.words 0 (max c most_drawn); homes = st.homes; views = set st.views id w } = record {
+        world = W';
+        words = ap (λ ws. set ws 0 (max c most_drawn)) r.words;
+        few = r.few;
+        narrow = r.narrow;
+        seated = λ i l. ⊎_elim (λ (b : i < c). subst (λ z. z < n) (sym (rest_else W.hand c number i b)) (r.seated i b))
+            (λ (b : c ≤ i). subst (λ z. z < n) (sym (rest_here W.hand c number i b)) own.below) (cases_lt i c);
+        counted = omega (arith, bound, sums);
+        each = all_stay (Knows n W') st.views id w
+            record {
+              fits = record {
+                behind = k.fits.behind;
+                owned = inr record { below = own.below; owner_is = own.owner_is; all = rest-own W.hand c number most_drawn ∙ ap (λ l. from_on c most_drawn ++ l) own.all; launcher = own.launcher };
+              };
+              olds_fit = all_fit_on n W W.greatest (max c most_drawn) H id number v.olds (λ p u. u) (λ p _ _ ne d. rest-other W.hand c number p.number most_drawn ne ∙ d) (λ p _ _ _ s. s) k.olds_fit;
+              spares = λ i from to ne. let z = k.spares i from to ne in record { owner_is = z.owner_is; none = rest-other W.hand c number i most_drawn ne ∙ z.none };
+            }
+            (λ j u ne e. let q = r.each j u e in record {
+              fits = fits_on n W W.greatest (max c most_drawn) H j u.part (λ s. s) (λ b d. rest-other W.hand c number u.part.number most_drawn (apart n W number id j u.part few own.owner_is ne q.fits b) ∙ d) (λ _ _ s. s) q.fits;
+              olds_fit = all_fit_on n W W.greatest (max c most_drawn) H j u.part.number u.olds (λ p s. s)
+                  (λ p f b _ d. rest-other W.hand c number p.number most_drawn (apart n W number id j p few own.owner_is ne f b) ∙ d) (λ p _ _ _ s. s) q.olds_fit;
+              spares = λ i from to not. let z = q.spares i from to not in record {
+                owner_is = z.owner_is;
+                none = rest-other W.hand c number i most_drawn (λ h. ne (sym z.owner_is ∙ (ap W.owner h ∙ own.owner_is))) ∙ z.none;
+              };
+            });
+      } in (
+        w,
+        keeps,
+        tt,
+        subst (λ z. Kept n record { words = set st.words 0 (max z most_drawn); homes = st.homes; views = set st.views id w }) (sym word) kept,
+        (ap (λ z. (with_rest z v, me.1)) (sym word), subst (λ z. AllUnder z v.part.drawn) (sym word) (subst (AllUnder c) own.all (drawn-under W.hand number c))),
       )

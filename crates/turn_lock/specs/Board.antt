@@ -1,5 +1,5 @@
 -- The rule of the board's words: the first is the count of numbers drawn, each of the others the greatest incarnation of one service.
-use Rattle.std.specs.Prelude.{◌≡◌, ◌≢◌, ◌⊎◌, ℕ, zero, suc, ◌+◌, ◌-◌, ◌^◌, ◌<◌, ◌≤◌, ◌==◌, nat_lt, if◌then◌else◌, List, [], ◌∷◌, ◌++◌, slice_index, slice_set, replicate}
+use Rattle.std.specs.Prelude.{◌≡◌, ◌≢◌, ◌⊎◌, ℕ, zero, suc, ◌+◌, ◌-◌, ◌^◌, ◌<◌, ◌≤◌, ◌==◌, nat_lt, nat_le, if◌then◌else◌, List, [], ◌∷◌, ◌++◌, slice_index, slice_set, replicate}
 use mathlib.Core.Option as maybe
 use lib.ListN.{get_elem?}
 use Rattle.atomic_table.specs.Table.{State, Me, Step}
@@ -33,6 +33,11 @@ AllUnder bound (x ∷ xs) = (x < bound) × AllUnder bound xs
 abbrev pub drawn_by : (ℕ → ℕ) → ℕ → ℕ → List ℕ
 drawn_by hand m zero = []
 drawn_by hand m (suc d) = if hand d == m then d ∷ drawn_by hand m d else drawn_by hand m d
+
+-- The numbers from r on below a count, the greatest first.
+unfoldable pub from_on : ℕ → ℕ → List ℕ
+from_on r zero = []
+from_on r (suc d) = if nat_le r d then d ∷ from_on r d else []
 
 -- What stands behind the words: the greatest numbers, the count of numbers drawn, which seat drew each, and which view has the seat of a number.
 pub record World : Type 0 where
@@ -114,6 +119,10 @@ saw s r v = view_of (part_of v.part.number (slice_set v.part.seen s r) v.part.dr
 abbrev pub with_number : ℕ → View → View
 with_number r v = view_of (part_of v.part.number v.part.seen (r ∷ v.part.drawn)) v.olds v.spare (if nat_lt r most_drawn then v.room else v.room - 1)
 
+-- All numbers from r on below the limit were drawn.
+abbrev pub with_rest : ℕ → View → View
+with_rest r v = view_of (part_of v.part.number v.part.seen (from_on r most_drawn ++ v.part.drawn)) v.olds v.spare v.room
+
 -- The next number is given to a new seat, which may draw.
 abbrev pub dealer : View → View
 dealer v = view_of v.part v.olds (v.spare + 1) (v.room - 1)
@@ -149,6 +158,10 @@ raised st m r m' = m' ≡ (saw (st.word - 1) st.first m.0, m.1)
 -- The seat draws the number that it found, which is above all that it drew.
 abbrev pub drew : Step ℕ → M → ℕ → M → Type 0
 drew st m r m' = (m' ≡ (with_number r m.0, m.1)) × AllUnder r m.0.part.drawn
+
+-- The seat draws all numbers that are left below the limit, from the one that it found on, which is above all that it drew.
+abbrev pub drew_rest : Step ℕ → M → ℕ → M → Type 0
+drew_rest st m r m' = (m' ≡ (with_rest r m.0, m.1)) × AllUnder r m.0.part.drawn
 
 -- The parts' seen numbers are at most these, and those of the launcher's part are these.
 abbrev pub AllSaw : ℕ → List ℕ → List Part → Type 0

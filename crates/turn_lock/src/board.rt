@@ -1,15 +1,18 @@
 //! The board and its seats.
 ghost use Rattle.std.specs.Prelude.{◌≡◌, ◌≢◌, ℕ, List, ◌<◌, ◌≤◌, ◌+◌, ◌-◌, [], ◌∷◌, ◌++◌, map, length, vec_len, vec_capacity, IfOk, slice_index, slice_set};
-ghost use Rattle.turn_lock.specs.Board.{services, spent_number, opening_view, dealer, dealt, part_of, view_of, none_begun, AllUnder, AllSaw, AllDrew};
+ghost use Rattle.turn_lock.specs.Board.{services, most_drawn, spent_number, opening_view, dealer, dealt, part_of, view_of, none_begun, AllUnder, AllSaw, AllDrew, from_on};
 ghost use Rattle.turn_lock.specs.BoardSeats.{parts, seat_of, IsSeat, MayDraw, AreFresh, AreRising, AllAt, SeatsSaw, SeatsDrew};
 
-use crate::board_rule::{Current, Deal, Draw, Raise, Rises, TakeIn, View};
+use crate::board_rule::{Current, Deal, Draw, DrawRest, Raise, Rises, TakeIn, View};
 use atomic_table::Table;
 use std::alloc::{AllocError, Global};
 use std::marker::Model;
 
 // The word that counts the numbers drawn. The word of service s is 1 + s.
 const DRAWN: usize = 0;
+
+// A seat that drew a number from here on draws no more.
+const MOST_DRAWN: u64 = 1 << 62;
 
 type Place = atomic_table::Seat<u8, View>;
 
@@ -141,6 +144,7 @@ impl Board {
         requires service { service < services }
         ensures least { slice_index seat.old.seen service ≤ result }
         ensures seen { seat.new ≡ record seat.old { seen = slice_set seat.old.seen service result } }
+        ensures shown { slice_index seat.new.seen service ≡ result }
     {
         let words = &self.table.shared;
         let found = words.load::<Current>(&mut seat.place, 1 + service as usize);
@@ -169,6 +173,17 @@ impl Board {
     {
         let words = &self.table.shared;
         words.fetch_add::<Draw>(&mut seat.place, DRAWN, 1)
+    }
+
+    /// Draws all connection numbers that are left below the limit, and gives the first of them, or where none
+    /// is left the next one. No other seat is given one of them.
+    pub fn draw_rest(&self, seat: &mut Seat) -> u64
+        requires board { seat.old.board ≡ self.now.id }
+        ensures above { AllUnder result seat.old.drawn }
+        ensures drawn { seat.new ≡ record seat.old { drawn = from_on result most_drawn ++ seat.old.drawn } }
+    {
+        let words = &self.table.shared;
+        words.fetch_max::<DrawRest>(&mut seat.place, DRAWN, MOST_DRAWN)
     }
 
     /// Joins another seat into this one, by which the board is then closed. It takes no memory.

@@ -57,6 +57,14 @@ impl Play<u8, View> for Draw {
     ghost then = { drew };
 }
 
+pub struct DrawRest;
+
+impl Play<u8, View> for DrawRest {
+    ghost use Rattle.turn_lock.specs.Board.{drew_rest};
+
+    ghost then = { drew_rest };
+}
+
 pub struct Deal;
 
 impl Split<View> for Deal {

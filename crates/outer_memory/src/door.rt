@@ -118,7 +118,7 @@ impl<'a> Door for MemoryDoor<'a> {
       faults = d.failing.faults;
     } };
 
-    fn accept(&mut self) -> Result<MemoryConn<'a>, Fault> {
+    fn accept(&mut self) -> Result<Option<MemoryConn<'a>>, Fault> {
         if self.failing.fails() {
             return Err(Fault);
         }
@@ -126,7 +126,7 @@ impl<'a> Door for MemoryDoor<'a> {
             && let Ok(conn) = MemoryConn::new(self.alloc, c.bytes, c.sizes, c.room, c.failing)
         {
             self.out = Some(c.bytes);
-            return Ok(conn);
+            return Ok(Some(conn));
         }
         self.failing.count();
         Err(Fault)
@@ -138,6 +138,8 @@ impl<'a> Door for MemoryDoor<'a> {
             .note(self.alloc, &Finished { came, conn: &conn });
         self.failing.add(conn.faults());
     }
+
+    fn shut(&mut self) {}
 }
 
 /// A network in memory, on whose port these clients come in this order.

@@ -50,7 +50,7 @@ fn serve_one<D: Door>(door: &mut D) -> Option<usize>
     ensures { IsNone (D.entrance door.new).out }
 {
     match door.accept() {
-        Ok(mut conn) => {
+        Ok(Some(mut conn)) => {
             let mut piece = [0u8; 8];
             let took = match conn.pull(&mut piece) {
                 Pull::Took(count) => count,
@@ -60,7 +60,7 @@ fn serve_one<D: Door>(door: &mut D) -> Option<usize>
             door.finish(conn);
             Some(took)
         }
-        Err(Fault) => None,
+        Ok(None) | Err(Fault) => None,
     }
 }
 
@@ -116,7 +116,7 @@ fn serve_beside<D: Door>(rt: &impl Abort, first: &mut D, second: &mut D)
     requires first { IsNone (D.entrance first.old).out }
     requires second { IsNone (D.entrance second.old).out }
 {
-    let Ok(held) = second.accept() else {
+    let Ok(Some(held)) = second.accept() else {
         panic!(rt; "not as planned");
     };
     holds(rt, serve_one(first) == Some(3), "two");

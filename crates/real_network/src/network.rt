@@ -19,7 +19,11 @@ use std::alloc::{AllocError, Global};
 use std::io;
 use std::io::Stderr;
 use std::net::{Net, SocketAddr, TcpListener, TcpStream};
-use std::os::fd::AsRawFd;
+use std::os::fd::{AsRawFd, OwnedFd};
+use std::time::Duration;
+
+/// Milliseconds for which a door waits for a connection before it tells that none came.
+const WAIT: u64 = 250;
 
 /// How many connections may wait to be accepted.
 const BACKLOG: i32 = 1024;
@@ -75,28 +79,55 @@ impl RealDoor {
         Some(address.port())
     }
 
-    /// The next connection, and the time that its client has, where that is limited; unless there can be none.
-    fn next_client(&self) -> Option<(TcpStream, Option<Time>)> {
+    /// What is found at the socket, once a client is there or the door has waited long enough.
+    fn next_client(&self) -> Found {
+        let Some(listener) = self.listener.as_ref() else {
+            return Found::Broken;
+        };
         match &self.pending {
-            Some(pending) => {
-                let Client { stream, time } = pending.next(self.listener.as_ref()?)?;
-                Some((stream, Some(time)))
-            }
-            None => Some((self.next_stream()?, None)),
+            Some(pending) => match pending.next(listener) {
+                Some(Some(Client { stream, time })) => Found::Client(stream, Some(time)),
+                Some(None) => Found::None,
+                None => Found::Broken,
+            },
+            None => next_stream(listener),
         }
     }
+}
 
-    /// The next connection, unless there can be none. Where the system has no room for it now, it is asked again.
-    fn next_stream(&self) -> Option<TcpStream> {
-        let listener = self.listener.as_ref()?;
-        for _ in 0..u64::MAX {
-            match listener.accept() {
-                Ok((stream, _)) => return Some(stream),
-                Err(error) if is_passing(&error) => pause(),
-                Err(_) => return None,
-            }
+/// What a door finds at its socket.
+enum Found {
+    /// A connection, and the time that its client has, where that is limited.
+    Client(TcpStream, Option<Time>),
+    /// None that can be accepted now.
+    None,
+    /// There can be none.
+    Broken,
+}
+
+/// Whether no connection came for a while, or a signal did.
+fn is_late(error: &io::Error) -> bool {
+    match error.raw_os_error() {
+        Some(code) => matches!(code, libc::EAGAIN | libc::EINTR),
+        None => false,
+    }
+}
+
+/// The next connection of a listener at which clients have no limit. Where the system has no room for it now, it may
+/// be asked again.
+fn next_stream(listener: &TcpListener) -> Found {
+    match listener.accept() {
+        Ok((stream, _)) => {
+            // It has the listener's limit at first.
+            let _ = stream.set_read_timeout(None);
+            Found::Client(stream, None)
         }
-        None
+        Err(error) if is_late(&error) => Found::None,
+        Err(error) if is_passing(&error) => {
+            pause();
+            Found::None
+        }
+        Err(_) => Found::Broken,
     }
 }
 
@@ -121,13 +152,14 @@ impl Door for RealDoor {
 
     ghost entrance = { entrance_of };
 
-    fn accept(&mut self) -> Result<RealConn<TcpStream>, Fault> {
+    fn accept(&mut self) -> Result<Option<RealConn<TcpStream>>, Fault> {
         match self.next_client() {
-            Some((stream, time)) => {
+            Found::Client(stream, time) => {
                 self.is_out = true;
-                Ok(RealConn::new(stream, time))
+                Ok(Some(RealConn::new(stream, time)))
             }
-            None => {
+            Found::None => Ok(None),
+            Found::Broken => {
                 count(&mut self.faults);
                 Err(Fault)
             }
@@ -140,6 +172,18 @@ impl Door for RealDoor {
         self.faults = self.faults.saturating_add(conn.faults());
         self.is_out = false;
     }
+
+    fn shut(&mut self) {
+        self.listener = None;
+        self.pending = None;
+    }
+}
+
+/// Lets each accept at a listener wait for a while at most.
+fn limit_waits(listener: &TcpListener) -> io::Result<()> {
+    // The limit is the socket's, whichever of its descriptors sets it.
+    let socket = TcpStream::from(OwnedFd::from(listener.try_clone()?));
+    socket.set_read_timeout(Some(Duration::from_millis(WAIT)))
 }
 
 /// A listener on a port of the loopback address, where a run may follow another at once.
@@ -153,13 +197,15 @@ fn bind<R: Net<Listener = TcpListener, Stream = TcpStream>>(
     Ok(listener)
 }
 
-/// The pending clients of a listener, at which no call waits then, where they have so many seconds.
+/// The pending clients of a listener, at which no call waits then, where they have so many seconds. Else a call waits
+/// there for a while at most.
 fn pending_of(
     alloc: Global,
     listener: &TcpListener,
     patience: Option<u16>,
 ) -> io::Result<Option<Pending>> {
     let Some(patience) = patience else {
+        limit_waits(listener)?;
         return Ok(None);
     };
     listener.set_nonblocking(true)?;

@@ -20,6 +20,9 @@ const MOST_PENDING: usize = 255;
 /// So many milliseconds a door looks at those whom it found pending, before it looks anew who is there.
 const LOOK: i32 = 50;
 
+/// So many times it looks before it tells that nobody is there.
+const LOOKS: u8 = 5;
+
 /// Milliseconds that a client has at least behind its first byte, however long it waited for a door.
 const GRACE: u32 = 100;
 
@@ -210,14 +213,15 @@ impl Pending {
         Some(Err(looked))
     }
 
-    /// The next client who has said something, or for whom it is too late; None where there can be none.
-    pub(crate) fn next(&self, listener: &TcpListener) -> Option<Client> {
-        for _ in 0..u64::MAX {
+    /// The next client who has said something, or for whom it is too late, if there is one before the door has looked
+    /// long enough; None where there can be none.
+    pub(crate) fn next(&self, listener: &TcpListener) -> Option<Option<Client>> {
+        for _ in 0..LOOKS {
             match self.look(listener)? {
-                Ok(client) => return Some(client),
+                Ok(client) => return Some(Some(client)),
                 Err(mut looked) => looked.wait(LOOK),
             }
         }
-        None
+        Some(None)
     }
 }

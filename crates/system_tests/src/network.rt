@@ -1,12 +1,13 @@
 //! Real doors, whose clients come over the loopback address.
 
-ghost use Rattle.std.specs.Prelude.{IsNone};
+ghost use Rattle.std.specs.Prelude.{IsNone, IsSome, IfNone, IfSome};
 
 use crate::holding::{MEMORY, has_failed, holds};
 use okws_outer::conn::Conn;
 use okws_outer::door::Door;
 use okws_outer::network::Network;
 use okws_outer::stream::{Pull, Put};
+use real_network::conn::RealConn;
 use real_network::network::{RealDoor, RealNetwork};
 use std::io;
 use std::io::{Read, Write};
@@ -19,15 +20,29 @@ fn client<R: Net<Stream = TcpStream>>(rt: &R, port: u16, bytes: &[u8]) -> io::Re
     Ok(stream)
 }
 
+/// The next connection of a door, which is asked again where none came so far.
+fn next_conn(door: &mut RealDoor) -> Option<RealConn<TcpStream>>
+    requires { IsNone (⟦<RealDoor as Door>⟧.entrance door.old).out }
+    ensures some { IfSome result (λ _. IsSome (⟦<RealDoor as Door>⟧.entrance door.new).out) }
+    ensures none { IfNone result (IsNone (⟦<RealDoor as Door>⟧.entrance door.new).out) }
+{
+    for _ in 0..100u8 {
+        match door.accept() {
+            Ok(Some(conn)) => return Some(conn),
+            Ok(None) => {}
+            Err(_) => return None,
+        }
+    }
+    None
+}
+
 /// Accepts, takes one piece of at most 8 bytes, gives an answer and finishes; what was taken, and what
 /// was given.
 fn serve_one(door: &mut RealDoor, answer: &[u8]) -> Option<(Pull, Put)>
     requires { IsNone (⟦<RealDoor as Door>⟧.entrance door.old).out }
     ensures { IsNone (⟦<RealDoor as Door>⟧.entrance door.new).out }
 {
-    let Ok(mut conn) = door.accept() else {
-        return None;
-    };
+    let mut conn = next_conn(door)?;
     let pull = conn.pull(&mut [0u8; 8]);
     let put = conn.put(answer);
     door.finish(conn);
@@ -145,4 +160,35 @@ fn client_that_says_nothing_is_late(rt: HostRuntime) {
     holds(&rt, door.faults() == 1, "faults");
     doors.push(door).expect(&rt, MEMORY);
     network.close(doors);
+}
+
+#[test]
+fn nobody_comes_to_a_door(rt: HostRuntime) {
+    let mut network = RealNetwork::new(&rt, rt.stderr(), rt.alloc());
+    for patience in [None, Some(5)] {
+        let Ok(mut doors) = network.listen(rt.alloc(), 0, 2, patience) else {
+            panic!(rt; "not as planned");
+        };
+        let (Some(mut second), Some(mut first)) = (doors.pop(), doors.pop()) else {
+            panic!(rt; "not as planned");
+        };
+        let Some(port) = first.port() else {
+            panic!(rt; "not as planned");
+        };
+        let none = first.accept();
+        holds(&rt, matches!(&none, Ok(None)), "none came");
+        first.shut();
+        let _one = client(&rt, port, b"one").expect(&rt, "no connection");
+        holds(
+            &rt,
+            serve_one(&mut second, b"second") == Some((Pull::Took(3), Put::Done)),
+            "the other door",
+        );
+        second.shut();
+        holds(&rt, client(&rt, port, b"two").is_err(), "refused");
+        holds(&rt, first.faults() == 0 && second.faults() == 0, "faults");
+        doors.push(first).expect(&rt, MEMORY);
+        doors.push(second).expect(&rt, MEMORY);
+        network.close(doors);
+    }
 }

@@ -23,7 +23,7 @@ use Rattle.door_worker.specs.Serving.{Course, Broken, IsRead, IsHandled, IsAnswe
 use Rattle.door_worker.specs.declared.handler.Outcome.{Outcome}
 use Rattle.door_worker.specs.declared.answer.Answer.{Answer}
 use Rattle.door_worker.specs.declared.serving.Serving.{Serving}
-use Rattle.door_worker.specs.declared.serving.Serving.TheVariants.{Served, ConnFault, NoConn, NoMemory}
+use Rattle.door_worker.specs.declared.serving.Serving.TheVariants.{Served, ConnFault, NoConn, NoneCame, NoMemory}
 
 -- What a reading leaves that didn't fail: the interim response was given whole.
 pub record Ready (begun mid : ConnWire) (kept : Kept) : Type 0 where
@@ -127,6 +127,7 @@ module _ (S : Type 0) (handles : S → Asked → Outcome → Replied → S → T
   answered begun mid ended J now kept after reply course a (ConnFault b) was is done answer due w =
       cut begun mid ended J now kept after reply course a b was is done answer w.0 (subst (λ (t : List ℕ). Responds mid ended kept after t responded.ConnFault) due w.1)
   answered begun mid ended J now kept after reply course a NoConn was is done answer due w = absurd w
+  answered begun mid ended J now kept after reply course a NoneCame was is done answer due w = absurd w
   answered begun mid ended J now kept after reply course a NoMemory was is done answer due w = absurd w
 
   -- ---- a connection that failed before

@@ -18,7 +18,7 @@ use Rattle.door_worker.specs.declared.handler.Outcome.{Outcome}
 use Rattle.door_worker.specs.declared.answer.Answer.{Answer}
 use Rattle.door_worker.specs.declared.answer.Answer.TheVariants as answer
 use Rattle.door_worker.specs.declared.serving.Serving.{Serving}
-use Rattle.door_worker.specs.declared.serving.Serving.TheVariants.{Served, ConnFault, NoConn, NoMemory}
+use Rattle.door_worker.specs.declared.serving.Serving.TheVariants.{Served, ConnFault, NoConn, NoneCame, NoMemory}
 
 -- What came of a connection: a request that was handled, of which this became; a status that refuses its bytes; memory was refused before a request was whole; or the connection failed before.
 pub data Course : Type 0 where
@@ -60,6 +60,7 @@ abbrev pub IsTold : Course → Type 0 → Serving → Type 0
 IsTold course rose (Served a) = due_answer course ≡ Some a
 IsTold course rose (ConnFault a) = (due_answer course ≡ a) × rose
 IsTold course rose NoConn = ⊥
+IsTold course rose NoneCame = ⊥
 IsTold course rose NoMemory = ⊥
 
 -- All of it was written, unless the connection was cut.
@@ -67,6 +68,7 @@ abbrev pub IsWhole : List ℕ → Serving → Type 0
 IsWhole rest (Served a) = rest ≡ []
 IsWhole rest (ConnFault a) = Unit {0}
 IsWhole rest NoConn = ⊥
+IsWhole rest NoneCame = ⊥
 IsWhole rest NoMemory = ⊥
 
 -- An answer was written, and this is told of it.
@@ -74,6 +76,7 @@ abbrev pub IsAnswered : ConnWire → ConnWire → Kept → Kept → Replied → 
 IsAnswered old new before kept reply a (Served b) = (b ≡ a) × Responds old new before kept (answer_response a reply (method_text before.to_head)) responded.Sent
 IsAnswered old new before kept reply a (ConnFault b) = (b ≡ Some a) × Responds old new before kept (answer_response a reply (method_text before.to_head)) responded.ConnFault
 IsAnswered old new before kept reply a NoConn = ⊥
+IsAnswered old new before kept reply a NoneCame = ⊥
 IsAnswered old new before kept reply a NoMemory = ⊥
 
 -- What was written on a connection: the interim response and the response, or a front of them; and how many bytes of each, as it is kept. The count of the response stays at its last value once it is there.
@@ -116,6 +119,7 @@ abbrev pub WhereCut : Serving → Type 0 → Type 0
 WhereCut (Served a) fact = Unit {0}
 WhereCut (ConnFault a) fact = fact
 WhereCut NoConn fact = Unit {0}
+WhereCut NoneCame fact = Unit {0}
 WhereCut NoMemory fact = Unit {0}
 
 -- One connection of the door, whole or cut; the door's count rose where it was cut.
@@ -126,9 +130,10 @@ pub record ServesOne {C S : Type 0} (wire : C → ConnWire) (handles : S → Ask
   pub attends : Attends handles starves begun ended J now kept reply serving
   pub rose : WhereCut serving (Rose old.faults new.faults)
 
--- What serving a door answers. NoConn: the accept failed and was counted. NoMemory: nothing changed, and no connection was accepted.
+-- What serving a door answers. NoConn: the accept failed and was counted. NoneCame and NoMemory: nothing changed, and no connection was accepted.
 abbrev pub Serves : {C S : Type 0} → (C → ConnWire) → (S → Asked → Outcome → Replied → S → Type 0) → (S → S → Type 0) → Entrance → Entrance → S → S → Kept → Replied → Serving → Type 0
 Serves wire handles starves old new J now kept reply (Served a) = ServesOne wire handles starves old new J now kept reply (Served a)
 Serves wire handles starves old new J now kept reply (ConnFault a) = ServesOne wire handles starves old new J now kept reply (ConnFault a)
 Serves wire handles starves old new J now kept reply NoConn = RefusesEntry old new × (now ≡ J)
+Serves wire handles starves old new J now kept reply NoneCame = (new ≡ old) × (now ≡ J)
 Serves wire handles starves old new J now kept reply NoMemory = (new ≡ old) × (now ≡ J)

@@ -25,13 +25,15 @@ pub enum Serving {
     ConnFault(Option<Answer>),
     /// No connection came, which was counted.
     NoConn,
+    /// No connection came so far; nothing changed.
+    NoneCame,
     /// Memory was refused before a connection was accepted; nothing changed.
     NoMemory,
 }
 
 /// Takes the next connection of a door, reads its request, has it handled, writes the response, and
-/// finishes the connection, whatever happened on it. It may wait for a connection. What was read and
-/// how much was written is kept, and a service's Reply is at hand.
+/// finishes the connection, whatever happened on it. It may wait for a connection, or tell that none came
+/// so far. What was read and how much was written is kept, and a service's Reply is at hand.
 pub fn serve_one<D: Door, H: Handler>(
     alloc: Global,
     door: &mut D,
@@ -47,12 +49,13 @@ pub fn serve_one<D: Door, H: Handler>(
         return Serving::NoMemory;
     }
     match door.accept() {
-        Ok(conn) => {
+        Ok(Some(conn)) => {
             let mut conn = conn;
             let serving = attend(alloc, &mut conn, handler, kept, reply);
             door.finish(conn);
             serving
         }
+        Ok(None) => Serving::NoneCame,
         Err(_) => Serving::NoConn,
     }
 }

@@ -17,7 +17,7 @@ use Rattle.admin_console.specs.declared.answer.Answer.{Answer}
 use Rattle.admin_console.specs.declared.controls.Publishing.{Publishing}
 use Rattle.admin_console.specs.declared.controls.Relaunching.{Relaunching}
 use Rattle.admin_console.specs.declared.step.Stepped.{Stepped}
-use Rattle.admin_console.specs.declared.step.Stepped.TheVariants.{Answered, Finished, ConsoleFault}
+use Rattle.admin_console.specs.declared.step.Stepped.TheVariants.{Answered, Finished, Stop, ConsoleFault}
 use Rattle.admin_console.specs.declared.step.Done.TheVariants as done
 use Rattle.admin_console.proofs.Lines.{order_held}
 
@@ -75,6 +75,7 @@ module _ (S : Type 0) (publishes : S → ℕ → List ℕ → Publishing → S �
       let rose : Rose start.faults new.faults = rose_later start.faults old.faults new.faults later tells.told.2 in
       subst (λ (x : Option Answer). Steps publishes relaunches C start new before after J now (ConsoleFault x)) (sym tells.told.0) (done, given, rose)
   told start mid old new before after held command J now a Finished t is carried tells = absurd tells.told
+  told start mid old new before after held command J now a Stop t is carried tells = absurd tells.told
 
   pub ends : (start mid new : ConnWire) (before after : ℕ) (held : List ℕ) (command : Order) (J now : S) → TakesCommand start mid before after held taken.Line → command ≡ order_of C (strip_carriage_return held)
       → CarriesOut publishes relaunches mid new after command J now done.Ends → Steps publishes relaunches C start new before after J now Finished
@@ -82,6 +83,13 @@ module _ (S : Type 0) (publishes : S → ℕ → List ℕ → Publishing → S �
       let command_is = commanded start mid new new before after held [] t (subst (λ (b : List ℕ). Consumes mid.left new.left b) carried.is.1 carried.taken_are) refl in
       let order_is = sym (said C start mid before after held command t is) ∙ carried.is.0 in
       (inl (strip_carriage_return t.text, command_is, order_is), carried.given ∙ t.given, carried.is.2)
+
+  pub stops : (start mid new : ConnWire) (before after : ℕ) (held : List ℕ) (command : Order) (J now : S) → TakesCommand start mid before after held taken.Line → command ≡ order_of C (strip_carriage_return held)
+      → CarriesOut publishes relaunches mid new after command J now done.Stops → Steps publishes relaunches C start new before after J now Stop
+  stops start mid new before after held command J now t is carried =
+      let command_is = commanded start mid new new before after held [] t (subst (λ (b : List ℕ). Consumes mid.left new.left b) carried.is.1 carried.taken_are) refl in
+      let order_is = sym (said C start mid before after held command t is) ∙ carried.is.0 in
+      ((strip_carriage_return t.text, command_is, order_is), carried.given ∙ t.given, carried.is.2)
 
   pub fails : (start mid new : ConnWire) (before after : ℕ) (held : List ℕ) (command : Order) (J now : S) → TakesCommand start mid before after held taken.Line → command ≡ order_of C (strip_carriage_return held)
       → CarriesOut publishes relaunches mid new after command J now done.Failed → Steps publishes relaunches C start new before after J now (ConsoleFault None)

@@ -9,13 +9,14 @@ use Rattle.admin_console.specs.declared.controls.Relaunching.TheVariants as rela
 use Rattle.admin_console.specs.declared.rule.Rule.TheVariants as rule
 use Rattle.admin_console.specs.Orders.{rule_number}
 
--- The line of an answer: `published N`, `relaunched K`, `dead TRIES`, `refused LINE RULE` or `no memory`, and LF.
+-- The line of an answer: `published N`, `relaunched K`, `dead TRIES`, `refused LINE RULE`, `no memory` or `stopping N`, and LF.
 abbrev pub answer_text : Answer → List ℕ
 answer_text (answer.Published n) = codes "published " ++ decimal n ++ 10 ∷ []
 answer_text (answer.Relaunched k) = codes "relaunched " ++ decimal k ++ 10 ∷ []
 answer_text (answer.Dead tries) = codes "dead " ++ decimal tries ++ 10 ∷ []
 answer_text (answer.Refused line broken) = codes "refused " ++ decimal line ++ 32 ∷ decimal (rule_number broken) ++ 10 ∷ []
 answer_text answer.NoMemory = codes "no memory" ++ 10 ∷ []
+answer_text (answer.Stopping n) = codes "stopping " ++ decimal n ++ 10 ∷ []
 
 -- The answer to a publication of this line.
 abbrev pub publishing_answer : ℕ → Publishing → Answer

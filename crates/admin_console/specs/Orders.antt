@@ -9,7 +9,7 @@ use Rattle.plain_text.specs.Words.{words, one_word, two_words}
 use Rattle.plain_text.specs.Decimals.{number}
 use Rattle.admin_console.specs.declared.order.TheConstants.{LONGEST_COMMAND}
 use Rattle.admin_console.specs.declared.order.Order.{Order}
-use Rattle.admin_console.specs.declared.order.Order.TheVariants.{Publish, Relaunch, End, Refused}
+use Rattle.admin_console.specs.declared.order.Order.TheVariants.{Publish, Relaunch, End, Stop, Refused}
 use Rattle.admin_console.specs.declared.rule.Rule.{Rule}
 use Rattle.admin_console.specs.declared.rule.Rule.TheVariants.{NoCommand, Undeclared, TooLong, CutShort, EditionsSpent, IncarnationsSpent}
 
@@ -26,10 +26,10 @@ rule_number IncarnationsSpent = 6
 abbrev pub no_command : Order
 no_command = Refused NoCommand 0
 
--- `end` has no further word.
-abbrev pub end_order : List (List ℕ) → Order
-end_order [] = End
-end_order (word ∷ more) = no_command
+-- A command that has no further word.
+abbrev pub alone_order : Order → List (List ℕ) → Order
+alone_order order [] = order
+alone_order order (word ∷ more) = no_command
 
 -- A relaunch of the service, where it is declared.
 abbrev pub relaunch_declared : Option ℕ → Order
@@ -66,7 +66,8 @@ words_order C [] = no_command
 words_order C (word ∷ parts) =
     if same_bytes word (codes "publish") then publish_order C (two_words parts)
     else if same_bytes word (codes "relaunch") then relaunch_order C (one_word parts)
-    else if same_bytes word (codes "end") then end_order parts
+    else if same_bytes word (codes "end") then alone_order End parts
+    else if same_bytes word (codes "stop") then alone_order Stop parts
     else no_command
 
 -- What a line says, which has neither its LF nor the CR before that: a line over 256 bytes is no command.
@@ -78,4 +79,5 @@ abbrev pub OrderFits : Config → Order → Type 0
 OrderFits C (Publish t size) = (t < length C.templates) × (size ≤ LONGEST_TEMPLATE)
 OrderFits C (Relaunch s) = s < length C.services
 OrderFits C End = ⊤
+OrderFits C Stop = ⊤
 OrderFits C (Refused rule size) = ⊤

@@ -18,7 +18,7 @@ use Rattle.admin_console.specs.declared.answer.Answer.TheVariants as answer
 use Rattle.admin_console.specs.declared.controls.Publishing.{Publishing}
 use Rattle.admin_console.specs.declared.controls.Relaunching.{Relaunching}
 use Rattle.admin_console.specs.declared.step.Stepped.{Stepped}
-use Rattle.admin_console.specs.declared.step.Stepped.TheVariants.{Answered, Finished, ConsoleFault}
+use Rattle.admin_console.specs.declared.step.Stepped.TheVariants.{Answered, Finished, Stop, ConsoleFault}
 use Rattle.admin_console.specs.declared.step.Done.{Done}
 use Rattle.admin_console.specs.declared.step.Done.TheVariants as done
 
@@ -31,6 +31,7 @@ abbrev pub size_said : Order → ℕ
 size_said (order.Publish t size) = size
 size_said (order.Relaunch s) = 0
 size_said order.End = 0
+size_said order.Stop = 0
 size_said (order.Refused broken size) = size
 
 -- What became of a publication of these bytes, of which so many were to follow, where these are left: it was carried out; or the input ended before, which is refused; or memory was refused, and nothing was done.
@@ -46,12 +47,14 @@ abbrev pub IsDone : {S : Type 0} → (S → ℕ → List ℕ → Publishing → 
 IsDone publishes relaunches line (order.Publish t size) bytes left J a now = IsPublished publishes line t size bytes left J a now
 IsDone publishes relaunches line (order.Relaunch s) bytes left J a now = (bytes ≡ []) × (r : Relaunching) × relaunches J s r now × (a ≡ relaunching_answer line r)
 IsDone publishes relaunches line order.End bytes left J a now = ⊥
+IsDone publishes relaunches line order.Stop bytes left J a now = ⊥
 IsDone publishes relaunches line (order.Refused broken size) bytes left J a now = AreFollowing size bytes left × (a ≡ answer.Refused line broken) × (now ≡ J)
 
 -- What carrying out a command does to the console and the site.
 abbrev pub Carries : {S : Type 0} → (S → ℕ → List ℕ → Publishing → S → Type 0) → (S → ℕ → Relaunching → S → Type 0) → ConnWire → ConnWire → ℕ → Order → S → S → List ℕ → Done → Type 0
 Carries publishes relaunches old new line command J now bytes (done.Answered a) = IsDone publishes relaunches line command bytes new.left J a now
 Carries publishes relaunches old new line command J now bytes done.Ends = (command ≡ order.End) × (bytes ≡ []) × (now ≡ J)
+Carries publishes relaunches old new line command J now bytes done.Stops = (command ≡ order.Stop) × (bytes ≡ []) × (now ≡ J)
 Carries publishes relaunches old new line command J now bytes done.Failed = (now ≡ J) × (length bytes < size_said command) × Rose old.faults new.faults
 
 -- The same, with the bytes that are taken behind the line.
@@ -66,6 +69,7 @@ pub record CarriesOut {S : Type 0} (publishes : S → ℕ → List ℕ → Publi
 abbrev pub IsRefused : ConnWire → ConnWire → ℕ → Rule → ℕ → List ℕ → Done → Type 0
 IsRefused old new line broken size bytes (done.Answered a) = AreFollowing size bytes new.left × (a ≡ answer.Refused line broken)
 IsRefused old new line broken size bytes done.Ends = ⊥
+IsRefused old new line broken size bytes done.Stops = ⊥
 IsRefused old new line broken size bytes done.Failed = (length bytes < size) × Rose old.faults new.faults
 
 -- A refused command's bytes are dropped.
@@ -81,6 +85,7 @@ abbrev pub IsTold : ConnWire → ConnWire → Answer → Stepped → Type 0
 IsTold old new a (Answered b) = (b ≡ a) × Appends old.given new.given (answer_text a)
 IsTold old new a (ConsoleFault b) = (b ≡ Some a) × AppendsPrefix old.given new.given (answer_text a) × Rose old.faults new.faults
 IsTold old new a Finished = ⊥
+IsTold old new a Stop = ⊥
 
 -- An answer was told, and nothing taken.
 pub record Tells (old new : ConnWire) (a : Answer) (what : Stepped) : Type 0 where
@@ -110,6 +115,10 @@ pub record Does {S : Type 0} (publishes : S → ℕ → List ℕ → Publishing 
 abbrev pub Ends : Config → ConnWire → ConnWire → ℕ → ℕ → Type 0
 Ends C old new before after = (line : List ℕ) × Command old new before after line [] × (order_of C line ≡ order.End)
 
+-- The next command is `stop`.
+abbrev pub Stops : Config → ConnWire → ConnWire → ℕ → ℕ → Type 0
+Stops C old new before after = (line : List ℕ) × Command old new before after line [] × (order_of C line ≡ order.Stop)
+
 -- Empty lines and a rest without LF are taken, and nothing is left.
 pub record RunsOut (old new : ConnWire) (before after : ℕ) : Type 0 where
   pub blanks : List (List ℕ)
@@ -131,12 +140,15 @@ pub record IsCut (C : Config) (taken : List ℕ) : Type 0 where
 
 -- What a step answers.
 -- Answered: the next command was carried out, and its answer was given. Finished: it is `end`, or the input ended before one was whole; nothing was done.
+-- Stop: it is `stop`; nothing was done, and no answer was given yet.
 -- ConsoleFault: the count rose, and a command was carried out of whose answer just a front was given; or the bytes that were taken are no whole command, and nothing was done.
 abbrev pub Steps : {S : Type 0} → (S → ℕ → List ℕ → Publishing → S → Type 0) → (S → ℕ → Relaunching → S → Type 0) → Config → ConnWire → ConnWire → ℕ → ℕ → S → S → Stepped → Type 0
 Steps publishes relaunches C old new before after J now (Answered a) =
     Does publishes relaunches C old new before after J now a × Appends old.given new.given (answer_text a)
 Steps publishes relaunches C old new before after J now Finished =
     (Ends C old new before after ⊎ RunsOut old new before after) × (new.given ≡ old.given) × (now ≡ J)
+Steps publishes relaunches C old new before after J now Stop =
+    Stops C old new before after × (new.given ≡ old.given) × (now ≡ J)
 Steps publishes relaunches C old new before after J now (ConsoleFault (Some a)) =
     Does publishes relaunches C old new before after J now a × AppendsPrefix old.given new.given (answer_text a) × Rose old.faults new.faults
 Steps publishes relaunches C old new before after J now (ConsoleFault None) =

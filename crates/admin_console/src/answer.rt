@@ -20,6 +20,8 @@ pub enum Answer {
     Refused { line: u64, rule: Rule },
     /// `no memory`: memory was refused.
     NoMemory,
+    /// `stopping N`: no connection is begun behind so many.
+    Stopping(u64),
 }
 
 /// The answer to a publication of this line.
@@ -120,5 +122,6 @@ pub(crate) fn compose(text: &mut Vec<u8>, answer: Answer)
         Answer::Dead(tries) => compose_number(text, b"dead ", u64::from(tries)),
         Answer::Refused { line, rule } => compose_refusal(text, line, rule.number()),
         Answer::NoMemory => compose_no_memory(text),
+        Answer::Stopping(count) => compose_number(text, b"stopping ", count),
     }
 }

@@ -3,7 +3,7 @@
 ghost use Rattle.std.specs.Prelude.{◌≡◌, ◌≤◌, length};
 ghost use Rattle.okws_base.specs.declared.limit.TheConstants.{MOST_SERVICES, MOST_TEMPLATES};
 ghost use Rattle.plain_text.specs.Words.{words, one_word, two_words};
-ghost use Rattle.admin_console.specs.Orders.{order_of, end_order, relaunch_order, publish_order, sized_order, OrderFits};
+ghost use Rattle.admin_console.specs.Orders.{order_of, alone_order, relaunch_order, publish_order, sized_order, OrderFits};
 
 use crate::rule::Rule;
 use okws_base::limit::LONGEST_TEMPLATE;
@@ -24,6 +24,8 @@ pub enum Order {
     Relaunch(u16),
     /// The console ends.
     End,
+    /// The run is to end once what has begun is answered, and the console ends.
+    Stop,
     /// The line breaks this rule, and so many bytes that follow are dropped.
     Refused { rule: Rule, size: u32 },
 }
@@ -35,11 +37,11 @@ fn refused(rule: Rule) -> Order
     Order::Refused { rule, size: 0 }
 }
 
-fn read_end(rest: &[u8]) -> Order
-    ensures { result ≡ end_order (words rest.now) }
+fn read_alone(order: Order, rest: &[u8]) -> Order
+    ensures { result ≡ alone_order order (words rest.now) }
 {
     match first_word(rest) {
-        None => Order::End,
+        None => order,
         Some(_) => refused(Rule::NoCommand),
     }
 }
@@ -94,8 +96,8 @@ fn read_publish(config: &Config, rest: &[u8]) -> Order
 }
 
 /// What a line without its end says under a configuration: `publish NAME LENGTH`, where LENGTH has 1 to
-/// 9 decimal digits and so many bytes follow the line, `relaunch SERVICE` or `end`, the words parted by
-/// spaces or tabs. Anything else, and a line over 256 bytes, is no command.
+/// 9 decimal digits and so many bytes follow the line, `relaunch SERVICE`, `stop` or `end`, the words parted
+/// by spaces or tabs. Anything else, and a line over 256 bytes, is no command.
 #[tactic(auto, unfolding(crate::specs::Orders::order_of))]
 pub fn order_of(config: &Config, line: &[u8]) -> Order
     requires services { length config.now.services ≤ MOST_SERVICES }
@@ -114,7 +116,9 @@ pub fn order_of(config: &Config, line: &[u8]) -> Order
     } else if word == b"relaunch".as_slice() {
         read_relaunch(config, rest)
     } else if word == b"end".as_slice() {
-        read_end(rest)
+        read_alone(Order::End, rest)
+    } else if word == b"stop".as_slice() {
+        read_alone(Order::Stop, rest)
     } else {
         refused(Rule::NoCommand)
     }

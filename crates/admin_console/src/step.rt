@@ -26,6 +26,8 @@ pub enum Stepped {
     Answered(Answer),
     /// `end`, or the console's end between commands; a rest without LF is no line.
     Finished,
+    /// The next command is `stop`, which is not answered yet; nothing was done.
+    Stop,
     /// A call of the console failed and was counted: before a command was whole, or behind one of whose
     /// answer just a front was given.
     ConsoleFault(Option<Answer>),
@@ -36,13 +38,15 @@ enum Done {
     Answered(Answer),
     /// It was `end`.
     Ends,
+    /// It was `stop`.
+    Stops,
     /// The console failed before its bytes were whole.
     Failed,
 }
 
 /// Takes the next command of a console, carries it out and answers it by a line. It may wait for the
 /// operator. A command is the next line that isn't empty, with the bytes that a publication has; no byte
-/// behind it is taken.
+/// behind it is taken. `stop` is for the caller to carry out, and to answer by `tell`.
 pub fn step<R: Wait, C: Conn, O: Controls>(
     rt: &R,
     alloc: Global,
@@ -66,8 +70,9 @@ pub fn step<R: Wait, C: Conn, O: Controls>(
     }
     let order = order_of(config, without_carriage_return(&reader.text));
     match carry_out(alloc, console, lines, order, config, controls) {
-        Done::Answered(answer) => tell(console, &mut reader.text, answer),
+        Done::Answered(answer) => tell_line(console, &mut reader.text, answer),
         Done::Ends => Stepped::Finished,
+        Done::Stops => Stepped::Stop,
         Done::Failed => Stepped::ConsoleFault(None),
     }
 }
@@ -88,6 +93,7 @@ fn carry_out<C: Conn, O: Controls>(
 {
     match order {
         Order::End => Done::Ends,
+        Order::Stop => Done::Stops,
         Order::Relaunch(service) => {
             let relaunching = controls.relaunch(service);
             Done::Answered(answer_to_relaunching(relaunching, line))
@@ -139,7 +145,7 @@ fn refuse<C: Conn>(console: &mut C, line: u64, rule: Rule, size: u32) -> Done
 }
 
 /// Gives the line of an answer.
-fn tell<C: Conn>(console: &mut C, text: &mut Vec<u8>, answer: Answer) -> Stepped
+fn tell_line<C: Conn>(console: &mut C, text: &mut Vec<u8>, answer: Answer) -> Stepped
     requires { HELD ≤ vec_capacity text.old }
     ensures told { Tells (C.wire console.old) (C.wire console.new) answer result }
     ensures room { HELD ≤ vec_capacity text.new }
@@ -149,4 +155,12 @@ fn tell<C: Conn>(console: &mut C, text: &mut Vec<u8>, answer: Answer) -> Stepped
         Put::Done => Stepped::Answered(answer),
         Put::Stopped(_) => Stepped::ConsoleFault(Some(answer)),
     }
+}
+
+/// Answers the last command of a console.
+pub fn tell<C: Conn>(console: &mut C, reader: &mut Reader, answer: Answer) -> Stepped
+    ensures told { Tells (C.wire console.old) (C.wire console.new) answer result }
+    ensures lines { reader.new ≡ reader.old }
+{
+    tell_line(console, &mut reader.text, answer)
 }

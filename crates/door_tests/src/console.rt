@@ -7,7 +7,7 @@ use admin_console::answer::Answer;
 use admin_console::controls::{Controls, Publishing, Relaunching};
 use admin_console::reader::Reader;
 use admin_console::rule::Rule;
-use admin_console::step::{Stepped, step};
+use admin_console::step::{Stepped, step, tell};
 use okws_base::items::Items;
 use okws_base::limit::{MOST_SERVICES, MOST_TEMPLATES};
 use okws_base::name::Name;
@@ -341,4 +341,42 @@ fn nothing_behind_the_end_is_taken(rt: HostRuntime) {
     holds(&rt, last == Stepped::Finished, "the last step");
     same(&rt, console.left(), b"more");
     holds(&rt, Rule::NoCommand.number() == 1, "the rule's number");
+}
+
+#[test]
+fn a_stop_is_left_to_the_caller(rt: HostRuntime) {
+    let alloc = rt.alloc();
+    let config = declared(&rt, alloc);
+    let mut steered = site_of(&config);
+    let mut reader = Reader::new(alloc).expect(&rt, MEMORY);
+    let mut console = conn(&rt, alloc, b"stop now\n\t stop \nrelaunch guest\n", 99, &[]);
+    let refused = Answer::Refused {
+        line: 1,
+        rule: Rule::NoCommand,
+    };
+    let first = next(&rt, alloc, &mut console, &mut reader, &mut steered);
+    holds(&rt, first == Stepped::Answered(refused), "the first step");
+    let second = next(&rt, alloc, &mut console, &mut reader, &mut steered);
+    holds(&rt, second == Stepped::Stop, "the second step");
+    same(&rt, console.given(), b"refused 1 1\n");
+    let answer = Answer::Stopping(1_234_567_890_123);
+    let told = tell(&mut console, &mut reader, answer);
+    holds(&rt, told == Stepped::Answered(answer), "told");
+    same(
+        &rt,
+        console.given(),
+        b"refused 1 1\nstopping 1234567890123\n",
+    );
+    same(&rt, console.left(), b"relaunch guest\n");
+    holds(&rt, steered.relaunched == 0, "nothing was done");
+    let mut mute = conn(&rt, alloc, b"stop\n", 5, &[]);
+    let step = next(&rt, alloc, &mut mute, &mut reader, &mut steered);
+    holds(&rt, step == Stepped::Stop, "the mute's step");
+    let untold = tell(&mut mute, &mut reader, Answer::Stopping(0));
+    holds(
+        &rt,
+        untold == Stepped::ConsoleFault(Some(Answer::Stopping(0))),
+        "untold",
+    );
+    same(&rt, mute.given(), b"stopp");
 }

@@ -98,6 +98,7 @@ same_serves : {X : Type 0} (wire : X → ConnWire) (C : Config) (n : ℕ) (e f :
 same_serves wire C n e f J K kept reply (serving.Served a) h = same_handled C n J h.attends.course reply K h.attends.handled
 same_serves wire C n e f J K kept reply (serving.ConnFault a) h = same_handled C n J h.attends.course reply K h.attends.handled
 same_serves wire C n e f J K kept reply serving.NoConn h = same_at_once J K h.1
+same_serves wire C n e f J K kept reply serving.NoneCame h = same_at_once J K h.1
 same_serves wire C n e f J K kept reply serving.NoMemory h = same_at_once J K h.1
 
 same_next : (C : Config) (c : ℕ) (J K : Life) → TendsNext C c J K → SameWorker J K
@@ -108,6 +109,7 @@ same_after : (C : Config) (c : ℕ) (what : Serving) (J K : Life) → TendsAfter
 same_after C c (serving.Served a) J K h = same_next C c J K h
 same_after C c (serving.ConnFault a) J K h = same_next C c J K h
 same_after C c serving.NoConn J K h = same_next C c J K h
+same_after C c serving.NoneCame J K h = same_at_once J K h
 same_after C c serving.NoMemory J K h = same_at_once J K h
 
 pub same_round : {X : Type 0} (wire : X → ConnWire) (C : Config) (n number : ℕ) (e f : Entrance) (J K : Life) (what : Serving) → Round wire C n number e f J K what → SameWorker J K
@@ -132,10 +134,12 @@ same_done : (C : Config) (line : ℕ) (o : Order) (bytes : List ℕ) (left : Opt
 same_done C line (order.Publish t size) bytes left J a K h = same_published line t size bytes left J a K h
 same_done C line (order.Relaunch s) bytes left J a K h = same_asks C J s h.1 K h.2
 same_done C line order.End bytes left J a K h = absurd h
+same_done C line order.Stop bytes left J a K h = absurd h
 same_done C line (order.Refused broken size) bytes left J a K h = same_at_once J K h.2
 
 pub same_step : (C : Config) (w x : ConnWire) (before after : ℕ) (J K : Life) (what : Stepped) → StepsAt C w x before after J K what → SameWorker J K
 same_step C w x before after J K (stepped.Answered a) h = same_done C after (order_of C h.0.line) h.0.bytes x.left J a K h.0.is
 same_step C w x before after J K stepped.Finished h = same_at_once J K h.2
+same_step C w x before after J K stepped.Stop h = same_at_once J K h.2
 same_step C w x before after J K (stepped.ConsoleFault (Some a)) h = same_done C after (order_of C h.0.line) h.0.bytes x.left J a K h.0.is
 same_step C w x before after J K (stepped.ConsoleFault None) h = same_at_once J K h.3

@@ -49,6 +49,7 @@ module _ (C : Config) (n : ℕ) (J K : Working) where
     method = h.method;
     written = h.written;
     taken = h.taken;
+    prompt = h.prompt;
     given = h.given;
     is = h.is;
     handled = handled_life h.course reply h.handled;
@@ -67,12 +68,14 @@ module _ (C : Config) (n : ℕ) (J K : Working) where
     serves_life (serving.Served a) h = one_life (serving.Served a) h
     serves_life (serving.ConnFault a) h = one_life (serving.ConnFault a) h
     serves_life serving.NoConn h = (h.0, life_same h.1)
+    serves_life serving.NoneCame h = (h.0, life_same h.1)
     serves_life serving.NoMemory h = (h.0, life_same h.1)
 
     serves_spends : (what : Serving) → Serves wire (HandlesBy C n) StarvesBy e f J K kept reply what → J.spare ≤ K.spare + TURN_ITEMS
     serves_spends (serving.Served a) h = handled_spends h.attends.course reply h.attends.handled
     serves_spends (serving.ConnFault a) h = handled_spends h.attends.course reply h.attends.handled
     serves_spends serving.NoConn h = spends_none h.1
+    serves_spends serving.NoneCame h = spends_none h.1
     serves_spends serving.NoMemory h = spends_none h.1
 
     -- of a round's places those of a turn are left

@@ -25,6 +25,7 @@ Commands C (answer ∷ answers) w x before after J K =
 abbrev pub ends_by : Stepped → Option Overseen
 ends_by (stepped.Answered answer) = None
 ends_by stepped.Finished = Some overseen.Finished
+ends_by stepped.Stop = Some overseen.Stop
 ends_by (stepped.ConsoleFault answer) = Some overseen.ConsoleFault
 
 -- What a worker did at the console: commands, each answered, and then the step by which it ended so.

@@ -24,6 +24,8 @@ use std::sync::Wait;
 pub enum Overseen {
     /// By `end`, or by the end of its input.
     Finished,
+    /// By `stop`, which is not carried out and not answered yet.
+    Stop,
     /// A call of it failed and was counted.
     ConsoleFault,
 }
@@ -58,6 +60,7 @@ impl<
             match step(rt, alloc, console, reader, site, self) {
                 Stepped::Answered(_) => {}
                 Stepped::Finished => return Overseen::Finished,
+                Stepped::Stop => return Overseen::Stop,
                 Stepped::ConsoleFault(_) => return Overseen::ConsoleFault,
             }
         }

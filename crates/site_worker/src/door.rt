@@ -1,10 +1,10 @@
 //! A worker at its door.
 
-ghost use Rattle.std.specs.Prelude.{◌≡◌, ◌≤◌, ◌+◌, IsNone, length};
+ghost use Rattle.std.specs.Prelude.{◌≡◌, ◌<◌, ◌≤◌, ◌+◌, IsNone, length, slice_index};
 ghost use Rattle.site_worker.specs.Lives.{SameWorker};
 ghost use Rattle.turn_lock.specs.Board.{most_drawn};
 ghost use Rattle.turn_lock.specs.BoardSeats.{MayDraw};
-ghost use Rattle.site_worker.specs.Rounds.{Attends, Round, TendsAfter, TendsNext, is_starved, taken};
+ghost use Rattle.site_worker.specs.Rounds.{Attends, Round, TendsAfter, TendsNext, WhereAwaited, is_awaited, is_starved, taken};
 ghost use Rattle.site_worker.specs.declared.worker.TheConstants.{TURN_ITEMS};
 
 use crate::worker::{ROUND_ITEMS, Worker};
@@ -22,6 +22,9 @@ use site_locks::named::Site;
 use std::sync::Wait;
 use turn_lock::board::Board;
 
+/// The word of the numbers' board that shows that the run is stopped: it is 0 until then.
+pub const STOPPED: u16 = 0;
+
 /// What a worker did at a door.
 #[derive(Clone, Copy)]
 pub struct Attended {
@@ -36,8 +39,18 @@ fn is_starved(serving: &Serving) -> bool
     ensures { result ≡ is_starved serving.now }
 {
     match serving {
-        Serving::Served(_) | Serving::ConnFault(_) | Serving::NoConn => false,
+        Serving::Served(_) | Serving::ConnFault(_) | Serving::NoConn | Serving::NoneCame => false,
         Serving::NoMemory => true,
+    }
+}
+
+// Whether no connection came so far.
+fn is_awaited(serving: &Serving) -> bool
+    ensures { result ≡ is_awaited serving.now }
+{
+    match serving {
+        Serving::Served(_) | Serving::ConnFault(_) | Serving::NoConn | Serving::NoMemory => false,
+        Serving::NoneCame => true,
     }
 }
 
@@ -47,7 +60,7 @@ fn taken(serving: &Serving) -> u64
 {
     match serving {
         Serving::Served(_) | Serving::ConnFault(_) => 1,
-        Serving::NoConn | Serving::NoMemory => 0,
+        Serving::NoConn | Serving::NoneCame | Serving::NoMemory => 0,
     }
 }
 
@@ -86,7 +99,7 @@ impl<
                 self.look_round(number)
             }
             Serving::NoConn => self.look_round(number),
-            Serving::NoMemory => {}
+            Serving::NoneCame | Serving::NoMemory => {}
         }
     }
 
@@ -111,8 +124,83 @@ impl<
         serving
     }
 
+    // Serves the door under a connection's number once a connection came, or where none did before the run was
+    // stopped, which the seat has then seen.
+    fn go_once<D: Door>(
+        &mut self,
+        door: &mut D,
+        kept: &mut Kept,
+        reply: &mut Reply,
+        numbers: &Board,
+        place: &mut turn_lock::board::Seat,
+        number: u64,
+    ) -> Serving
+        requires board { place.old.board ≡ numbers.now.id }
+        requires idle { IsNone (D.entrance door.old).out }
+        ensures idle { IsNone (D.entrance door.new).out }
+        ensures round { Round D.Conn.wire N.site N.launcher number (D.entrance door.old) (D.entrance door.new) self.old.life self.new.life result }
+        ensures place { place.new ≡ record place.old { seen = place.new.seen } }
+        ensures rises { slice_index place.old.seen STOPPED ≤ slice_index place.new.seen STOPPED }
+        ensures awaited { WhereAwaited result (0 < slice_index place.new.seen STOPPED) }
+    {
+        let rt = self.rt;
+        for _ in rt.forever() {
+            let serving = self.go_round(door, kept, reply, number);
+            if !is_awaited(&serving) {
+                return serving;
+            }
+            let shown = numbers.current(place, STOPPED);
+            if shown > 0 {
+                return serving;
+            }
+        }
+        unreachable!()
+    }
+
+    // The same, one connection after the other, each under a number that it draws of those below the limit.
+    fn go_on<D: Door>(
+        &mut self,
+        door: &mut D,
+        kept: &mut Kept,
+        reply: &mut Reply,
+        numbers: &Board,
+        place: &mut turn_lock::board::Seat,
+        limit: u64,
+    ) -> Attended
+        requires limit { limit ≤ most_drawn }
+        requires board { place.old.board ≡ numbers.now.id }
+        requires may { MayDraw place.old.drawn }
+        requires idle { IsNone (D.entrance door.old).out }
+        ensures idle { IsNone (D.entrance door.new).out }
+        ensures place { place.new ≡ record place.old { seen = place.new.seen; drawn = place.new.drawn } }
+        ensures attends { Attends D.Conn.wire N.site N.launcher limit (slice_index place.new.seen STOPPED) (D.entrance door.old) (D.entrance door.new) self.old.life self.new.life place.old.drawn place.new.drawn result }
+        ensures same { SameWorker self.old.life self.new.life }
+    {
+        let rt = self.rt;
+        let mut connections = 0;
+        for _ in rt.forever() {
+            let number = numbers.draw(place);
+            if number >= limit {
+                return Attended {
+                    connections,
+                    starved: false,
+                };
+            }
+            let serving = self.go_once(door, kept, reply, numbers, place, number);
+            if is_starved(&serving) {
+                return Attended {
+                    connections,
+                    starved: true,
+                };
+            }
+            connections += taken(&serving);
+        }
+        unreachable!()
+    }
+
     /// Serves the door, one connection after the other, each under a number that it draws of those below the
-    /// limit. An accept that fails is counted at the door, and uses its number up.
+    /// limit, and then shuts it. An accept that fails is counted at the door, and uses its number up; so does
+    /// one to which none came before the run was stopped.
     pub fn attend<D: Door>(
         &mut self,
         door: &mut D,
@@ -127,29 +215,12 @@ impl<
         requires may { MayDraw place.old.drawn }
         requires idle { IsNone (D.entrance door.old).out }
         ensures idle { IsNone (D.entrance door.new).out }
-        ensures place { place.new ≡ record place.old { drawn = place.new.drawn } }
-        ensures attends { Attends D.Conn.wire N.site N.launcher limit (D.entrance door.old) (D.entrance door.new) self.old.life self.new.life place.old.drawn place.new.drawn result }
+        ensures place { place.new ≡ record place.old { seen = place.new.seen; drawn = place.new.drawn } }
+        ensures attends { Attends D.Conn.wire N.site N.launcher limit (slice_index place.new.seen STOPPED) (D.entrance door.old) (D.entrance door.new) self.old.life self.new.life place.old.drawn place.new.drawn result }
         ensures same { SameWorker self.old.life self.new.life }
     {
-        let rt = self.rt;
-        let mut connections = 0;
-        for _ in rt.forever() {
-            let number = numbers.draw(place);
-            if number >= limit {
-                return Attended {
-                    connections,
-                    starved: false,
-                };
-            }
-            let serving = self.go_round(door, kept, reply, number);
-            if is_starved(&serving) {
-                return Attended {
-                    connections,
-                    starved: true,
-                };
-            }
-            connections += taken(&serving);
-        }
-        unreachable!()
+        let attended = self.go_on(door, kept, reply, numbers, place, limit);
+        door.shut();
+        attended
     }
 }

@@ -1,5 +1,5 @@
 use Rattle.site_worker.proofs.Rounds.{Attending}
-use Rattle.site_worker.proofs.worker.Worker.attend.Given as goal
+use Rattle.site_worker.proofs.worker.Worker.go_on.Given as goal
 
 abbrev pub invariant-loop : goal.invariant-loop
 invariant-loop g l =

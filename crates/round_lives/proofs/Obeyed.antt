@@ -186,6 +186,7 @@ module _ (C : Config) (w : ℕ) where
   done line (said.Relaunch s) text bytes left J a K of h =
       (h.0, subst (λ (x : Answer). Steers C w (record { order = Relaunch s; became = became_of x } ∷ []) J K) (sym h.3) (relaunches_steers s line h.1 J K of h.2))
   done line said.End text bytes left J a K of h = absurd h
+  done line said.Stop text bytes left J a K of h = absurd h
   done line (said.Refused broken size) text bytes left J a K of h = (h.0, same_steers [] J K refl of h.2)
 
   -- a command was taken, answered so, and carried out
@@ -234,6 +235,8 @@ module _ (C : Config) (w : ℕ) where
   last_step : (x y : ConnWire) (before after : ℕ) (J K : Life) (what : Stepped) (how : Overseen) → IsOf w J → StepsAt C x y before after J K what → ends_by what ≡ Some how → Last x y before after J K how
   last_step x y before after J K (stepped.Answered a) how of h is = let never : ⊥ = cc in absurd never
   last_step x y before after J K stepped.Finished how of h is = subst (Last x y before after J K) (same_some overseen.Finished how is)
+      (record { last = []; ends = (h.0, h.1); steers = same_steers [] J K refl of h.2 })
+  last_step x y before after J K stepped.Stop how of h is = subst (Last x y before after J K) (same_some overseen.Stop how is)
       (record { last = []; ends = (h.0, h.1); steers = same_steers [] J K refl of h.2 })
   last_step x y before after J K (stepped.ConsoleFault (Some a)) how of h is =
       let it = did x y before after J K a of h.0 in

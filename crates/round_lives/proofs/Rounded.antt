@@ -47,6 +47,7 @@ module _ (C : Config) (n w : ℕ) {X : Type 0} (wire : X → ConnWire) where
   tends_after c (serving.Served a) J K of h = tends_next c J K of h
   tends_after c (serving.ConnFault a) J K of h = tends_next c J K of h
   tends_after c serving.NoConn J K of h = tends_next c J K of h
+  tends_after c serving.NoneCame J K of h = same_visits C w J K of h
   tends_after c serving.NoMemory J K of h = same_visits C w J K of h
 
   -- a connection that was finished
@@ -90,22 +91,24 @@ module _ (C : Config) (n w : ℕ) {X : Type 0} (wire : X → ConnWire) where
     turn_serves (serving.Served a) h = served_one a h
     turn_serves (serving.ConnFault a) h = cut_one a h
     turn_serves serving.NoConn h = serves_then wire C w e g f I M K before (same_visits C w M K of h.1) (ap (λ (x : Entrance). x.finished) h.0.kept) h.0.later
+    turn_serves serving.NoneCame h =
+        serves_then wire C w e g f I M K before (same_visits C w M K of h.1) (ap (λ (x : Entrance). x.finished) h.0) (let s : f.faults ≡ g.faults = ap (λ (x : Entrance). x.faults) h.0 in omega arith)
     turn_serves serving.NoMemory h =
         serves_then wire C w e g f I M K before (same_visits C w M K of h.1) (ap (λ (x : Entrance). x.finished) h.0) (let s : f.faults ≡ g.faults = ap (λ (x : Entrance). x.faults) h.0 in omega arith)
 
-  rounds : (numbers : List ℕ) (e f : Entrance) (J K : Life) → IsOf w J → Rounds wire C n numbers e f J K → ServesAll wire C w e f J K
-  rounds [] e f J K of h = none_serves wire C w e f J K of (ap (λ (x : Entrance). x.finished) h.0) (let s : f.faults ≡ e.faults = ap (λ (x : Entrance). x.faults) h.0 in omega arith) h.1
-  rounds (number ∷ numbers) e f J K of h =
+  rounds : (seen : ℕ) (numbers : List ℕ) (e f : Entrance) (J K : Life) → IsOf w J → Rounds wire C n seen numbers e f J K → ServesAll wire C w e f J K
+  rounds seen [] e f J K of h = none_serves wire C w e f J K of (ap (λ (x : Entrance). x.finished) h.0) (let s : f.faults ≡ e.faults = ap (λ (x : Entrance). x.faults) h.0 in omega arith) h.1
+  rounds seen (number ∷ numbers) e f J K of h =
       let round = h.5 in
-      let before : ServesAll wire C w e h.0 J h.1 = rounds numbers e h.0 J h.1 of h.2 in
+      let before : ServesAll wire C w e h.0 J h.1 = rounds seen numbers e h.0 J h.1 of h.2 in
       let served : ServesAll wire C w e f J round.mid = turn_serves e h.0 f J h.1 round.mid round.kept round.reply before before.lives.lives.same h.3 round.serves in
       serves_then wire C w e f f J round.mid K served (tends_after number h.3 round.mid K served.lives.lives.same round.tends) refl (omega arith)
 
-  pub doors_are_served : (most : ℕ) (e f : Entrance) (J K : Life) (drawn now : List ℕ) (a : Attended) → IsOf w J → Attends wire C n most e f J K drawn now a → ServesAll wire C w e f J K
-  doors_are_served most e f J K drawn now a of h = rounds h.numbers e f J K of h.rounds
+  pub doors_are_served : (most seen : ℕ) (e f : Entrance) (J K : Life) (drawn now : List ℕ) (a : Attended) → IsOf w J → Attends wire C n most seen e f J K drawn now a → ServesAll wire C w e f J K
+  doors_are_served most seen e f J K drawn now a of h = rounds seen h.numbers e f J K of h.rounds
 
-  pub doors_are_lived : (most : ℕ) (e f : Entrance) (J K : Life) (drawn now : List ℕ) (a : Attended) → IsOf w J → Attends wire C n most e f J K drawn now a → LivesOn C w is_order J K
-  doors_are_lived most e f J K drawn now a of h = (doors_are_served most e f J K drawn now a of h).lives.lives
+  pub doors_are_lived : (most seen : ℕ) (e f : Entrance) (J K : Life) (drawn now : List ℕ) (a : Attended) → IsOf w J → Attends wire C n most seen e f J K drawn now a → LivesOn C w is_order J K
+  doors_are_lived most seen e f J K drawn now a of h = (doors_are_served most seen e f J K drawn now a of h).lives.lives
 
 -- ---- at the console
 
@@ -126,11 +129,13 @@ module _ (C : Config) (w : ℕ) where
   done line (order.Publish t size) bytes left J a K of (inr (inr h)) = same_lives C w is_accepted J K of h.2
   done line (order.Relaunch s) bytes left J a K of h = relaunches s h.1 J K of h.2
   done line order.End bytes left J a K of h = absurd h
+  done line order.Stop bytes left J a K of h = absurd h
   done line (order.Refused broken size) bytes left J a K of h = same_lives C w is_accepted J K of h.2
 
   steps : (x y : ConnWire) (before after : ℕ) (J K : Life) (what : Stepped) → IsOf w J → StepsAt C x y before after J K what → LivesOn C w is_accepted J K
   steps x y before after J K (stepped.Answered a) of h = done after _ h.0.bytes y.left J a K of h.0.is
   steps x y before after J K stepped.Finished of h = same_lives C w is_accepted J K of h.2
+  steps x y before after J K stepped.Stop of h = same_lives C w is_accepted J K of h.2
   steps x y before after J K (stepped.ConsoleFault (Some a)) of h = done after _ h.0.bytes y.left J a K of h.0.is
   steps x y before after J K (stepped.ConsoleFault None) of h = same_lives C w is_accepted J K of h.3
 

@@ -23,7 +23,7 @@ is_accepted piece = is_accept_item (first_item piece)
 
 -- A worker that attended a door lived on by pieces, none of which is an order.
 abbrev pub DoorsAreLived : {X : Type 0} → (X → ConnWire) → Type 0
-DoorsAreLived wire = (C : Config) (n w most : ℕ) (e f : Entrance) (J K : Life) (drawn now : List ℕ) (a : Attended) → IsOf w J → Attends wire C n most e f J K drawn now a → LivesOn C w is_order J K
+DoorsAreLived wire = (C : Config) (n w most seen : ℕ) (e f : Entrance) (J K : Life) (drawn now : List ℕ) (a : Attended) → IsOf w J → Attends wire C n most seen e f J K drawn now a → LivesOn C w is_order J K
 
 -- A worker that oversaw the console lived on by pieces, none of which is an Accept.
 abbrev pub ConsolesAreLived : Type 0

@@ -10,7 +10,7 @@ use Rattle.monitor_model.specs.Worker.{Piece}
 use Rattle.worker_lives.specs.Listing.{first_item}
 use Rattle.admin_console.specs.Answers.{answer_text}
 use Rattle.admin_console.specs.Orders.{order_of}
-use Rattle.admin_console.specs.Steps.{AreFollowing, Command, Ends, IsCut, RunsOut}
+use Rattle.admin_console.specs.Steps.{AreFollowing, Command, Ends, IsCut, RunsOut, Stops}
 use Rattle.admin_console.specs.declared.answer.Answer.{Answer}
 use Rattle.admin_console.specs.declared.answer.Answer.TheVariants as answer
 use Rattle.admin_console.specs.declared.order.Order.{Order as Said}
@@ -28,11 +28,12 @@ pub record Taken : Type 0 where
   pub bytes : List ℕ
   pub answer : Answer
 
--- What a line that says this orders, with the bytes that follow it: nothing where it ends the console, is refused by its words, or fewer bytes follow than it says.
+-- What a line that says this orders, with the bytes that follow it: nothing where it ends the console or the run, is refused by its words, or fewer bytes follow than it says.
 abbrev pub ordered_by : Said → List ℕ → Option Order
 ordered_by (said.Publish t size) bytes = if length bytes == size then Some (Publishes t bytes) else None
 ordered_by (said.Relaunch s) bytes = Some (Relaunches s)
 ordered_by said.End bytes = None
+ordered_by said.Stop bytes = None
 ordered_by (said.Refused rule size) bytes = None
 
 -- What became of an order that was answered so.
@@ -42,6 +43,7 @@ became_of (answer.Relaunched k) = Obeyed
 became_of (answer.Dead tries) = Obeyed
 became_of (answer.Refused line rule) = Refused
 became_of answer.NoMemory = Starved
+became_of (answer.Stopping n) = Obeyed
 
 -- The order of a command whose line says this, with what became of it, if it is one.
 abbrev pub order_by : Said → Taken → Option Ordered
@@ -60,9 +62,10 @@ abbrev pub AreBehind : Said → List ℕ → Option (List ℕ) → Type 0
 AreBehind (said.Publish t size) bytes left = AreFollowing size bytes left
 AreBehind (said.Relaunch s) bytes left = bytes ≡ []
 AreBehind said.End bytes left = ⊥
+AreBehind said.Stop bytes left = ⊥
 AreBehind (said.Refused rule size) bytes left = AreFollowing size bytes left
 
--- The next command, which isn't `end`, was taken from a console.
+-- The next command, which is neither `end` nor `stop`, was taken from a console.
 pub record Takes (C : Config) (old new : ConnWire) (before after : ℕ) (one : Taken) : Type 0 where
   pub command : Command old new before after one.line one.bytes
   pub behind : AreBehind (order_of C one.line) one.bytes new.left
@@ -73,10 +76,12 @@ AreAnswered C [] w x before after = (x ≡ w) × (after ≡ before)
 AreAnswered C (one ∷ more) w x before after =
     (y : ConnWire) × (mid : ℕ) × AreAnswered C more w y before mid × Takes C y x mid after one × Appends y.given x.given (answer_text one.answer)
 
--- How a console ended behind these commands: by `end` or the end of its input; or a call of it failed and was counted, behind a command of whose answer just a front was given, or where the bytes that were taken are no whole command.
+-- How a console ended behind these commands: by `end` or the end of its input; or by `stop`, which is not answered yet; or a call of it failed and was counted, behind a command of whose answer just a front was given, or where the bytes that were taken are no whole command.
 abbrev pub EndsBehind : Config → List Taken → ConnWire → ConnWire → ℕ → ℕ → Overseen → Type 0
 EndsBehind C [] w x before after overseen.Finished = (Ends C w x before after ⊎ RunsOut w x before after) × (x.given ≡ w.given)
 EndsBehind C (one ∷ more) w x before after overseen.Finished = ⊥
+EndsBehind C [] w x before after overseen.Stop = Stops C w x before after × (x.given ≡ w.given)
+EndsBehind C (one ∷ more) w x before after overseen.Stop = ⊥
 EndsBehind C [] w x before after overseen.ConsoleFault = (bytes : List ℕ) × Consumes w.left x.left bytes × IsCut C bytes × (x.given ≡ w.given) × Rose w.faults x.faults
 EndsBehind C (one ∷ []) w x before after overseen.ConsoleFault = Takes C w x before after one × AppendsPrefix w.given x.given (answer_text one.answer) × Rose w.faults x.faults
 EndsBehind C (one ∷ next ∷ more) w x before after overseen.ConsoleFault = ⊥

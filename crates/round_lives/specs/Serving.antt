@@ -49,4 +49,4 @@ pub record ServesAll {X : Type 0} (wire : X → ConnWire) (C : Config) (w : ℕ)
 
 -- A worker that attended a door lived on by pieces, none of which is an order, and the door's connections were answered by these.
 abbrev pub DoorsAreServed : {X : Type 0} → (X → ConnWire) → Type 0
-DoorsAreServed wire = (C : Config) (n w most : ℕ) (e f : Entrance) (J K : Life) (drawn now : List ℕ) (a : Attended) → IsOf w J → Attends wire C n most e f J K drawn now a → ServesAll wire C w e f J K
+DoorsAreServed wire = (C : Config) (n w most seen : ℕ) (e f : Entrance) (J K : Life) (drawn now : List ℕ) (a : Attended) → IsOf w J → Attends wire C n most seen e f J K drawn now a → ServesAll wire C w e f J K

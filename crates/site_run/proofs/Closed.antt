@@ -1,5 +1,5 @@
 -- The locks of a run, as they are closed.
-use Rattle.std.proofs.Common.{◌≡◌, inl, inr, ℕ, ◌+◌, ◌<◌, ◌≤◌, Bool, true, List, [], ◌∷◌, ◌++◌, length, reverse, Option, refl, sym, ap, ◌∙◌, subst, arith, append-nil}
+use Rattle.std.proofs.Common.{◌≡◌, inl, inr, ℕ, suc, ◌+◌, ◌<◌, ◌≤◌, Bool, true, List, [], ◌∷◌, ◌++◌, length, reverse, Option, refl, sym, ap, ◌∙◌, subst, arith, append-nil}
 use Rattle.std.specs.Prelude.{IfSome, MatchOption, Some, None}
 use Rattle.std.proofs.lemmas.Bool.{true≢false, false≢true}
 use Rattle.std.proofs.lemmas.List.{reverse-append, reverse-reverse}
@@ -10,8 +10,8 @@ use Rattle.okws_base.specs.declared.journal.Entry.{Entry}
 use Rattle.okws_outer.specs.Streams.{Rose}
 use Rattle.okws_plan.specs.declared.configuration.Config.{Config}
 use Rattle.okws_plan.specs.declared.event.LogEvent.{LogEvent}
-use Rattle.turn_lock.specs.Board.{drawn_by}
-use Rattle.turn_lock.specs.BoardSeats.{BoardIs, AllAt, SeatsDrew}
+use Rattle.turn_lock.specs.Board.{drawn_by, UpTo}
+use Rattle.turn_lock.specs.BoardSeats.{BoardIs, AllAt, SeatsDrew, SeatsSaw}
 use Rattle.turn_lock.specs.BoardSeats.{SeatIs as Place}
 use Rattle.log_daemon.specs.Seen.{IsFront}
 use Rattle.log_daemon.specs.Stopped.{is_stopped}
@@ -27,7 +27,7 @@ use Rattle.launch_turns.specs.declared.deed.Deed.{Deed}
 use Rattle.site_run.specs.Rows.{ChairsAre, AreChairs}
 use Rattle.site_run.specs.Places.{PlacesAre}
 use Rattle.site_run.specs.Closing.{WritesLog}
-use Rattle.site_run.specs.Whole.{AllDrewAt, IsHeld}
+use Rattle.site_run.specs.Whole.{AllDrewAt, AllSawAt, IsHeld}
 use Rattle.site_run.proofs.Holding.{chairs_rest_all, chairs_have, some_push, has_push}
 use Rattle.site_run.proofs.Seating.{chairs_many}
 
@@ -67,6 +67,36 @@ module _ (hand : ℕ → ℕ) (count : ℕ) where
   drew_all all left places none taken h =
       let e : places ≡ reverse all = sym (append-nil places) ∙ (ap (λ l. places ++ reverse l) (sym none) ∙ taken) in
       subst (AllDrewAt hand count) (ap reverse e ∙ reverse-reverse all) (drew_turned places (drew_each places h))
+
+  -- what the last seat drew
+  pub drew_pop : (as' : List Place) (a : Place) → SeatsDrew hand count (as' ++ a ∷ []) → SeatsDrew hand count as' × (a.drawn ≡ drawn_by hand a.number count)
+  drew_pop [] a h = (tt, h.0.0)
+  drew_pop (b ∷ as') a h = let rest = drew_pop as' a h.1 in ((h.0, rest.0), rest.1)
+
+module _ (n : ℕ) (greatest : List ℕ) where
+  -- what seats have seen, without those that were joined into them
+  saw_each : (as' : List Place) → SeatsSaw n greatest as' → AllSawAt greatest as'
+  saw_each [] h = tt
+  saw_each (a ∷ as') h = (h.0.0, saw_each as' h.1)
+
+  saw_push : (as' : List Place) (a : Place) → AllSawAt greatest as' → UpTo a.seen greatest → AllSawAt greatest (as' ++ a ∷ [])
+  saw_push [] a h e = (e, tt)
+  saw_push (b ∷ as') a h e = (h.0, saw_push as' a h.1 e)
+
+  saw_turned : (as' : List Place) → AllSawAt greatest as' → AllSawAt greatest (reverse as')
+  saw_turned [] h = tt
+  saw_turned (a ∷ as') h = subst (AllSawAt greatest) (sym (reverse-append (a ∷ []) as')) (saw_push (reverse as') a (saw_turned as' h.1) h.0)
+
+  -- of seats that were taken from the end of a row, one after the other
+  pub saw_all : (all left places : List Place) → left ≡ [] → places ++ reverse left ≡ reverse all → SeatsSaw n greatest places → AllSawAt greatest all
+  saw_all all left places none taken h =
+      let e : places ≡ reverse all = sym (append-nil places) ∙ (ap (λ l. places ++ reverse l) (sym none) ∙ taken) in
+      subst (AllSawAt greatest) (ap reverse e ∙ reverse-reverse all) (saw_turned places (saw_each places h))
+
+  -- what the last seat has seen
+  pub saw_pop : (as' : List Place) (a : Place) → SeatsSaw n greatest (as' ++ a ∷ []) → SeatsSaw n greatest as' × (suc a.number ≡ n → a.seen ≡ greatest)
+  saw_pop [] a h = (tt, h.0.1)
+  saw_pop (b ∷ as') a h = let rest = saw_pop as' a h.1 in ((h.0, rest.0), rest.1)
 
 -- the seats of number n behind those of the numbers below it: each number has its own at the columns
 pub all_some : (t : TurnIs) (cells n : ℕ) (ss : List Sat) (cs : List CellsSeen) (as' : List (SeatIs Deed)) (s : Sat)

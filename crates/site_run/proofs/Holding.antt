@@ -176,14 +176,14 @@ seen_none z label (a ∷ as') h = h.0.seen
 
 -- a run whose launcher was hired is ready, and number 0 has spare places
 pub ready : (C : Config) (n doors : ℕ) (t : TurnIs) (b : BoardIs) (cell_turns : List TurnIs) (all ss : List Sat) (r first : Sat) (s : Sat) (all_cs cs : List CellsSeen) (c : CellsSeen) (as' : List (SeatIs Deed))
-    (es : List Entrance) (places : List Place) (all_room seats_room all_cells_room cells_room turns_room doors_room desks_room : ℕ)
+    (es : List Entrance) (places : List Place) (last : Place) (all_room seats_room all_cells_room cells_room turns_room doors_room desks_room : ℕ)
     → r ≡ get_or ss 0 r → first ≡ record r { spare = first.spare } → length C.services * TURN_ITEMS ≤ first.spare
     → AreNamed C n cell_turns all all_cs all_room all_cells_room → all ≡ ss ++ s ∷ [] → all_cs ≡ cs ++ c ∷ [] → n ≡ doors + 1 → n + 1 ≤ seats_room → n + 1 ≤ cells_room
     → t.count ≡ n → length as' ≡ n → n ≤ turns_room → AreFresh t.id t.label 0 (reverse as')
-    → 0 < doors → doors ≤ MOST_DOORS → length es ≡ doors → AllIdle es → AreOffered doors b places → doors ≤ doors_room → doors ≤ desks_room
+    → 0 < doors → doors ≤ MOST_DOORS → length es ≡ doors → AllIdle es → AreOffered doors b places last → doors ≤ doors_room → doors ≤ desks_room
     → IsReady C n t b cell_turns (record { seats = set ss 0 first; cells = cs; turns = as'; seats_room = seats_room; cells_room = cells_room; turns_room = turns_room })
     (record { entrances = es; places = places; doors_room = doors_room; desks_room = desks_room })
-ready C n doors t b cell_turns all ss r first s all_cs cs c as' es places all_room seats_room all_cells_room cells_room turns_room doors_room desks_room here given enough named e f d sr cr count many tr fresh some few doors_are idle offered dr kr =
+ready C n doors t b cell_turns all ss r first s all_cs cs c as' es places last all_room seats_room all_cells_room cells_room turns_room doors_room desks_room here given enough named e f d sr cr count many tr fresh some few doors_are idle offered dr kr =
     let seats_many : length ss ≡ n = (let l = push_length ss s in let q = ap length e in let m = named.seats_many in omega arith) in
     let cells_many : length cs ≡ n = (let l = push_length cs c in let q = ap length f in let m = named.cells_many in omega arith) in
     let seats = seats_pop (length C.proxies) 0 n ss s (omega arith) (subst (AreFreshFrom (length C.proxies) 0) e named.seats_fresh) in

@@ -1,5 +1,6 @@
 -- Lists that grow at their ends.
-use Rattle.std.proofs.Common.{◌≡◌, ℕ, suc, ◌+◌, ◌≤◌, Bool, List, [], ◌∷◌, ◌++◌, length, subst, arith}
+use Rattle.std.proofs.Common.{◌≡◌, ℕ, suc, ◌+◌, ◌≤◌, Bool, List, [], ◌∷◌, ◌++◌, length, get_or, sym, ap, subst, arith}
+use Rattle.std.specs.Prelude.{◌<◌, remove}
 use Rattle.atomic_table.specs.Seated.{TableId}
 use Rattle.okws_base.specs.declared.journal.Entry.{Entry}
 use Rattle.okws_outer.specs.Streams.{counted}
@@ -46,6 +47,15 @@ fresh_pop z last (b ∷ as') a h =
     let rest = fresh_pop z last as' a h.1 in
     let n = push_length as' a in
     ((subst (λ x. IsFresh z x b) (let q : length (as' ++ a ∷ []) + last ≡ length as' + suc last = omega arith in q) h.0, rest.0), rest.1)
+
+-- the first of fresh places has the greatest number
+pub fresh_first : (z : TableId) (as' rest : List Place) (a : Place) → 0 < length as' → a ≡ get_or as' 0 a → rest ≡ remove as' 0 → AreFresh z 0 as' → IsFresh z (length rest + 0) a × AreFresh z 0 rest × (suc (length rest) ≡ length as')
+fresh_first z [] rest a some is left h = absurd (omega arith)
+fresh_first z (b ∷ as') rest a some is left h = (
+  subst (λ (x : Place × List Place). IsFresh z (length x.1 + 0) x.0) (λ i. (sym is i, sym left i)) h.0,
+  subst (AreFresh z 0) (sym left) h.1,
+  ap (λ (l : List Place). suc (length l)) left,
+)
 
 pub rising_push : (z : TableId) (k m : ℕ) (as' : List Place) (a : Place) → m ≡ length as' + k → AreRising z k as' → IsFresh z m a → AreRising z k (as' ++ a ∷ [])
 rising_push z k m [] a e h f = (subst (λ x. IsFresh z x a) (let q : m ≡ k = omega arith in q) f, tt)

@@ -113,6 +113,7 @@ module _ (C : Config) (n : ℕ) (P : Life → Type 0) (kept : IsKept C n P) wher
   tends_after c (serving.Served a) J K h p = tends_next c J K h p
   tends_after c (serving.ConnFault a) J K h p = tends_next c J K h p
   tends_after c serving.NoConn J K h p = tends_next c J K h p
+  tends_after c serving.NoneCame J K h p = same J K h p
   tends_after c serving.NoMemory J K h p = same J K h p
 
   module _ {X : Type 0} (wire : X → ConnWire) where
@@ -120,17 +121,18 @@ module _ (C : Config) (n : ℕ) (P : Life → Type 0) (kept : IsKept C n P) wher
     serves e f J K head reply (serving.Served a) h p = handled J K h.attends.course reply h.attends.handled p
     serves e f J K head reply (serving.ConnFault a) h p = handled J K h.attends.course reply h.attends.handled p
     serves e f J K head reply serving.NoConn h p = same J K h.1 p
+    serves e f J K head reply serving.NoneCame h p = same J K h.1 p
     serves e f J K head reply serving.NoMemory h p = same J K h.1 p
 
-    rounds : (numbers : List ℕ) (e f : Entrance) (J K : Life) → Rounds wire C n numbers e f J K → P J → P K
-    rounds [] e f J K h p = same J K h.1 p
-    rounds (number ∷ numbers) e f J K h p =
+    rounds : (seen : ℕ) (numbers : List ℕ) (e f : Entrance) (J K : Life) → Rounds wire C n seen numbers e f J K → P J → P K
+    rounds seen [] e f J K h p = same J K h.1 p
+    rounds seen (number ∷ numbers) e f J K h p =
         let round = h.5 in
         tends_after number h.3 round.mid K round.tends
-        (serves h.0 f h.1 round.mid round.kept round.reply h.3 round.serves (rounds numbers e h.0 J h.1 h.2 p))
+        (serves h.0 f h.1 round.mid round.kept round.reply h.3 round.serves (rounds seen numbers e h.0 J h.1 h.2 p))
 
-    pub attends_kept : (most : ℕ) (e f : Entrance) (J K : Life) (drawn now : List ℕ) (a : Attended) → Attends wire C n most e f J K drawn now a → P J → P K
-    attends_kept most e f J K drawn now a h p = rounds h.numbers e f J K h.rounds p
+    pub attends_kept : (most seen : ℕ) (e f : Entrance) (J K : Life) (drawn now : List ℕ) (a : Attended) → Attends wire C n most seen e f J K drawn now a → P J → P K
+    attends_kept most seen e f J K drawn now a h p = rounds seen h.numbers e f J K h.rounds p
 
   -- ---- at the console
 
@@ -144,11 +146,13 @@ module _ (C : Config) (n : ℕ) (P : Life → Type 0) (kept : IsKept C n P) wher
   done line (order.Publish t size) bytes left J a K (inr (inr h)) p = same J K h.2 p
   done line (order.Relaunch s) bytes left J a K h p = relaunches s h.1 J K h.2 p
   done line order.End bytes left J a K h p = absurd h
+  done line order.Stop bytes left J a K h p = absurd h
   done line (order.Refused broken size) bytes left J a K h p = same J K h.2 p
 
   steps : (x y : ConnWire) (before after : ℕ) (J K : Life) (what : Stepped) → StepsAt C x y before after J K what → P J → P K
   steps x y before after J K (stepped.Answered a) h p = done after _ h.0.bytes y.left J a K h.0.is p
   steps x y before after J K stepped.Finished h p = same J K h.2 p
+  steps x y before after J K stepped.Stop h p = same J K h.2 p
   steps x y before after J K (stepped.ConsoleFault (Some a)) h p = done after _ h.0.bytes y.left J a K h.0.is p
   steps x y before after J K (stepped.ConsoleFault None) h p = same J K h.3 p
 

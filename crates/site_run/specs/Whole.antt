@@ -1,7 +1,7 @@
 -- A run between its beginning and its end. Number n launches; the doors' workers and the console's have the numbers below it.
 use Rattle.std.specs.Prelude.{◌≡◌, ◌≤◌, ◌<◌, ℕ, suc, ◌+◌, ◌*◌, List, [], ◌∷◌, length}
 use Rattle.okws_base.specs.declared.limit.TheConstants.{MOST_DOORS}
-use Rattle.turn_lock.specs.Board.{drawn_by}
+use Rattle.turn_lock.specs.Board.{drawn_by, UpTo}
 use Rattle.turn_lock.specs.BoardSeats.{BoardIs, AllAt}
 use Rattle.turn_lock.specs.BoardSeats.{SeatIs as Place}
 use Rattle.okws_plan.specs.declared.configuration.Config.{Config}
@@ -44,7 +44,7 @@ pub record IsHeld (C : Config) (n : ℕ) (turn : TurnIs) (numbers : BoardIs) (ce
   pub places_many : length places.places ≡ length places.entrances
   pub places_at : AllAt numbers.id places.places
   pub turn_count : turn.count ≡ n
-  pub numbers_count : numbers.count + 1 ≡ n
+  pub numbers_count : numbers.count ≡ n
   pub cells_count : AllCount (n + 1) cell_turns
   pub services : length cell_turns ≡ length C.services
 
@@ -63,9 +63,18 @@ abbrev pub AllDrewAt : (ℕ → ℕ) → ℕ → List Place → Type 0
 AllDrewAt hand count [] = Unit {0}
 AllDrewAt hand count (a ∷ as') = (a.drawn ≡ drawn_by hand a.number count) × AllDrewAt hand count as'
 
--- The numbers below the count were drawn from these seats, whose numbers are below n, each from one.
-pub record AllDrawn (n : ℕ) (places : List Place) : Type 0 where
+-- Each of these seats has seen no more than these on the board.
+abbrev pub AllSawAt : List ℕ → List Place → Type 0
+AllSawAt greatest [] = Unit {0}
+AllSawAt greatest (a ∷ as') = UpTo a.seen greatest × AllSawAt greatest as'
+
+-- The numbers below the count were drawn from these seats, whose numbers are below n, each from one. What any of them has seen on the board was written from the last of all.
+pub record AllDrawn (n : ℕ) (places : List Place) (last : Place) : Type 0 where
   pub hand : ℕ → ℕ
   pub count : ℕ
   pub drew : AllDrewAt hand count places
+  pub drew_last : last.drawn ≡ drawn_by hand last.number count
   pub seated : (k : ℕ) → k < count → hand k < n
+  pub greatest : List ℕ
+  pub saw : AllSawAt greatest places
+  pub saw_last : suc last.number ≡ n → last.seen ≡ greatest

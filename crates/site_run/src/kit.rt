@@ -3,6 +3,7 @@
 ghost use Rattle.std.specs.Prelude.{◌≡◌, ◌≤◌, ◌<◌, ◌+◌, [], length, map, IfOk, vec_len, IfSome, IfErr};
 ghost use Rattle.std.specs.Arc.{arc_value};
 ghost use Rattle.okws_base.specs.declared.limit.TheConstants.{MOST_DOORS};
+ghost use Rattle.turn_lock.specs.BoardSeats.{IsFresh};
 ghost use Rattle.turn_lock.specs.Rows.{AllCount};
 ghost use Rattle.site_locks.specs.Sat.{ids_of};
 ghost use Rattle.site_making.specs.Keepers.{keeper_of, AreBacked};
@@ -105,13 +106,13 @@ impl<N: Backed, K: Keeper, L: Link> Model for Stock<N, K, L> {
 
     ghost Value = { StockIs };
 
-    ghost view = { λ x. record { shown = arc_value x.site; journal = x.papers.journal; site = arc_value x.papers.site; seed = x.papers.seed; numbers = x.office.numbers; places = map (λ (d : Desk). d.place) x.office.desks.items; lines = x.reader; room = x.room } };
+    ghost view = { λ x. record { shown = arc_value x.site; journal = x.papers.journal; site = arc_value x.papers.site; seed = x.papers.seed; numbers = x.office.numbers; places = map (λ (d : Desk). d.place) x.office.desks.items; last = x.office.last; lines = x.reader; room = x.room } };
 }
 
 impl<N: Backed, K: Keeper, L: Link> Stock<N, K, L> {
     // The site, what the launcher takes, the office, the reader of the console's lines, and room for the end.
     fn into_parts(self) -> (Arc<Config, Global>, Papers, Office, Reader, Room<N, K, L>)
-        ensures { self ≡ record { shown = arc_value result.0; journal = result.1.journal; site = arc_value result.1.site; seed = result.1.seed; numbers = result.2.numbers; places = map (λ (d : Desk). d.place) result.2.desks.items; lines = result.3; room = result.4 } }
+        ensures { self ≡ record { shown = arc_value result.0; journal = result.1.journal; site = arc_value result.1.site; seed = result.1.seed; numbers = result.2.numbers; places = map (λ (d : Desk). d.place) result.2.desks.items; last = result.2.last; lines = result.3; room = result.4 } }
     {
         let Stock {
             site,
@@ -220,6 +221,7 @@ pub fn begin<
     ensures ready { IfOk result (λ b. IsReady N.site N.launcher b.run.hall.turn b.run.hall.numbers b.run.hall.cells b.run.chairs b.run.places) }
     ensures doors { IfOk result (λ b. b.run.places.entrances ≡ map D.entrance doors.items) }
     ensures beside { IfOk result (λ b. (arc_value b.site ≡ N.site) × (b.reader ≡ 0) × (b.room + 1 ≡ N.launcher)) }
+    ensures last { IfOk result (λ b. IsFresh b.run.hall.numbers.id (vec_len doors) b.run.last) }
     ensures back { IfErr result (λ b. (b.0.items ≡ doors.items) × (F.family b.1 ≡ F.family children)) }
 {
     let (columns, cells, stock) = kit.into_parts();

@@ -51,23 +51,29 @@ fn desks(alloc: Global, mut places: Vec<Place>) -> Result<Vec<Desk>, AllocError>
     Ok(desks)
 }
 
-/// The board from which the numbers of all connections are drawn, and a desk for each door, from which none
-/// was drawn.
+/// The board from which the numbers of all connections are drawn, a desk for each door, and the console's
+/// seat, which is the last; from none of them was a number drawn.
 #[derive(Drop)]
 pub(crate) struct Office {
     pub(crate) numbers: Board,
     pub(crate) desks: Vec<Desk>,
+    pub(crate) last: Place,
 }
 
 impl Office {
     /// An office for so many doors.
     pub(crate) fn new(alloc: Global, doors: u16) -> Result<Office, AllocError>
-        requires { 0 < doors }
-        ensures { IfOk result (λ o. AreOffered doors o.numbers (map (λ (d : Desk). d.place) o.desks.items)) }
+        requires { doors ≤ MOST_DOORS }
+        ensures { IfOk result (λ o. AreOffered doors o.numbers (map (λ (d : Desk). d.place) o.desks.items) o.last) }
     {
-        let (numbers, places) = Board::new(alloc, doors)?;
+        let (numbers, mut places) = Board::new(alloc, doors + 1)?;
+        let last = places.remove(0);
         let desks = desks(alloc, places)?;
-        Ok(Office { numbers, desks })
+        Ok(Office {
+            numbers,
+            desks,
+            last,
+        })
     }
 }
 
@@ -88,7 +94,7 @@ impl<N: Backed, K: Keeper, L: Link> Model for Room<N, K, L> {
 
     ghost view = { λ r. r.doors };
 
-    ghost invariant = { λ r. (r.columns ≡ r.doors + 2) × HasRoom r.doors (vec_len r.places) (vec_capacity r.places) };
+    ghost invariant = { λ r. (r.columns ≡ r.doors + 2) × HasRoom (r.doors + 1) (vec_len r.places) (vec_capacity r.places) };
 }
 
 // Room for the columns of so many proxies and the own items of so many numbers.
@@ -144,7 +150,7 @@ impl<N: Backed, K: Keeper + Drop, L: Link + Drop> Room<N, K, L> {
             doors,
             columns: columns_room(alloc, proxies, doors + 2)?,
             cells: cells_room(alloc, services)?,
-            places: Vec::with_capacity(alloc, doors)?,
+            places: Vec::with_capacity(alloc, doors + 1)?,
         })
     }
 }

@@ -5,7 +5,7 @@ ghost use Rattle.std.specs.Arc.{arc_value};
 ghost use Rattle.okws_base.specs.Turns.{Behind};
 ghost use Rattle.okws_base.specs.declared.limit.TheConstants.{MOST_SERVICES, MOST_PROXIES, MOST_DOORS};
 ghost use Rattle.turn_lock.specs.Rows.{AllCount};
-ghost use Rattle.turn_lock.specs.BoardSeats.{AllAt};
+ghost use Rattle.turn_lock.specs.BoardSeats.{AllAt, IsFresh};
 ghost use Rattle.site_locks.specs.Sat.{ids_of};
 ghost use Rattle.monitor_model.specs.Causes.{all_were_caused};
 ghost use Rattle.monitor_model.specs.Columns.{WithinCount};
@@ -100,11 +100,13 @@ pub struct Hall<N: Staffed, J: Site, C: CellNames, K: Keeper, S: Sink, F: Childr
     pub numbers: Board,
 }
 
-/// A run: what its workers share, their seats, and its doors.
+/// A run: what its workers share, their seats, its doors, and the console's seat at the board of the
+/// connections' numbers.
 pub struct Run<N: Staffed, J: Site, C: CellNames, K: Keeper, S: Sink, F: Children, D: Door> {
     pub hall: Hall<N, J, C, K, S, F>,
     pub chairs: Chairs<N, J, C, K, S, F>,
     pub places: Doors<D>,
+    pub last: Place,
 }
 
 impl<
@@ -133,9 +135,10 @@ impl<
         requires launcher { N.launcher ≡ vec_len doors + 1 }
         requires doors { (0 < vec_len doors) × (vec_len doors ≤ MOST_DOORS) }
         requires idle { AllIdle (map D.entrance doors.items) }
-        requires office { AreOffered (vec_len doors) office.numbers (map (λ (d : Desk). d.place) office.desks.items) }
+        requires office { AreOffered (vec_len doors) office.numbers (map (λ (d : Desk). d.place) office.desks.items) office.last }
         ensures ready { IfOk result (λ r. IsReady N.site N.launcher r.hall.turn r.hall.numbers r.hall.cells r.chairs r.places) }
         ensures doors { IfOk result (λ r. r.places.entrances ≡ map D.entrance doors.items) }
+        ensures last { IfOk result (λ r. IsFresh r.hall.numbers.id (vec_len doors) r.last) }
         ensures back { IfErr result (λ b. (b.0.items ≡ doors.items) × (F.family b.1 ≡ F.family children)) }
     {
         let Named {
@@ -158,7 +161,11 @@ impl<
         match hire(alloc, papers, own, own_cells, children, workers, keeps) {
             Err(children) => Err((doors, children)),
             Ok(Hired { turn, turns }) => {
-                let Office { numbers, desks } = office;
+                let Office {
+                    numbers,
+                    desks,
+                    last,
+                } = office;
                 Ok(Run {
                     hall: Hall {
                         locks,
@@ -168,6 +175,7 @@ impl<
                     },
                     chairs: Chairs::of(seats, at_cells, turns),
                     places: Doors { doors, desks },
+                    last,
                 })
             }
         }
@@ -175,16 +183,17 @@ impl<
 }
 
 // Ends the board of the connections' numbers by its seats.
-fn end_numbers(numbers: Board, mut desks: Vec<Desk>, room: Vec<Place>) -> u64
-    requires some { 0 < vec_len desks }
+fn end_numbers(numbers: Board, mut desks: Vec<Desk>, last: Place, room: Vec<Place>) -> u64
     requires at { AllAt numbers.id (map (λ (d : Desk). d.place) desks.items) }
-    requires room { HasRoom (vec_len desks) (vec_len room) (vec_capacity room) }
-    ensures { AllDrawn numbers.count (map (λ (d : Desk). d.place) desks.items) }
+    requires last { last.board ≡ numbers.id }
+    requires room { HasRoom (vec_len desks + 1) (vec_len room) (vec_capacity room) }
+    ensures { AllDrawn numbers.count (map (λ (d : Desk). d.place) desks.items) last }
 {
     let mut places = room;
     while let Some(desk) = desks.pop() {
         places.push_reserved(desk.place);
     }
+    places.push_reserved(last);
     numbers.close(places)
 }
 
@@ -210,9 +219,10 @@ impl<N: Staffed, J: Site, C: CellNames, K: Keeper, S: Sink, F: Children, D: Door
         okd: OkdNote<N, J>,
     ) -> Ended<K, S, F, D>
         requires held { IsHeld N.site N.launcher self.hall.turn self.hall.numbers self.hall.cells self.chairs self.places }
+        requires last { self.last.board ≡ self.hall.numbers.id }
         requires room { room + 1 ≡ N.launcher }
         ensures doors { map D.entrance result.doors.items ≡ self.places.entrances }
-        ensures drawn { AllDrawn self.hall.numbers.count self.places.places }
+        ensures drawn { AllDrawn self.hall.numbers.count self.places.places self.last }
         ensures laws { KeepLaws N.site N.run_seed N.launcher result.record }
         ensures numbers { NameNumbers N.launcher result.record }
         ensures lives { (lives : List Life) → SeatsOf lives self.chairs → AllEnd N.launcher 0 lives result.record (ended_among (F.family result.children).finished) }
@@ -232,6 +242,7 @@ impl<N: Staffed, J: Site, C: CellNames, K: Keeper, S: Sink, F: Children, D: Door
             hall,
             chairs,
             places,
+            last,
         } = self;
         let Hall {
             locks,
@@ -257,7 +268,7 @@ impl<N: Staffed, J: Site, C: CellNames, K: Keeper, S: Sink, F: Children, D: Door
             cells: cells_room,
             places,
         } = room;
-        let _drawn = end_numbers(numbers, desks, places);
+        let _drawn = end_numbers(numbers, desks, last, places);
         seats.push_reserved(stopped.seats);
         at_cells.push_reserved(stopped.cells);
         let columns = end_columns(locks, seats, count, columns);

@@ -1,10 +1,10 @@
 use Rattle.std.proofs.Common.{rules, ◌≡◌, ◌++◌, ◌∷◌, [], map, reverse, refl, sym, ap, subst}
-use Rattle.turn_lock.specs.BoardSeats.{AllAt}
+use Rattle.turn_lock.specs.BoardSeats.{AllAt, SeatsDrew, SeatsSaw}
 use Rattle.turn_lock.specs.BoardSeats.{SeatIs as Place}
 use Rattle.turn_lock.proofs.Rows.{pushed_map}
 use Rattle.turn_lock.proofs.Spots.{empty_of}
 use Rattle.site_run.specs.declared.room.Desk.{Desk}
-use Rattle.site_run.proofs.Closed.{at_push, at_pop, drew_all}
+use Rattle.site_run.proofs.Closed.{at_push, at_pop, drew_all, drew_pop, saw_all, saw_pop}
 use Rattle.site_run.proofs.Making.{moved}
 use Rattle.site_run.proofs.whole.end_numbers.Goals as goal
 
@@ -39,13 +39,33 @@ loop-desk-preserved c =
       room = search rules;
     }
 
+pub close-requires : goal.close-requires
+close-requires c =
+    let put : c.push_reserved-2.new.self.items ≡ c.loop-desk.places.items ++ c.args.last ∷ [] = search rules in
+    record {
+      some = search rules;
+      at = subst (AllAt c.args.numbers.id) (sym put) (at_push c.args.numbers.id c.loop-desk.places.items c.args.last c.loop-desk.invariant.at c.requires.last);
+    }
+
 pub returns : goal.returns
 returns c =
+    let place : Desk → Place = λ d. d.place in
     let drawn = c.close.ensures.drawn in
+    let seen = c.close.ensures.seen in
+    let all = map place c.args.desks.items in
+    let left = map place c.loop-desk.desks.items in
+    let places = c.loop-desk.places.items in
     let none : c.loop-desk.desks.items ≡ [] = empty_of c.loop-desk.desks.items (search rules) in
+    let put : c.push_reserved-2.new.self.items ≡ places ++ c.args.last ∷ [] = search rules in
+    let drew = drew_pop drawn.0 c.close.result places c.args.last (subst (SeatsDrew drawn.0 c.close.result) put drawn.1) in
+    let saw = saw_pop c.args.numbers.count seen.0 places c.args.last (subst (SeatsSaw c.args.numbers.count seen.0) put seen.1) in
     record {
       hand = drawn.0;
       count = c.close.result;
-      drew = drew_all drawn.0 c.close.result (map (λ (d : Desk). d.place) c.args.desks.items) (map (λ (d : Desk). d.place) c.loop-desk.desks.items) c.loop-desk.places.items (ap (map (λ (d : Desk). d.place)) none) c.loop-desk.invariant.taken drawn.1;
+      drew = drew_all drawn.0 c.close.result all left places (ap (map place) none) c.loop-desk.invariant.taken drew.0;
+      drew_last = drew.1;
       seated = drawn.2;
+      greatest = seen.0;
+      saw = saw_all c.args.numbers.count seen.0 all left places (ap (map place) none) c.loop-desk.invariant.taken saw.0;
+      saw_last = saw.1;
     }

@@ -10,7 +10,7 @@ invariant-loop-desk l = record {
   left_at : AllAt l.numbers.id (map (λ (d : Desk). d.place) l.desks.items);
   taken : l.places.items ++ reverse (map (λ (d : Desk). d.place) l.desks.items) ≡ reverse (map (λ (d : Desk). d.place) l.fn.desks.items);
   many : vec_len l.desks + vec_len l.places ≡ vec_len l.fn.desks;
-  room : vec_len l.fn.desks ≤ vec_capacity l.places;
+  room : vec_len l.fn.desks + 1 ≤ vec_capacity l.places;
 }
 
 abbrev pub decreases-loop-desk : goal.decreases-loop-desk

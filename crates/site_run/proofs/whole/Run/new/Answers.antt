@@ -61,5 +61,8 @@ returns-in-Ok-clause-ready g c =
     subst (λ (x : ChairsAre). IsReady C n h.turn c.args.office.numbers c.args.named.cells x (record { entrances = map entrance doors.items; places = map place desks.items; doors_room = vec_capacity doors; desks_room = vec_capacity desks }))
     (sym c.of.ensures)
     (ready C n (vec_len doors) h.turn c.args.office.numbers c.args.named.cells c.args.named.seats.items c.pop.new.self.items c.index_mut.result.now c.make_spare.new.self c.in-Some.own c.args.named.at_cells.items c.pop-2.new.self.items c.in-Some-pop.own_cells h.turns.items
-    (map entrance doors.items) (map place desks.items) (vec_capacity c.args.named.seats) (vec_capacity c.pop.new.self) (vec_capacity c.args.named.at_cells) (vec_capacity c.pop-2.new.self) (vec_capacity h.turns) (vec_capacity doors) (vec_capacity desks)
+    (map entrance doors.items) (map place desks.items) c.args.office.last (vec_capacity c.args.named.seats) (vec_capacity c.pop.new.self) (vec_capacity c.args.named.at_cells) (vec_capacity c.pop-2.new.self) (vec_capacity h.turns) (vec_capacity doors) (vec_capacity desks)
     c.index_mut.ensures.value given enough c.requires.named c.in-Some.ensures.items c.in-Some-pop.ensures.items l seats_roomy cells_roomy count many roomy made.3 c.requires.doors.0 c.requires.doors.1 (length-map doors.items entrance ∙ as_many) c.requires.idle c.requires.office doors_roomy desks_roomy)
+
+pub returns-in-Ok-clause-last : goal.returns-in-Ok-clause-last
+returns-in-Ok-clause-last g c = c.requires.office.last_is

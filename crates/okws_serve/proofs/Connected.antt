@@ -98,7 +98,7 @@ module _ {X : Type 0} (wire : X → ConnWire) (C : Config) (n most : ℕ) (R : R
   door_connects : (w : ℕ) (e f : Entrance) (a : Attended) → w < length R.workers → AttendsAt wire C n most R ended w e f a → Connects w e f
   door_connects w e f a l h =
       let all : ServesAll wire C w e f h.before h.after
-      = doors_are_served C n w wire most e f h.before h.after [] h.drawn a (first_is C n R ended w h.before h.after many h.begins h.left) h.attends in
+      = doors_are_served C n w wire most h.seen e f h.before h.after [] h.drawn a (first_is C n R ended w h.before h.after many h.begins h.left) h.attends in
       let pieces = all.lives.lives.pieces in
       let made : Listed C n R ended w h.before h.after many h.begins h.left is_order all.lives.lives = listed C n R ended w h.before h.after many h.begins h.left is_order all.lives.lives in
       let given : List Visit = filter_map (λ (share : Share). share.visit) all.shares in

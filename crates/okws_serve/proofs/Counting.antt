@@ -1,9 +1,10 @@
 -- How many of the numbers drawn from a board are below a limit.
-use Rattle.std.proofs.Common.{◌≡◌, ℕ, zero, suc, ◌+◌, ◌<◌, ◌≤◌, min, List, [], ◌∷◌, length, refl, ap, subst, arith, eq-eqb, ne_eqb, cond}
+use Rattle.std.proofs.Common.{◌≡◌, ℕ, zero, suc, ◌+◌, ◌<◌, ◌≤◌, ◌-◌, min, List, [], ◌∷◌, length, refl, ap, subst, ⊎_elim, arith, eq-eqb, ne_eqb, cond}
+use Rattle.std.proofs.lemmas.Bool.{cases_lt, le-leb, lt-leb}
 use Rattle.std.specs.Prelude.{nat_lt}
 use mathlib.Core.Logic.{dite}
 use native.Mathlib.Decide.{ℕ_discrete}
-use Rattle.turn_lock.specs.Board.{AllUnder, drawn_by}
+use Rattle.turn_lock.specs.Board.{AllUnder, drawn_by, from_on}
 use Rattle.turn_lock.proofs.BoardLists.{drawn-under}
 
 -- one where the number is below the limit
@@ -61,3 +62,27 @@ sum-all most hand n (suc c) f =
 -- the last number that was drawn is below the count
 pub last-below : (hand : ℕ → ℕ) (m c x : ℕ) (xs : List ℕ) → drawn_by hand m c ≡ x ∷ xs → x < c
 last-below hand m c x xs e = (subst (AllUnder c) e (drawn-under hand m c)).0
+
+-- one seat more, whose number is the next
+pub sum-last : (most : ℕ) (hand : ℕ → ℕ) (count k n : ℕ) → sum_below most hand count k (suc n) ≡ sum_below most hand count k n + below most (drawn_by hand (k + n) count)
+sum-last most hand count k zero = let e : k ≡ k + 0 = omega arith in let h = ap (λ m. below most (drawn_by hand m count)) e in omega (arith, h)
+sum-last most hand count k (suc n) =
+    let e : suc k + n ≡ k + suc n = omega arith in
+    let h = ap (λ m. below most (drawn_by hand m count)) e in
+    let r = sum-last most hand count (suc k) n in
+    omega (arith, h, r)
+
+-- of all numbers from r on below d, how many are below the limit
+pub below-from : (most r d : ℕ) → below most (from_on r d) ≡ min most d - r
+unfolding from_on
+below-from most r zero = omega arith
+below-from most r (suc d) = ⊎_elim
+    (λ (l : d < r). let q = lt-leb r d l in let e : 0 ≡ min most (suc d) - r = omega (arith, l) in rw q e)
+    (λ (l : r ≤ d).
+    let q = le-leb r d l in
+    let h = below-from most r d in
+    let e : one_below most d + below most (from_on r d) ≡ min most (suc d) - r = ⊎_elim
+    (λ (b : d < most). let o = one-below most d b in omega (arith, h, o, l, b))
+    (λ (b : most ≤ d). let o = none-below most d b in omega (arith, h, o, l, b)) (cases_lt d most) in
+    rw q e)
+    (cases_lt d r)

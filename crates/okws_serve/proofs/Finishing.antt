@@ -3,32 +3,34 @@ use Rattle.std.proofs.Common.{◌≡◌, ℕ, suc, ◌+◌, List, [], ◌∷◌,
 use Rattle.std.proofs.lemmas.List.{length-map}
 use Rattle.std.specs.Prelude.{Some, None}
 use Rattle.atomic_table.specs.Seated.{TableId}
-use Rattle.turn_lock.specs.BoardSeats.{AllAt}
+use Rattle.turn_lock.specs.BoardSeats.{AllAt, IsFresh}
+use Rattle.turn_lock.specs.BoardSeats.{SeatIs as Place}
 use Rattle.okws_outer.specs.Conns.{ConnWire}
 use Rattle.okws_outer.specs.Doors.{Entrance}
 use Rattle.okws_base.specs.declared.journal.Entry.{Entry}
 use Rattle.okws_plan.specs.declared.configuration.Config.{Config}
 use Rattle.okws_plan.specs.declared.event.OkdEvent.{OkdEvent}
 use Rattle.site_worker.specs.Lives.{Life}
-use Rattle.site_worker.specs.declared.console.Overseen.{Overseen}
 use Rattle.site_worker.specs.declared.door.Attended.{Attended}
 use Rattle.turn_lock.specs.Seats.{TurnIs}
 use Rattle.site_run.specs.Places.{PlacesAre}
 use Rattle.site_run.specs.Rows.{ChairsAre, WorksAs}
 use Rattle.site_run.specs.Tied.{SeatsOf}
-use Rattle.okws_serve.specs.Doors.{is_fault}
-use Rattle.okws_serve.specs.Posts.{DoorIs, ConsoleIs, WorksAt}
+use Rattle.okws_serve.specs.declared.outfit.Ending.{Ending}
+use Rattle.okws_serve.specs.Posts.{DoorIs, ConsoleIs, Concludes, WorksAt}
+use Rattle.site_worker.specs.declared.console.Overseen.{Overseen}
+use Rattle.site_worker.specs.declared.console.Overseen.TheVariants as overseen
 use Rattle.okws_serve.specs.Manned.{AreManned, ArePosted, AllDone, AllWork, AllAttended, ConsoleDone, doors_of, lives_of}
 use Rattle.okws_serve.specs.declared.post.Post.{Post}
 use Rattle.okws_serve.specs.declared.post.Post.TheVariants.{Door, Console}
-use Rattle.okws_serve.proofs.Running.{AllServed, all_back, attended_at, console_served, here_overseen, posted_many, works_many}
+use Rattle.okws_serve.proofs.Running.{AllServed, all_back, attended_at, console_served, here_overseen, overseen_by, posted_many, works_many}
 
 -- the posts of a run, once the console's is there
-pub posted : (t : TurnIs) (z : TableId) (most : ℕ) (chairs : ChairsAre) (es : List Entrance) (w : ConnWire) (ps all : List (Post DoorIs ConsoleIs)) (c : ConsoleIs) (J : Life) (lines k : ℕ)
+pub posted : (t : TurnIs) (z : TableId) (most : ℕ) (chairs : ChairsAre) (es : List Entrance) (w : ConnWire) (ps all : List (Post DoorIs ConsoleIs)) (c : ConsoleIs) (J : Life) (place : Place) (lines k : ℕ)
     → all ≡ ps ++ Console c ∷ [] → AreManned t z most 0 ps → map (λ (d : DoorIs). d.entrance) (doors_of ps) ≡ es → length ps ≡ length es
-    → c ≡ record { wire = w; lines = lines; life = J; overseen = None } → lines ≡ 0 → k ≡ length es → WorksAs t k J
+    → c ≡ record { wire = w; lines = lines; life = J; place = place; most = most; ended = None } → lines ≡ 0 → IsFresh z (length es) place → k ≡ length es → WorksAs t k J
     → SeatsOf (lives_of (doors_of ps) ++ J ∷ []) chairs → ArePosted t z most chairs es w all
-posted t z most chairs es w ps all c J lines k e h f m is first q works seats = record {
+posted t z most chairs es w ps all c J place lines k e h f m is first fresh q works seats = record {
   doors = ps;
   console = c;
   posts_are = e;
@@ -38,7 +40,9 @@ posted t z most chairs es w ps all c J lines k e h f m is first q works seats = 
   works = subst (λ L. WorksAs t (length es) L) (sym (ap (λ (x : ConsoleIs). x.life) is)) (subst (λ x. WorksAs t x J) q works);
   wire_is = ap (λ (x : ConsoleIs). x.wire) is;
   first = ap (λ (x : ConsoleIs). x.lines) is ∙ first;
-  none = ap (λ (x : ConsoleIs). x.overseen) is;
+  place_is = subst (IsFresh z (length es)) (sym (ap (λ (x : ConsoleIs). x.place) is)) fresh;
+  most_is = ap (λ (x : ConsoleIs). x.most) is;
+  none = ap (λ (x : ConsoleIs). x.ended) is;
   seats = subst (λ L. SeatsOf (lives_of (doors_of ps) ++ L ∷ []) chairs) (sym (ap (λ (x : ConsoleIs). x.life) is)) seats;
 }
 
@@ -85,7 +89,20 @@ overseer_back wire C n t z most entries es w qs q d k h e m =
     subst (λ x. WorksAs t x d.life) (sym m) (all_back C t (length es) h.console d h.none (here_overseen wire C n h.console q d h.overseen e) h.works)
 
 -- and the console was served
-pub console_back : {X : Type 0} (wire : X → ConnWire) (C : Config) (n : ℕ) (t : TurnIs) (z : TableId) (most : ℕ) (entries : List (Entry OkdEvent)) (es : List Entrance) (w x : ConnWire) (qs : List (Post DoorIs ConsoleIs)) (q : Post DoorIs ConsoleIs) (d : ConsoleIs) (how : Overseen)
-    → AllServed wire C n t z most entries es w qs q → q ≡ Console d → d.overseen ≡ Some how → x ≡ d.wire → ConsoleDone C n (length es) d.life w x (is_fault how)
-console_back wire C n t z most entries es w x qs q d how h e s f =
-    console_served C n (length es) h.console.overseen h.console d how w x h.begins h.none (here_overseen wire C n h.console q d h.overseen e) s h.wire_is (sym f) h.first
+pub console_back : {X : Type 0} (wire : X → ConnWire) (C : Config) (n : ℕ) (t : TurnIs) (z : TableId) (most : ℕ) (entries : List (Entry OkdEvent)) (es : List Entrance) (w x : ConnWire) (qs : List (Post DoorIs ConsoleIs)) (q : Post DoorIs ConsoleIs) (d : ConsoleIs) (place : Place) (e : Ending)
+    → AllServed wire C n t z most entries es w qs q → q ≡ Console d → d.ended ≡ Some e → x ≡ d.wire → place ≡ d.place → ConsoleDone C n (length es) z most d.life w x place e
+console_back wire C n t z most entries es w x qs q d place e h is s f p =
+    subst (λ (y : Place). ConsoleDone C n (length es) z most d.life w x y e) (sym p)
+    (console_served C n (length es) z most h.console.ended h.console d e w x h.begins h.place_is h.most_is h.none (here_overseen wire C n h.console q d h.overseen is) s h.wire_is (sym f) h.first)
+
+-- the console's seat is at the board as before
+pub place_at : {X : Type 0} (wire : X → ConnWire) (C : Config) (n : ℕ) (t : TurnIs) (z : TableId) (most : ℕ) (entries : List (Entry OkdEvent)) (es : List Entrance) (w : ConnWire) (qs : List (Post DoorIs ConsoleIs)) (q : Post DoorIs ConsoleIs) (d : ConsoleIs)
+    → AllServed wire C n t z most entries es w qs q → q ≡ Console d → d.place.board ≡ z
+place_at wire C n t z most entries es w qs q d h is =
+    let b = overseen_by C h.console.ended h.console d h.none (here_overseen wire C n h.console q d h.overseen is) in
+    board_same h.console.most b.1.how b.1.mid d.wire h.console.place d.place b.0 b.1.concludes ∙ h.place_is.board
+  where
+    board_same : (most : ℕ) (how : Overseen) (mid new : ConnWire) (place last : Place) (e : Ending) → Concludes most how mid new place last e → last.board ≡ place.board
+    board_same most overseen.Finished mid new place last e c = ap (λ (p : Place). p.board) c.1
+    board_same most overseen.ConsoleFault mid new place last e c = ap (λ (p : Place). p.board) c.1
+    board_same most overseen.Stop mid new place last e c = ap (λ (p : Place). p.board) c.1

@@ -171,7 +171,7 @@ module _ {X : Type 0} (wire : X → ConnWire) (C : Config) (n : ℕ) (z : TableI
   worker_begins d a e by begins ends opened shown =
       let J = d.life in
       let keeps = Remembers C n 0 J.seen.own J.launcher.seen in
-      let at_last : keeps e.life = attends_kept C n keeps (remembers_kept C n 0 J.seen.own J.launcher.seen) wire d.most d.entrance e.entrance J e.life d.place.drawn e.place.drawn a by.attends (remembers_first C n 0 J begins) in
+      let at_last : keeps e.life = attends_kept C n keeps (remembers_kept C n 0 J.seen.own J.launcher.seen) wire d.most _ d.entrance e.entrance J e.life d.place.drawn e.place.drawn a by.attends (remembers_first C n 0 J begins) in
       let there = remembered C n 0 J.seen.own J.launcher.seen e.life R ended at_last ends in
       let nobody : (k : ℕ) → m ≤ k → of by_deed k J.launcher.seen ≡ [] = λ k l. none_behind k J.launcher.seen e.life.launcher.seen at_last.seen_is (ends.turns k (same_or_more n m k same l)) in
       let it = opened nobody in
@@ -199,7 +199,7 @@ module _ {X : Type 0} (wire : X → ConnWire) (C : Config) (n : ℕ) (z : TableI
               let came : up_in J.launcher.seen s k ≡ true = it.opens.ups_are s k ∙ up in
               let b = shows.boots s (let l = short_up it.openings s k up in let q = it.all in omega (arith, l, q)) in
               let remains : Behind b.events (seen_at e.life.cells s)
-              = attends_kept C n (Remains C n s b.events) (remains_kept C n s b.events) wire d.most d.entrance e.entrance J e.life d.place.drawn e.place.drawn a by.attends b.seen in
+              = attends_kept C n (Remains C n s b.events) (remains_kept C n s b.events) wire d.most _ d.entrance e.entrance J e.life d.place.drawn e.place.drawn a by.attends b.seen in
               record { up = first_up J shows s k came; boot = first_boot J s k b (remained n 0 s b.events e.life R ended remains ends) came });
         };
         came_are = refl;

@@ -48,6 +48,7 @@ use Rattle.site_worker.specs.declared.door.Attended.{Attended}
 use Rattle.site_run.specs.Tied.{LifeBegins, LifeEnds, is_launching}
 use Rattle.site_run.proofs.Leaving.{cell_at}
 use Rattle.site_run.proofs.Once.{up_begun}
+use Rattle.okws_serve.specs.declared.outfit.Ending.{Ending}
 use Rattle.okws_serve.specs.Doors.{AllAttend, AttendsAt, ServesConsole}
 use Rattle.okws_serve.specs.Lived.{ListIsPieces, OrdersAreObeyed}
 
@@ -216,7 +217,7 @@ pub door_is : {X : Type 0} (wire : X → ConnWire) (C : Config) (n most : ℕ) (
     → ListIsPieces C R ended is_ordered w
 door_is wire C n most R ended w e f a many h =
     list_is C n R ended w h.before h.after many h.begins h.left is_ordered few_ordered (λ pieces items worker. (items_are_of_pieces C R w pieces items many worker).0)
-    (doors_are_lived C n w wire most e f h.before h.after [] h.drawn a (first_is C n R ended w h.before h.after many h.begins h.left) h.attends)
+    (doors_are_lived C n w wire most h.seen e f h.before h.after [] h.drawn a (first_is C n R ended w h.before h.after many h.begins h.left) h.attends)
 
 -- of all workers at doors
 pub doors_are : {X : Type 0} (wire : X → ConnWire) (C : Config) (n most : ℕ) (R : Record) (ended : ℕ → ℕ → Bool) (k w : ℕ) (es fs : List Entrance) (as' : List Attended) → length R.proxies ≡ length C.proxies
@@ -229,19 +230,20 @@ doors_are wire C n most R ended k w (e ∷ es) (f ∷ fs) (a ∷ as') many h l u
     (λ not. doors_are wire C n most R ended (suc k) w es fs as' many h.1 (omega arith) (omega arith))
 
 -- of the console's worker: it accepts no connection
-pub console_is : (C : Config) (n : ℕ) (R : Record) (ended : ℕ → ℕ → Bool) (w : ℕ) (x y : ConnWire) (failed : Bool) → length R.proxies ≡ length C.proxies → ServesConsole C n R ended w x y failed → ListIsPieces C R ended is_accept_item w
-console_is C n R ended w x y failed many h =
+pub console_is : (C : Config) (n : ℕ) (R : Record) (ended : ℕ → ℕ → Bool) (w : ℕ) (x y : ConnWire) (e : Ending) → length R.proxies ≡ length C.proxies → ServesConsole C n R ended w x y e → ListIsPieces C R ended is_accept_item w
+console_is C n R ended w x y e many h =
     list_is C n R ended w h.before h.after many h.begins h.left is_accept_item few_accepted (λ pieces items worker. (items_are_of_pieces C R w pieces items many worker).1)
-    (consoles_are_lived C w x y 0 h.lines h.before h.after h.how (first_is C n R ended w h.before h.after many h.begins h.left) h.oversees)
+    (consoles_are_lived C w x h.mid 0 h.lines h.before h.after h.how (first_is C n R ended w h.before h.after many h.begins h.left) h.oversees)
 
 -- and what it carried out comes of what was ordered there
-pub console_obeys : (C : Config) (n : ℕ) (R : Record) (ended : ℕ → ℕ → Bool) (w : ℕ) (x y : ConnWire) (failed : Bool) → length R.proxies ≡ length C.proxies → ServesConsole C n R ended w x y failed → OrdersAreObeyed C R w x y failed
-console_obeys C n R ended w x y failed many h =
-    let it = consoles_are_obeyed C w x y 0 h.lines h.before h.after h.how (first_is C n R ended w h.before h.after many h.begins h.left) h.oversees in
+pub console_obeys : (C : Config) (n : ℕ) (R : Record) (ended : ℕ → ℕ → Bool) (w : ℕ) (x y : ConnWire) (e : Ending) → length R.proxies ≡ length C.proxies → ServesConsole C n R ended w x y e → OrdersAreObeyed C R w x y e
+console_obeys C n R ended w x y e many h =
+    let it = consoles_are_obeyed C w x h.mid 0 h.lines h.before h.after h.how (first_is C n R ended w h.before h.after many h.begins h.left) h.oversees in
     record {
       lines = h.lines;
+      mid = h.mid;
       how = h.how;
-      failed_is = h.failed_is;
+      goes_out = h.goes_out;
       orders = it.0;
       reads = it.1;
       comes = list_obeys C n R ended w h.before h.after many h.begins h.left it.0 it.2;

@@ -15,7 +15,6 @@ use Rattle.okws_plan.specs.declared.configuration.Config.{Config}
 use Rattle.okws_plan.specs.declared.event.OkdEvent.{OkdEvent}
 use Rattle.site_worker.specs.Commands.{Oversees}
 use Rattle.site_worker.specs.Lives.{Life}
-use Rattle.site_worker.specs.declared.console.Overseen.{Overseen}
 use Rattle.site_worker.specs.declared.door.Attended.{Attended}
 use Rattle.turn_lock.specs.Seats.{TurnIs}
 use Rattle.site_run.specs.Places.{AllIdle, PlacesAre, Placed, HasPlaces, SamePlaces}
@@ -26,9 +25,10 @@ use Rattle.site_run.specs.Tied.{AllBegin, LifeBegins, MoreOf, Waiting}
 use Rattle.site_run.proofs.Lists.{rising_pop}
 use Rattle.site_run.proofs.Seating.{push_length}
 use Rattle.site_run.proofs.Tying.{begin_pop, lives_begin, more_then}
-use Rattle.okws_serve.specs.Doors.{any_starved, is_fault}
+use Rattle.okws_serve.specs.Doors.{any_starved}
+use Rattle.okws_serve.specs.declared.outfit.Ending.{Ending}
 use Rattle.okws_serve.specs.Opened.{OpensFirst, ShowsFirst}
-use Rattle.okws_serve.specs.Posts.{DoorIs, ConsoleIs, OverseenBy, OverseenIf, WorksAt}
+use Rattle.okws_serve.specs.Posts.{DoorIs, ConsoleIs, Concludes, OverseenBy, OverseenIf, WorksAt}
 use Rattle.okws_serve.specs.Manned.{ArePosted, AllWork, AllAttended, ConsoleDone, DoorsDone, doors_of, lives_of, attended_of, served_of}
 use Rattle.okws_serve.specs.declared.post.Post.{Post}
 use Rattle.okws_serve.specs.declared.post.Post.TheVariants.{Door, Console}
@@ -66,7 +66,9 @@ pub record AllServed {X : Type 0} (wire : X → ConnWire) (C : Config) (n : ℕ)
   pub works : WorksAs t (length es) console.life
   pub wire_is : console.wire ≡ w
   pub first : console.lines ≡ 0
-  pub none : console.overseen ≡ None
+  pub place_is : IsFreshPlace z (length es) console.place
+  pub most_is : console.most ≡ most
+  pub none : console.ended ≡ None
   pub begin : AllBegin C n 0 (lives_of (doors_of doors))
   pub begins : LifeBegins C n (length es) console.life
   pub opened : OpensFirst C (length es + 1) (lives_of (doors_of doors))
@@ -96,6 +98,8 @@ all_served wire C n t z most chairs entries es w before after qs q waiting opene
       works = h.works;
       wire_is = h.wire_is;
       first = h.first;
+      place_is = h.place_is;
+      most_is = h.most_is;
       none = h.none;
       begin = first.0;
       begins = first.1;
@@ -107,7 +111,7 @@ all_served wire C n t z most chairs entries es w before after qs q waiting opene
 pub posted_many : (t : TurnIs) (z : TableId) (most : ℕ) (chairs : ChairsAre) (es : List Entrance) (w : ConnWire) (ps : List (Post DoorIs ConsoleIs)) → ArePosted t z most chairs es w ps → length ps ≡ suc (length es)
 posted_many t z most chairs es w ps h = ap length h.posts_are ∙ (push_length h.doors (Console h.console) ∙ ap suc h.many)
 
-pub here_overseen : {X : Type 0} (wire : X → ConnWire) (C : Config) (n : ℕ) (c : ConsoleIs) (q : Post DoorIs ConsoleIs) (d : ConsoleIs) → WorksAt wire C n (Console c) q → q ≡ Console d → OverseenIf C c c.overseen d
+pub here_overseen : {X : Type 0} (wire : X → ConnWire) (C : Config) (n : ℕ) (c : ConsoleIs) (q : Post DoorIs ConsoleIs) (d : ConsoleIs) → WorksAt wire C n (Console c) q → q ≡ Console d → OverseenIf C c c.ended d
 here_overseen wire C n c q d w e = subst (λ x. WorksAt wire C n (Console c) x) e w
 
 -- the doors of a run were attended
@@ -132,33 +136,36 @@ doors_done wire C n t z most old new ps qs connections starved h b e f p c s i =
 }
 
 -- the console was overseen
-pub overseen_by : (C : Config) (o : Option Overseen) (c d : ConsoleIs) → o ≡ None → OverseenIf C c o d → (how : Overseen) × OverseenBy C c how d
+pub overseen_by : (C : Config) (o : Option Ending) (c d : ConsoleIs) → o ≡ None → OverseenIf C c o d → (e : Ending) × OverseenBy C c e d
 overseen_by C o c d e w = subst (λ x. OverseenIf C c x d) e w
 
-pub overseen_some : (C : Config) (o : Option Overseen) (c d : ConsoleIs) → o ≡ None → OverseenIf C c o d → IsSome d.overseen
+pub overseen_some : (C : Config) (o : Option Ending) (c d : ConsoleIs) → o ≡ None → OverseenIf C c o d → IsSome d.ended
 overseen_some C o c d e w = let b = overseen_by C o c d e w in subst IsSome (sym b.1.done) refl
 
 same_some : {A : Type 0} (x y : A) → Some x ≡ Some y → x ≡ y
 same_some x y e = cc
 
 -- and served from its first line
-pub console_served : (C : Config) (n k : ℕ) (o : Option Overseen) (c d : ConsoleIs) (how : Overseen) (w x : ConnWire) → LifeBegins C n k c.life → o ≡ None → OverseenIf C c o d → d.overseen ≡ Some how → c.wire ≡ w → d.wire ≡ x → c.lines ≡ 0 → ConsoleDone C n k d.life w x (is_fault how)
-console_served C n k o c d how w x l e i s p q f =
+pub console_served : (C : Config) (n k : ℕ) (z : TableId) (most : ℕ) (o : Option Ending) (c d : ConsoleIs) (ending : Ending) (w x : ConnWire) → LifeBegins C n k c.life → IsFreshPlace z k c.place → c.most ≡ most → o ≡ None → OverseenIf C c o d → d.ended ≡ Some ending → c.wire ≡ w → d.wire ≡ x → c.lines ≡ 0
+    → ConsoleDone C n k z most d.life w x d.place ending
+console_served C n k z most o c d ending w x l fresh limit e i s p q f =
     let b = overseen_by C o c d e i in
-    let same : b.0 ≡ how = same_some b.0 how (sym b.1.done ∙ s) in
+    let same : b.0 ≡ ending = same_some b.0 ending (sym b.1.done ∙ s) in
     record {
       lines = d.lines;
       before = c.life;
-      how = how;
+      mid = b.1.mid;
+      how = b.1.how;
+      place = c.place;
       begins = l;
-      oversees = subst (λ k. Oversees C w x k d.lines c.life d.life how) f (subst (λ v. Oversees C w v c.lines d.lines c.life d.life how) q (subst (λ v. Oversees C v d.wire c.lines d.lines c.life d.life how) p
-          (subst (λ h. Oversees C c.wire d.wire c.lines d.lines c.life d.life h) same b.1.oversees)));
-      failed_is = refl;
+      oversees = subst (λ k. Oversees C w b.1.mid k d.lines c.life d.life b.1.how) f (subst (λ v. Oversees C v b.1.mid c.lines d.lines c.life d.life b.1.how) p b.1.oversees);
+      place_is = fresh;
+      concludes = subst (λ (y : ℕ × ConnWire × Ending). Concludes y.0 b.1.how b.1.mid y.1 c.place d.place y.2) (λ i. (limit i, q i, same i)) b.1.concludes;
     }
 
 -- all seats are back
-pub all_back : (C : Config) (t : TurnIs) (k : ℕ) (c d : ConsoleIs) → c.overseen ≡ None → OverseenIf C c c.overseen d → WorksAs t k c.life → WorksAs t k d.life
-all_back C t k c d e w h = works_on t k c.life d.life (overseen_by C c.overseen c d e w).1.same h
+pub all_back : (C : Config) (t : TurnIs) (k : ℕ) (c d : ConsoleIs) → c.ended ≡ None → OverseenIf C c c.ended d → WorksAs t k c.life → WorksAs t k d.life
+all_back C t k c d e w h = works_on t k c.life d.life (overseen_by C c.ended c d e w).1.same h
 
 -- the places from which numbers were drawn are still at their board
 pub attended_at : {X : Type 0} (wire : X → ConnWire) (C : Config) (n : ℕ) (z : TableId) (most k : ℕ) (ds : List DoorIs) (as' : List Attended) (es : List DoorIs) → AllAttended wire C n z most k ds as' es

@@ -1,7 +1,9 @@
 -- How many connections were begun at all doors of a run.
-use Rattle.std.proofs.Common.{◌≡◌, ℕ, suc, ◌+◌, ◌<◌, ◌≤◌, ◌-◌, min, Bool, true, false, ◌||◌, List, [], ◌∷◌, length, map, refl, sym, ap, ◌∙◌, subst, arith, rules, append-nil}
+use Rattle.std.proofs.Common.{◌≡◌, ℕ, suc, ◌+◌, ◌<◌, ◌≤◌, ◌-◌, min, Bool, true, false, ◌||◌, List, [], ◌∷◌, ◌++◌, length, map, refl, sym, ap, ◌∙◌, subst, arith, rules, append-nil}
 use Rattle.std.proofs.lemmas.Bool.{true≢false}
-use Rattle.turn_lock.specs.Board.{drawn_by}
+use Rattle.std.specs.Prelude.{Some, None, slice_index}
+use Rattle.turn_lock.specs.Board.{drawn_by, from_on, most_drawn}
+use Rattle.turn_lock.proofs.BoardLists.{up_to-at}
 use Rattle.turn_lock.specs.BoardSeats.{IsFresh}
 use Rattle.turn_lock.specs.BoardSeats.{SeatIs as Place}
 use Rattle.atomic_table.specs.Seated.{TableId}
@@ -17,18 +19,21 @@ use Rattle.door_worker.specs.declared.serving.Serving.{Serving}
 use Rattle.door_worker.specs.declared.serving.Serving.TheVariants as serving
 use Rattle.site_worker.specs.Handling.{Handles}
 use Rattle.site_worker.specs.Lives.{Life, Starves}
-use Rattle.site_worker.specs.Rounds.{Attends, Rounds, IsLast, is_starved}
+use Rattle.site_worker.specs.Rounds.{Attends, Rounds, IsLast, WhereAwaited, is_starved}
+use Rattle.site_worker.specs.declared.console.Overseen.{Overseen}
+use Rattle.site_worker.specs.declared.console.Overseen.TheVariants as overseen
+use Rattle.site_worker.specs.declared.door.TheConstants.{STOPPED}
 use Rattle.site_worker.specs.declared.door.Attended.{Attended}
 use Rattle.site_run.specs.Places.{PlacesAre}
 use Rattle.site_run.specs.Tied.{AllBegin, AllEnd, LifeEnds}
-use Rattle.site_run.specs.Whole.{AllDrewAt, AllDrawn}
-use Rattle.okws_serve.specs.Doors.{Tally, TalliesAt, AllTally, AllAttend, connections_of, begun_of, total, any_starved, ServesConsole, ServesDoors}
-use Rattle.okws_serve.specs.Posts.{DoorIs, AttendedBy}
+use Rattle.site_run.specs.Whole.{AllDrewAt, AllSawAt, AllDrawn}
+use Rattle.okws_serve.specs.Doors.{Tally, TalliesAt, AllTally, AllAttend, connections_of, begun_of, awaited_of, total, until, any_starved, GoesOut, ServesConsole, ServesDoors}
+use Rattle.okws_serve.specs.Posts.{DoorIs, AttendedBy, Concludes}
+use Rattle.okws_serve.specs.declared.outfit.Ending.{Ending}
 use Rattle.okws_serve.specs.Manned.{AllAttended, ConsoleDone, DoorsDone, lives_of, served_of}
-use Rattle.okws_serve.specs.declared.outfit.TheConstants.{MOST_BEGUN}
 use Rattle.okws_serve.proofs.Spent.{oversees_spent}
 use Rattle.okws_serve.proofs.Finishing.{attended_same}
-use Rattle.okws_serve.proofs.Counting.{one_below, below, below-all, one-below, none-below, sum_below, sum-all, last-below}
+use Rattle.okws_serve.proofs.Counting.{one_below, below, below-all, below-from, one-below, none-below, sum_below, sum-all, sum-last, last-below}
 
 -- a count after more faults is at least what it was
 counts_whole : (c m e g : ℕ) → counted c m ≤ e → counted c m ≤ counted e g
@@ -38,68 +43,87 @@ counts_whole c m e g l = omega arith
 counts_more : (c m e f : ℕ) → counted c m ≤ e → Rose e f → counted c (m + 1) ≤ f
 counts_more c m e f l r = omega arith
 
--- a tally of turns, with all that was begun in them
-pub record Tallied (m : ℕ) (e f : Entrance) : Type 0 where
+-- a tally of turns, with all that was begun in them; where no stop was seen, none was awaited
+pub record Tallied (seen m : ℕ) (e f : Entrance) : Type 0 where
   pub tally : Tally
   pub at : TalliesAt tally e f
   pub begun : begun_of tally ≡ m
+  pub cause : seen ≡ 0 → tally.awaited ≡ 0
 
 -- nothing was begun
-none_tallied : (e f : Entrance) → f ≡ e → Tallied 0 e f
-none_tallied e f same = record {
-  tally = record { whole = 0; cut = 0; missed = 0 };
+none_tallied : (seen : ℕ) (e f : Entrance) → f ≡ e → Tallied seen 0 e f
+none_tallied seen e f same = record {
+  tally = record { whole = 0; cut = 0; missed = 0; awaited = 0 };
   at = record { finished = let h = ap (λ (x : Entrance). length x.finished) same in omega arith; faults = let h = ap (λ (x : Entrance). x.faults) same in omega arith };
   begun = refl;
+  cause = λ _. refl;
 }
 
 -- a connection more that was served whole
-whole_tallied : (m : ℕ) (e g f : Entrance) (more : ℕ) → length f.finished ≡ suc (length g.finished) → f.faults ≡ counted g.faults more → Tallied m e g → Tallied (suc m) e f
-whole_tallied m e g f more l c t =
+whole_tallied : (seen m : ℕ) (e g f : Entrance) (more : ℕ) → length f.finished ≡ suc (length g.finished) → f.faults ≡ counted g.faults more → Tallied seen m e g → Tallied seen (suc m) e f
+whole_tallied seen m e g f more l c t =
     let a = t.at.finished in let b = t.begun in let k = t.at.faults in
     record {
       tally = record t.tally { whole = suc t.tally.whole };
       at = record { finished = omega arith; faults = rw c (counts_whole e.faults (t.tally.cut + t.tally.missed) g.faults more k) };
       begun = omega arith;
+      cause = t.cause;
     }
 
 -- one more that was cut
-cut_tallied : (m : ℕ) (e g f : Entrance) → length f.finished ≡ suc (length g.finished) → Rose g.faults f.faults → Tallied m e g → Tallied (suc m) e f
-cut_tallied m e g f l r t =
+cut_tallied : (seen m : ℕ) (e g f : Entrance) → length f.finished ≡ suc (length g.finished) → Rose g.faults f.faults → Tallied seen m e g → Tallied seen (suc m) e f
+cut_tallied seen m e g f l r t =
     let a = t.at.finished in let b = t.begun in let k = counts_more e.faults (t.tally.cut + t.tally.missed) g.faults f.faults t.at.faults r in
     record {
       tally = record t.tally { cut = suc t.tally.cut };
       at = record { finished = omega arith; faults = subst (λ x. counted e.faults x ≤ f.faults) (let q : t.tally.cut + t.tally.missed + 1 ≡ suc t.tally.cut + t.tally.missed = omega arith in q) k };
       begun = omega arith;
+      cause = t.cause;
     }
 
 -- one more that did not come
-missed_tallied : (m : ℕ) (e g f : Entrance) → f.finished ≡ g.finished → Rose g.faults f.faults → Tallied m e g → Tallied (suc m) e f
-missed_tallied m e g f same r t =
+missed_tallied : (seen m : ℕ) (e g f : Entrance) → f.finished ≡ g.finished → Rose g.faults f.faults → Tallied seen m e g → Tallied seen (suc m) e f
+missed_tallied seen m e g f same r t =
     let l = ap length same in
     let a = t.at.finished in let b = t.begun in let k = counts_more e.faults (t.tally.cut + t.tally.missed) g.faults f.faults t.at.faults r in
     record {
       tally = record t.tally { missed = suc t.tally.missed };
       at = record { finished = omega arith; faults = subst (λ x. counted e.faults x ≤ f.faults) (let q : t.tally.cut + t.tally.missed + 1 ≡ t.tally.cut + suc t.tally.missed = omega arith in q) k };
       begun = omega arith;
+      cause = t.cause;
     }
 
-module _ {X : Type 0} (wire : X → ConnWire) (C : Config) (n : ℕ) where
+-- one more that was awaited when the run was stopped
+awaited_tallied : (seen m : ℕ) (e g f : Entrance) → f ≡ g → 0 < seen → Tallied seen m e g → Tallied seen (suc m) e f
+awaited_tallied seen m e g f same l t =
+    let a = t.at.finished in let b = t.begun in let k = t.at.faults in
+    let n = ap (λ (x : Entrance). length x.finished) same in let q = ap (λ (x : Entrance). x.faults) same in
+    record {
+      tally = record t.tally { awaited = suc t.tally.awaited };
+      at = record { finished = omega arith; faults = rw q k };
+      begun = omega arith;
+      cause = λ z. absurd (omega (arith, z, l));
+    }
+
+module _ {X : Type 0} (wire : X → ConnWire) (C : Config) (n seen : ℕ) where
   -- what one turn at the door adds
-  turn_tallied : (m : ℕ) (e g f : Entrance) (J K : Life) (kept : Kept) (reply : Replied) (what : Serving) → is_starved what ≡ false → Serves wire (Handles C n) Starves g f J K kept reply what → Tallied m e g → Tallied (suc m) e f
-  turn_tallied m e g f J K kept reply (serving.Served a) turn s t =
-      let h = s.finishes.finished in whole_tallied m e g f s.ended.faults (ap (λ (x : Entrance). length x.finished) h) (ap (λ (x : Entrance). x.faults) h) t
-  turn_tallied m e g f J K kept reply (serving.ConnFault a) turn s t =
-      let h = s.finishes.finished in cut_tallied m e g f (ap (λ (x : Entrance). length x.finished) h) s.rose t
-  turn_tallied m e g f J K kept reply serving.NoConn turn s t =
-      missed_tallied m e g f (ap (λ (x : Entrance). x.finished) s.0.kept) s.0.rose t
-  turn_tallied m e g f J K kept reply serving.NoMemory turn s t = absurd (true≢false turn)
+  turn_tallied : (m : ℕ) (e g f : Entrance) (J K : Life) (kept : Kept) (reply : Replied) (what : Serving) → is_starved what ≡ false → Serves wire (Handles C n) Starves g f J K kept reply what → WhereAwaited what (0 < seen)
+      → Tallied seen m e g → Tallied seen (suc m) e f
+  turn_tallied m e g f J K kept reply (serving.Served a) turn s w t =
+      let h = s.finishes.finished in whole_tallied seen m e g f s.ended.faults (ap (λ (x : Entrance). length x.finished) h) (ap (λ (x : Entrance). x.faults) h) t
+  turn_tallied m e g f J K kept reply (serving.ConnFault a) turn s w t =
+      let h = s.finishes.finished in cut_tallied seen m e g f (ap (λ (x : Entrance). length x.finished) h) s.rose t
+  turn_tallied m e g f J K kept reply serving.NoConn turn s w t =
+      missed_tallied seen m e g f (ap (λ (x : Entrance). x.finished) s.0.kept) s.0.rose t
+  turn_tallied m e g f J K kept reply serving.NoneCame turn s w t = awaited_tallied seen m e g f s.0 w t
+  turn_tallied m e g f J K kept reply serving.NoMemory turn s w t = absurd (true≢false turn)
 
   -- what rounds with these numbers add
-  rounds_tallied : (numbers : List ℕ) (e f : Entrance) (J K : Life) → Rounds wire C n numbers e f J K → Tallied (length numbers) e f
-  rounds_tallied [] e f J K r = none_tallied e f r.0
+  rounds_tallied : (numbers : List ℕ) (e f : Entrance) (J K : Life) → Rounds wire C n seen numbers e f J K → Tallied seen (length numbers) e f
+  rounds_tallied [] e f J K r = none_tallied seen e f r.0
   rounds_tallied (number ∷ numbers) e f J K r =
       let g = r.0 in let M = r.1 in let round = r.5 in
-      turn_tallied (length numbers) e g f M round.mid round.kept round.reply r.3 r.4 round.serves (rounds_tallied numbers e g J M r.2)
+      turn_tallied (length numbers) e g f M round.mid round.kept round.reply r.3 r.4 round.serves r.6 (rounds_tallied numbers e g J M r.2)
 
 -- the number for which memory was refused
 abbrev pub starved_of : Bool → ℕ
@@ -112,20 +136,21 @@ last_counts true most last l = one-below most last l
 last_counts false most last l = none-below most last l
 
 -- what was done at one door
-pub record DoorTallied (most : ℕ) (e f : Entrance) (drawn : List ℕ) (a : Attended) : Type 0 where
+pub record DoorTallied (most seen : ℕ) (e f : Entrance) (drawn : List ℕ) (a : Attended) : Type 0 where
   pub tally : Tally
   pub at : TalliesAt tally e f
   pub served : connections_of tally ≡ a.connections
   pub begun : below most drawn ≡ begun_of tally + starved_of a.starved
+  pub cause : seen ≡ 0 → awaited_of tally ≡ 0
   pub past : a.starved ≡ false → (last : ℕ) × (rest : List ℕ) × (drawn ≡ last ∷ rest) × (most ≤ last)
 
 past_of : (starved : Bool) (most last : ℕ) → IsLast starved most last → starved ≡ false → most ≤ last
 past_of true most last l e = absurd (search rules)
 past_of false most last l e = l
 
-pub door_tallied : {X : Type 0} (wire : X → ConnWire) (C : Config) (n most : ℕ) (e f : Entrance) (J K : Life) (drawn : List ℕ) (a : Attended) → Attends wire C n most e f J K [] drawn a → DoorTallied most e f drawn a
-door_tallied wire C n most e f J K drawn a h =
-    let t = rounds_tallied wire C n h.numbers e f J K h.rounds in
+pub door_tallied : {X : Type 0} (wire : X → ConnWire) (C : Config) (n most seen : ℕ) (e f : Entrance) (J K : Life) (drawn : List ℕ) (a : Attended) → Attends wire C n most seen e f J K [] drawn a → DoorTallied most seen e f drawn a
+door_tallied wire C n most seen e f J K drawn a h =
+    let t = rounds_tallied wire C n seen h.numbers e f J K h.rounds in
     let d : drawn ≡ h.last ∷ h.numbers = h.drew ∙ ap (λ xs. h.last ∷ xs) (append-nil h.numbers) in
     let u = below-all most h.numbers h.under in
     let l = last_counts a.starved most h.last h.ends in
@@ -136,6 +161,7 @@ door_tallied wire C n most e f J K drawn a h =
       at = t.at;
       served = omega arith;
       begun = rw d (omega arith);
+      cause = t.cause;
       past = λ q. (h.last, h.numbers, d, past_of a.starved most h.last h.ends q);
     }
 
@@ -168,23 +194,34 @@ map_length f [] = refl
 map_length f (x ∷ xs) = ap suc (map_length f xs)
 
 -- what was done at all doors, whose workers have numbers that rise by one from k
-pub record AllTallied {X : Type 0} (wire : X → ConnWire) (C : Config) (n most : ℕ) (R : Record) (ended : ℕ → ℕ → Bool) (hand : ℕ → ℕ) (count k : ℕ) (olds news : List Entrance) (as' : List Attended) : Type 0 where
+pub record AllTallied {X : Type 0} (wire : X → ConnWire) (C : Config) (n most : ℕ) (R : Record) (ended : ℕ → ℕ → Bool) (hand : ℕ → ℕ) (count k : ℕ) (olds news : List Entrance) (as' : List Attended) (calm : Type 0) : Type 0 where
   pub tallies : List Tally
   pub tallied : AllTally tallies olds news
   pub attend : AllAttend wire C n most R ended k olds news as'
   pub served : total connections_of tallies ≡ served_of as'
   pub begun : sum_below most hand count k (length as') ≡ total begun_of tallies + starved_in as'
+  pub cause : calm → total awaited_of tallies ≡ 0
+
+-- none of these workers has seen a stop
+abbrev AllCalm : List DoorIs → Type 0
+AllCalm [] = Unit {0}
+AllCalm (e ∷ es) = (slice_index e.place.seen STOPPED ≡ 0) × AllCalm es
+
+-- where none was shown
+all_calm : (greatest : List ℕ) (es : List DoorIs) → slice_index greatest STOPPED ≡ 0 → AllSawAt greatest (map (λ (d : DoorIs). d.place) es) → AllCalm es
+all_calm greatest [] none h = tt
+all_calm greatest (e ∷ es) none h = ((let l = up_to-at e.place.seen greatest STOPPED h.0 in omega (arith, l, none)), all_calm greatest es none h.1)
 
 module _ {X : Type 0} (wire : X → ConnWire) (C : Config) (n : ℕ) (z : TableId) (most : ℕ) (hand : ℕ → ℕ) (count : ℕ) where
   -- the door of one worker
   one_tallied : (k : ℕ) (d : DoorIs) (a : Attended) (e : DoorIs) → IsFresh z k d.place → d.most ≡ most → AttendedBy wire C n d a e
-      → Attends wire C n most d.entrance e.entrance d.life e.life [] e.place.drawn a
-  one_tallied k d a e f l b = subst (λ m. Attends wire C n m d.entrance e.entrance d.life e.life [] e.place.drawn a) l
-      (subst (λ xs. Attends wire C n d.most d.entrance e.entrance d.life e.life xs e.place.drawn a) f.drawn b.attends)
+      → Attends wire C n most (slice_index e.place.seen STOPPED) d.entrance e.entrance d.life e.life [] e.place.drawn a
+  one_tallied k d a e f l b = subst (λ m. Attends wire C n m (slice_index e.place.seen STOPPED) d.entrance e.entrance d.life e.life [] e.place.drawn a) l
+      (subst (λ xs. Attends wire C n d.most (slice_index e.place.seen STOPPED) d.entrance e.entrance d.life e.life xs e.place.drawn a) f.drawn b.attends)
 
   pub all_tallied : (R : Record) (ended : ℕ → ℕ → Bool) (k : ℕ) (ds : List DoorIs) (as' : List Attended) (es : List DoorIs) → AllAttended wire C n z most k ds as' es → AllDrewAt hand count (map (λ (d : DoorIs). d.place) es)
-      → AllBegin C n k (lives_of ds) → AllEnd n k (lives_of es) R ended → AllTallied wire C n most R ended hand count k (map (λ (d : DoorIs). d.entrance) ds) (map (λ (d : DoorIs). d.entrance) es) as'
-  all_tallied R ended k [] [] [] h w begin end = record { tallies = []; tallied = tt; attend = tt; served = refl; begun = refl }
+      → AllBegin C n k (lives_of ds) → AllEnd n k (lives_of es) R ended → AllTallied wire C n most R ended hand count k (map (λ (d : DoorIs). d.entrance) ds) (map (λ (d : DoorIs). d.entrance) es) as' (AllCalm es)
+  all_tallied R ended k [] [] [] h w begin end = record { tallies = []; tallied = tt; attend = tt; served = refl; begun = refl; cause = λ _. refl }
   all_tallied R ended k [] [] (e ∷ es) h w begin end = absurd h
   all_tallied R ended k [] (a ∷ as') es h w begin end = absurd h
   all_tallied R ended k (d ∷ ds) [] es h w begin end = absurd h
@@ -192,7 +229,7 @@ module _ {X : Type 0} (wire : X → ConnWire) (C : Config) (n : ℕ) (z : TableI
   all_tallied R ended k (d ∷ ds) (a ∷ as') (e ∷ es) h w begin end =
       let rest = all_tallied R ended (suc k) ds as' es h.3 w.1 begin.1 end.1 in
       let attends = one_tallied k d a e h.0 h.1 h.2 in
-      let t = door_tallied wire C n most d.entrance e.entrance d.life e.life e.place.drawn a attends in
+      let t = door_tallied wire C n most (slice_index e.place.seen STOPPED) d.entrance e.entrance d.life e.life e.place.drawn a attends in
       let number : e.place.number ≡ k = ap (λ (p : Place). p.number) h.2.place_is ∙ h.0.number_is in
       let drawn : e.place.drawn ≡ drawn_by hand k count = w.0 ∙ ap (λ m. drawn_by hand m count) number in
       let b : below most (drawn_by hand k count) ≡ begun_of t.tally + starved_of a.starved = subst (λ xs. below most xs ≡ begun_of t.tally + starved_of a.starved) drawn t.begun in
@@ -200,9 +237,10 @@ module _ {X : Type 0} (wire : X → ConnWire) (C : Config) (n : ℕ) (z : TableI
       record {
         tallies = t.tally ∷ rest.tallies;
         tallied = (t.at, rest.tallied);
-        attend = (record { before = d.life; after = e.life; drawn = e.place.drawn; begins = begin.0; attends = attends; left = end.0 }, rest.attend);
+        attend = (record { before = d.life; after = e.life; drawn = e.place.drawn; seen = slice_index e.place.seen STOPPED; begins = begin.0; attends = attends; left = end.0 }, rest.attend);
         served = omega arith;
         begun = omega arith;
+        cause = λ calm. let a = t.cause calm.0 in let b = rest.cause calm.1 in omega (arith, a, b);
       }
 
   -- the first worker drew a number from the limit on, where memory was refused to none
@@ -214,7 +252,7 @@ module _ {X : Type 0} (wire : X → ConnWire) (C : Config) (n : ℕ) (z : TableI
   first_past k (d ∷ ds) [] es p h w s = absurd h
   first_past k (d ∷ ds) (a ∷ as') [] p h w s = absurd h
   first_past k (d ∷ ds) (a ∷ as') (e ∷ es) p h w s =
-      let t = door_tallied wire C n most d.entrance e.entrance d.life e.life e.place.drawn a (one_tallied k d a e h.0 h.1 h.2) in
+      let t = door_tallied wire C n most (slice_index e.place.seen STOPPED) d.entrance e.entrance d.life e.life e.place.drawn a (one_tallied k d a e h.0 h.1 h.2) in
       let q = t.past (first_false a.starved (any_starved as') s) in
       let l = last-below hand e.place.number count q.0 q.1 (sym w.0 ∙ q.2) in
       let m = q.3 in omega arith
@@ -228,32 +266,80 @@ attended_many wire C n z most k (d ∷ ds) [] es h = absurd h
 attended_many wire C n z most k (d ∷ ds) (a ∷ as') [] h = absurd h
 attended_many wire C n z most k (d ∷ ds) (a ∷ as') (e ∷ es) h = let m = attended_many wire C n z most (suc k) ds as' es h.3 in omega arith
 
--- the doors of a run were served, where all numbers were drawn from their workers' seats
-pub serves_doors : {X : Type 0} (wire : X → ConnWire) (C : Config) (n : ℕ) (z : TableId) (most many : ℕ) (R : Record) (ended : ℕ → ℕ → Bool) (lives : List Life) (old new : PlacesAre) (connections : ℕ) (starved : Bool)
-    → most ≤ MOST_BEGUN → 0 < many → length new.entrances ≡ many → AllDrawn many new.places → DoorsDone wire C n z most lives old new connections starved → AllEnd n 0 lives R ended
-    → ServesDoors wire C n most R ended old.entrances new.entrances connections starved
-serves_doors wire C n z most many R ended lives old new connections starved few some l w d end =
+-- what was drawn from the console's seat, and what it has seen
+record LastDid (most number : ℕ) (last : Place) (e : Ending) : Type 0 where
+  number_is : last.number ≡ number
+  drew : below most last.drawn ≡ most - until most e.stopped
+  few : until most e.stopped ≤ most
+  calm : e.stopped ≡ None → slice_index last.seen STOPPED ≡ 0
+
+none_did : (most number : ℕ) (z : TableId) (place last : Place) (e : Ending) → IsFresh z number place → last ≡ place → e.stopped ≡ None → LastDid most number last e
+none_did most number z place last e f same none =
+    let nothing : below most last.drawn ≡ 0 = ap (λ (p : Place). below most p.drawn) same ∙ ap (below most) f.drawn in
+    let rest : 0 ≡ most - most = omega arith in
+    record {
+      number_is = ap (λ (p : Place). p.number) same ∙ f.number_is;
+      drew = nothing ∙ (rest ∙ ap (λ o. most - until most o) (sym none));
+      few = subst (λ o. until most o ≤ most) (sym none) (omega arith);
+      calm = λ _. ap (λ (p : Place). slice_index p.seen STOPPED) same ∙ ap (λ (l : List ℕ). slice_index l STOPPED) f.seen;
+    }
+
+some_none : {A : Type 0} (x : A) → Some x ≡ None → ⊥
+some_none x e = cc
+
+last_did : (most number : ℕ) (z : TableId) (how : Overseen) (mid new : ConnWire) (place last : Place) (e : Ending) → most ≤ most_drawn → IsFresh z number place → Concludes most how mid new place last e → LastDid most number last e
+last_did most number z overseen.Finished mid new place last e few f c = none_did most number z place last e f c.1 c.2
+last_did most number z overseen.ConsoleFault mid new place last e few f c = none_did most number z place last e f c.1 c.2
+last_did most number z overseen.Stop mid new place last e few f c =
+    let first = c.0 in
+    let drawn : last.drawn ≡ from_on first most_drawn = ap (λ (p : Place). p.drawn) c.1 ∙ (ap (λ (l : List ℕ). from_on first most_drawn ++ l) f.drawn ∙ append-nil (from_on first most_drawn)) in
+    let many : below most (from_on first most_drawn) ≡ min most most_drawn - first = below-from most first most_drawn in
+    let left : min most most_drawn - first ≡ most - min (min first most) most = omega (arith, few) in
+    record {
+      number_is = ap (λ (p : Place). p.number) c.1 ∙ f.number_is;
+      drew = ap (below most) drawn ∙ (many ∙ (left ∙ ap (λ o. most - until most o) (sym c.2)));
+      few = subst (λ o. until most o ≤ most) (sym c.2) (omega arith);
+      calm = λ none. absurd (some_none (min first most) (sym c.2 ∙ none));
+    }
+
+-- the doors of a run were served, where all numbers were drawn from their workers' seats and the console's
+pub serves_doors : {X : Type 0} (wire : X → ConnWire) (C : Config) (n : ℕ) (z : TableId) (most many : ℕ) (R : Record) (ended : ℕ → ℕ → Bool) (lives : List Life) (old new : PlacesAre) (connections : ℕ) (starved : Bool) (life : Life) (x y : ConnWire) (last : Place) (e : Ending)
+    → most ≤ most_drawn → 0 < many → length new.entrances ≡ many → AllDrawn (many + 1) new.places last → DoorsDone wire C n z most lives old new connections starved → AllEnd n 0 lives R ended
+    → ConsoleDone C n many z most life x y last e → ServesDoors wire C n most R ended old.entrances new.entrances connections starved e.stopped
+serves_doors wire C n z most many R ended lives old new connections starved life x y last e few some l w d end console =
     let places = λ (x : DoorIs). x.place in
+    let did = last_did most many z console.how console.mid y console.place last e few console.place_is console.concludes in
     let drew : AllDrewAt w.hand w.count (map (λ (x : DoorIs). x.place) d.after) = subst (AllDrewAt w.hand w.count) d.places_are w.drew in
+    let saw : AllSawAt w.greatest (map (λ (x : DoorIs). x.place) d.after) = subst (AllSawAt w.greatest) d.places_are w.saw in
     let t = all_tallied wire C n z most w.hand w.count R ended 0 d.before d.attended d.after d.each drew d.begin (subst (λ Js. AllEnd n 0 Js R ended) d.lives_are end) in
     let m : length d.attended ≡ many = attended_many wire C n z most 0 d.before d.attended d.after d.each ∙ (sym (map_length (λ (x : DoorIs). x.entrance) d.after) ∙ (sym (ap length d.new_is) ∙ l)) in
-    let s : sum_below most w.hand w.count 0 (length d.attended) ≡ min most w.count = subst (λ x. sum_below most w.hand w.count 0 x ≡ min most w.count) (sym m) (sum-all most w.hand many w.count w.seated) in
+    let all : sum_below most w.hand w.count 0 (many + 1) ≡ min most w.count = sum-all most w.hand (many + 1) w.count w.seated in
+    let next : sum_below most w.hand w.count 0 (suc many) ≡ sum_below most w.hand w.count 0 many + below most (drawn_by w.hand (0 + many) w.count) = sum-last most w.hand w.count 0 many in
+    let same : sum_below most w.hand w.count 0 (suc many) ≡ sum_below most w.hand w.count 0 (many + 1) = ap (sum_below most w.hand w.count 0) (let q : suc many ≡ many + 1 = omega arith in q) in
+    let drawn : drawn_by w.hand (0 + many) w.count ≡ last.drawn = ap (λ k. drawn_by w.hand k w.count) (let q = did.number_is in let r : 0 + many ≡ last.number = omega arith in r) ∙ sym w.drew_last in
+    let others : below most (drawn_by w.hand (0 + many) w.count) ≡ most - until most e.stopped = ap (below most) drawn ∙ did.drew in
+    let s : sum_below most w.hand w.count 0 (length d.attended) ≡ sum_below most w.hand w.count 0 many = ap (sum_below most w.hand w.count 0) m in
+    let u = did.few in
     let b = t.begun in
     let c = t.served in
-    let e = d.connections_are in
+    let f = d.connections_are in
     record {
       attended = d.attended;
       attend = subst (λ x. AllAttend wire C n most R ended 0 x new.entrances d.attended) (sym d.old_is) (subst (λ x. AllAttend wire C n most R ended 0 (map (λ (y : DoorIs). y.entrance) d.before) x d.attended) (sym d.new_is) t.attend);
       starved_is = d.starved_is;
       tallies = t.tallies;
       tallied = subst (λ x. AllTally t.tallies x new.entrances) (sym d.old_is) (subst (λ x. AllTally t.tallies (map (λ (y : DoorIs). y.entrance) d.before) x) (sym d.new_is) t.tallied);
-      at_most = omega arith;
+      at_most = omega (arith, all, next, same, others, s, u, b);
       at_least = λ f.
           let g : any_starved d.attended ≡ false = sym d.starved_is ∙ f in
           let h = none_starved d.attended g in
           let p = first_past wire C n z most w.hand w.count 0 d.before d.attended d.after (omega arith) d.each drew g in
-          omega arith;
-      connections_are = let q = total_less t.tallies in omega arith;
+          omega (arith, all, next, same, others, s, u, b, h, p);
+      unstopped = λ none.
+          let seen : last.seen ≡ w.greatest = w.saw_last (let q = did.number_is in omega arith) in
+          let calm : slice_index w.greatest STOPPED ≡ 0 = ap (λ (l : List ℕ). slice_index l STOPPED) (sym seen) ∙ did.calm none in
+          t.cause (all_calm w.greatest d.after calm saw);
+      connections_are = let q = total_less t.tallies in omega (arith, all, next, same, s, b, c, f, few);
     }
 
 -- there is a life for each door
@@ -263,18 +349,25 @@ lives_many wire C n z most lives old new connections starved d =
     ap length d.lives_are ∙ (map_length (λ (x : DoorIs). x.life) d.after ∙ (attended_same wire C n z most 0 d.before d.attended d.after d.each
     ∙ (sym (map_length (λ (x : DoorIs). x.entrance) d.before) ∙ ap length (sym d.old_is))))
 
+-- how the console went on
+goes_out : (most : ℕ) (how : Overseen) (mid new : ConnWire) (place last : Place) (e : Ending) → Concludes most how mid new place last e → GoesOut how mid new e
+goes_out most overseen.Finished mid new place last e c = (c.0, c.2, c.3)
+goes_out most overseen.ConsoleFault mid new place last e c = (c.0, c.2, c.3)
+goes_out most overseen.Stop mid new place last e c = (min c.0 most, c.2, c.3, c.4, c.5)
+
 -- the console was served, by a worker whose life ended in the record
-pub console_ends : (C : Config) (n : ℕ) (R : Record) (ended : ℕ → ℕ → Bool) (w : ℕ) (life : Life) (old new : ConnWire) (failed : Bool) → ConsoleDone C n w life old new failed → LifeEnds n w life R ended → ServesConsole C n R ended w old new failed
-console_ends C n R ended w life old new failed d end = record {
+pub console_ends : (C : Config) (n : ℕ) (R : Record) (ended : ℕ → ℕ → Bool) (w : ℕ) (z : TableId) (most : ℕ) (life : Life) (old new : ConnWire) (last : Place) (e : Ending) → ConsoleDone C n w z most life old new last e → LifeEnds n w life R ended → ServesConsole C n R ended w old new e
+console_ends C n R ended w z most life old new last e d end = record {
   lines = d.lines;
   before = d.before;
   after = life;
+  mid = d.mid;
   how = d.how;
   begins = d.begins;
   oversees = d.oversees;
-  failed_is = d.failed_is;
+  goes_out = goes_out most d.how d.mid new d.place last e d.concludes;
   left = end;
-  spent = oversees_spent C R w old new 0 d.lines d.before life d.how d.oversees end.pubd;
+  spent = oversees_spent C R w old d.mid 0 d.lines d.before life d.how d.oversees end.pubd;
 }
 
 -- there are as many doors as before

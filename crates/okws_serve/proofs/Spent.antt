@@ -103,11 +103,13 @@ done_then : (C : Config) (line : ℕ) (o : Order) (bytes : List ℕ) (left : Opt
 done_then C line (order.Publish t size) bytes left J a K P h b = published_then line t size bytes left J a K P h b
 done_then C line (order.Relaunch s) bytes left J a K P h b = relaunches_then C J s h.1 K P h.2 b
 done_then C line order.End bytes left J a K P h b = absurd h
+done_then C line order.Stop bytes left J a K P h b = absurd h
 done_then C line (order.Refused broken size) bytes left J a K P h b = same_then J K P h.2 b
 
 step_then : (C : Config) (w x : ConnWire) (before after : ℕ) (J K : Life) (what : Stepped) (P : List (Entry PubdEvent)) → StepsAt C w x before after J K what → Behind K.pubd P → Behind J.pubd P
 step_then C w x before after J K (stepped.Answered a) P h b = done_then C after (order_of C h.0.line) h.0.bytes x.left J a K P h.0.is b
 step_then C w x before after J K stepped.Finished P h b = same_then J K P h.2 b
+step_then C w x before after J K stepped.Stop P h b = same_then J K P h.2 b
 step_then C w x before after J K (stepped.ConsoleFault (Some a)) P h b = done_then C after (order_of C h.0.line) h.0.bytes x.left J a K P h.0.is b
 step_then C w x before after J K (stepped.ConsoleFault None) P h b = same_then J K P h.3 b
 
@@ -128,11 +130,13 @@ module _ (C : Config) (R : Record) where
   done_spent line (order.Publish t size) bytes left J a K h b = published_spent line t size bytes left J a K h b
   done_spent line (order.Relaunch s) bytes left J a K h b = tt
   done_spent line order.End bytes left J a K h b = tt
+  done_spent line order.Stop bytes left J a K h b = tt
   done_spent line (order.Refused broken size) bytes left J a K h b = tt
 
   step_spent : (w x : ConnWire) (before after : ℕ) (J K : Life) (what : Stepped) (h : StepsAt C w x before after J K what) → Behind K.pubd R.pubd → StepSpent C R w x before after J K what h
   step_spent w x before after J K (stepped.Answered a) h b = done_spent after (order_of C h.0.line) h.0.bytes x.left J a K h.0.is b
   step_spent w x before after J K stepped.Finished h b = tt
+  step_spent w x before after J K stepped.Stop h b = tt
   step_spent w x before after J K (stepped.ConsoleFault (Some a)) h b = done_spent after (order_of C h.0.line) h.0.bytes x.left J a K h.0.is b
   step_spent w x before after J K (stepped.ConsoleFault None) h b = tt
 

@@ -1,5 +1,7 @@
 -- What was done at the doors of a run and at its console.
-use Rattle.std.specs.Prelude.{◌≡◌, ◌≤◌, ℕ, suc, ◌+◌, Bool, List, [], ◌∷◌, length, true, false, ◌||◌}
+use Rattle.std.specs.Prelude.{◌≡◌, ◌≤◌, ℕ, suc, ◌+◌, min, Bool, List, [], ◌∷◌, length, true, false, ◌||◌}
+use Rattle.std.specs.declared.option.Option.{Option}
+use Rattle.std.specs.declared.option.Option.TheVariants.{Some, None}
 use Rattle.okws_plan.specs.declared.configuration.Config.{Config}
 use Rattle.okws_outer.specs.Conns.{ConnWire}
 use Rattle.okws_outer.specs.Doors.{Entrance}
@@ -11,14 +13,20 @@ use Rattle.site_worker.specs.Commands.{Oversees}
 use Rattle.site_worker.specs.Rounds.{Attends}
 use Rattle.site_worker.specs.declared.console.Overseen.{Overseen}
 use Rattle.site_worker.specs.declared.console.Overseen.TheVariants as overseen
+use Rattle.admin_console.specs.Steps.{Tells}
+use Rattle.admin_console.specs.declared.answer.Answer.TheVariants as answer
+use Rattle.admin_console.specs.declared.step.Stepped.{Stepped}
 use Rattle.site_run.specs.Tied.{LifeBegins, LifeEnds}
+use Rattle.okws_serve.specs.Posts.{is_cut}
 use Rattle.okws_serve.specs.Spent.{OverseesSpent}
+use Rattle.okws_serve.specs.declared.outfit.Ending.{Ending}
 
--- What was done at a door: so many connections were served whole, so many were cut, and so many did not come.
+-- What was done at a door: so many connections were served whole, so many were cut, and so many did not come; and so many were awaited when the run was stopped, and did not come.
 pub record Tally : Type 0 where
   pub whole : ℕ
   pub cut : ℕ
   pub missed : ℕ
+  pub awaited : ℕ
 
 -- The connections of a door.
 abbrev pub connections_of : Tally → ℕ
@@ -26,7 +34,11 @@ connections_of t = t.whole + t.cut
 
 -- All that was begun at a door.
 abbrev pub begun_of : Tally → ℕ
-begun_of t = t.whole + t.cut + t.missed
+begun_of t = t.whole + t.cut + t.missed + t.awaited
+
+-- Those that were awaited when the run was stopped.
+abbrev pub awaited_of : Tally → ℕ
+awaited_of t = t.awaited
 
 -- The sum over all doors.
 abbrev pub total : (Tally → ℕ) → List Tally → ℕ
@@ -53,7 +65,8 @@ pub record AttendsAt {X : Type 0} (wire : X → ConnWire) (C : Config) (n most :
   pub after : Life
   pub drawn : List ℕ
   pub begins : LifeBegins C n w before
-  pub attends : Attends wire C n most old new before after [] drawn a
+  pub seen : ℕ
+  pub attends : Attends wire C n most seen old new before after [] drawn a
   pub left : LifeEnds n w after R ended
 
 -- The same at each door, by workers whose numbers rise by one from w.
@@ -70,30 +83,38 @@ abbrev pub any_starved : List Attended → Bool
 any_starved [] = false
 any_starved (a ∷ as') = a.starved || any_starved as'
 
--- The doors of a run were attended, door w by number w, whose life ended in the record: at most `most` connections were begun in all; and just so many, unless memory was refused to a worker, where those that were cut or did not come are among them and were counted at their doors.
-pub record ServesDoors {X : Type 0} (wire : X → ConnWire) (C : Config) (n most : ℕ) (R : Record) (ended : ℕ → ℕ → Bool) (old new : List Entrance) (connections : ℕ) (starved : Bool) : Type 0 where
+-- How many connections are begun: as many as were asked for, or, where the run was stopped, as many as were begun by then.
+abbrev pub until : ℕ → Option ℕ → ℕ
+until most None = most
+until most (Some n) = min n most
+
+-- The doors of a run were attended, door w by number w, whose life ended in the record: at most `most` connections were begun in all, and none behind those that were begun when the run was stopped; and just so many, unless memory was refused to a worker, where those that were cut or did not come are among them and were counted at their doors; and where the run was stopped, those that were awaited then.
+pub record ServesDoors {X : Type 0} (wire : X → ConnWire) (C : Config) (n most : ℕ) (R : Record) (ended : ℕ → ℕ → Bool) (old new : List Entrance) (connections : ℕ) (starved : Bool) (stopped : Option ℕ) : Type 0 where
   pub attended : List Attended
   pub attend : AllAttend wire C n most R ended 0 old new attended
   pub starved_is : starved ≡ any_starved attended
   pub tallies : List Tally
   pub tallied : AllTally tallies old new
-  pub at_most : total begun_of tallies ≤ most
-  pub at_least : starved ≡ false → most ≤ total begun_of tallies
+  pub at_most : total begun_of tallies ≤ until most stopped
+  pub at_least : starved ≡ false → until most stopped ≤ total begun_of tallies
+  pub unstopped : stopped ≡ None → total awaited_of tallies ≡ 0
   pub connections_are : connections ≡ total connections_of tallies
 
--- The console failed.
-abbrev pub is_fault : Overseen → Bool
-is_fault overseen.Finished = false
-is_fault overseen.ConsoleFault = true
+-- How a console went on that was overseen so: where it ended by `stop`, the line of the answer was given, which says how many connections are begun, or a front of it; else nothing.
+abbrev pub GoesOut : Overseen → ConnWire → ConnWire → Ending → Type 0
+GoesOut overseen.Finished mid new e = (new ≡ mid) × (e.stopped ≡ None) × (e.failed ≡ false)
+GoesOut overseen.ConsoleFault mid new e = (new ≡ mid) × (e.stopped ≡ None) × (e.failed ≡ true)
+GoesOut overseen.Stop mid new e = (n : ℕ) × (e.stopped ≡ Some n) × (what : Stepped) × Tells mid new (answer.Stopping n) what × (e.failed ≡ is_cut what)
 
--- A console of a site was overseen from its first line by a worker of number w, whose life began there and ended in the record: its commands were carried out and answered one after the other, to `end` or its end, or until a call of it failed. Where a publication was refused since all editions of its template are spent, the record has as many as a template may have. Number n launches.
-pub record ServesConsole (C : Config) (n : ℕ) (R : Record) (ended : ℕ → ℕ → Bool) (w : ℕ) (old new : ConnWire) (failed : Bool) : Type 0 where
+-- A console of a site was overseen from its first line by a worker of number w, whose life began there and ended in the record: its commands were carried out and answered one after the other, to `end`, `stop` or its end, or until a call of it failed. Where a publication was refused since all editions of its template are spent, the record has as many as a template may have. Number n launches.
+pub record ServesConsole (C : Config) (n : ℕ) (R : Record) (ended : ℕ → ℕ → Bool) (w : ℕ) (old new : ConnWire) (e : Ending) : Type 0 where
   pub lines : ℕ
   pub before : Life
   pub after : Life
+  pub mid : ConnWire
   pub how : Overseen
   pub begins : LifeBegins C n w before
-  pub oversees : Oversees C old new 0 lines before after how
-  pub failed_is : failed ≡ is_fault how
+  pub oversees : Oversees C old mid 0 lines before after how
+  pub goes_out : GoesOut how mid new e
   pub left : LifeEnds n w after R ended
-  pub spent : OverseesSpent C R old new 0 lines before after how oversees
+  pub spent : OverseesSpent C R old mid 0 lines before after how oversees

@@ -16,7 +16,8 @@ use Rattle.worker_lives.specs.Ending.{launches_end}
 use Rattle.worker_lives.specs.Waiting.{leads_in}
 use Rattle.site_worker.specs.declared.console.Overseen.{Overseen}
 use Rattle.round_lives.specs.Orders.{Reads}
-use Rattle.okws_serve.specs.Doors.{is_fault}
+use Rattle.okws_serve.specs.Doors.{GoesOut}
+use Rattle.okws_serve.specs.declared.outfit.Ending.{Ending}
 
 -- The outside tells of each child that has ended by `ended`.
 abbrev pub TellsEnds : Outside → (ℕ → ℕ → Bool) → Type 0
@@ -33,10 +34,11 @@ pub record ListIsPieces (C : Config) (R : Record) (ended : ℕ → ℕ → Bool)
   pub crashed : (T : Outside) → TellsEnds T ended → IsTrue (crashes_were T R w (list_of R w))
 
 -- What number w carried out for an operator comes of the orders that were taken from a console, in order: its list has a Publish or an Asked of its own for each that was obeyed, by what it was answered, and no other.
-pub record OrdersAreObeyed (C : Config) (R : Record) (w : ℕ) (old new : ConnWire) (failed : Bool) : Type 0 where
+pub record OrdersAreObeyed (C : Config) (R : Record) (w : ℕ) (old new : ConnWire) (e : Ending) : Type 0 where
   pub lines : ℕ
+  pub mid : ConnWire
   pub how : Overseen
-  pub failed_is : failed ≡ is_fault how
+  pub goes_out : GoesOut how mid new e
   pub orders : List Ordered
-  pub reads : Reads C old new 0 lines how orders
+  pub reads : Reads C old mid 0 lines how orders
   pub comes : IsTrue (come_of false orders (filter_map item_order (reverse (list_of R w))))

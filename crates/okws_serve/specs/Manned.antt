@@ -8,6 +8,7 @@ use Rattle.okws_outer.specs.Conns.{ConnWire}
 use Rattle.okws_outer.specs.Doors.{Entrance}
 use Rattle.turn_lock.specs.Seats.{TurnIs}
 use Rattle.turn_lock.specs.BoardSeats.{IsFresh}
+use Rattle.turn_lock.specs.BoardSeats.{SeatIs as Place}
 use Rattle.named_columns.specs.Counts.{capped}
 use Rattle.site_worker.specs.Commands.{Oversees}
 use Rattle.site_worker.specs.Lives.{Life}
@@ -16,9 +17,10 @@ use Rattle.site_worker.specs.declared.door.Attended.{Attended}
 use Rattle.site_run.specs.Places.{AllIdle, PlacesAre}
 use Rattle.site_run.specs.Rows.{ChairsAre, WorksAs}
 use Rattle.site_run.specs.Tied.{AllBegin, LifeBegins, SeatsOf}
-use Rattle.okws_serve.specs.Doors.{any_starved, is_fault}
+use Rattle.okws_serve.specs.Doors.{any_starved}
 use Rattle.okws_serve.specs.Opened.{OpensFirst, ShowsFirst}
-use Rattle.okws_serve.specs.Posts.{DoorIs, ConsoleIs, AttendedBy, WorksAt}
+use Rattle.okws_serve.specs.Posts.{DoorIs, ConsoleIs, AttendedBy, Concludes, WorksAt}
+use Rattle.okws_serve.specs.declared.outfit.Ending.{Ending}
 use Rattle.okws_serve.specs.declared.post.Post.{Post}
 use Rattle.okws_serve.specs.declared.post.Post.TheVariants.{Door, Console}
 
@@ -45,7 +47,7 @@ doors_of (Console c ∷ ps) = doors_of ps
 abbrev pub lives_of : List DoorIs → List Life
 lives_of ds = map (λ (d : DoorIs). d.life) ds
 
--- Posts of a run: a worker at each of these doors, which it did not attend yet, and after them one at the console, of which no line was read; it has the next number. They have these seats.
+-- Posts of a run: a worker at each of these doors, which it did not attend yet, and after them one at the console, of which no line was read; it has the next number, also at the board. They have these seats.
 pub record ArePosted (t : TurnIs) (z : TableId) (most : ℕ) (chairs : ChairsAre) (entrances : List Entrance) (wire : ConnWire) (posts : List (Post DoorIs ConsoleIs)) : Type 0 where
   pub doors : List (Post DoorIs ConsoleIs)
   pub console : ConsoleIs
@@ -56,7 +58,9 @@ pub record ArePosted (t : TurnIs) (z : TableId) (most : ℕ) (chairs : ChairsAre
   pub works : WorksAs t (length entrances) console.life
   pub wire_is : console.wire ≡ wire
   pub first : console.lines ≡ 0
-  pub none : console.overseen ≡ None
+  pub place_is : IsFresh z (length entrances) console.place
+  pub most_is : console.most ≡ most
+  pub none : console.ended ≡ None
   pub seats : SeatsOf (lives_of (doors_of doors) ++ console.life ∷ []) chairs
 
 -- These are posts at doors alone, which were attended.
@@ -113,21 +117,24 @@ pub record DoorsDone {X : Type 0} (wire : X → ConnWire) (C : Config) (n : ℕ)
   pub starved_is : starved ≡ any_starved attended
   pub idle : AllIdle new.entrances
 
--- A console was overseen from its first line, by a worker of number w whose life began there and is this now. Number n launches.
-pub record ConsoleDone (C : Config) (n w : ℕ) (life : Life) (old new : ConnWire) (failed : Bool) : Type 0 where
+-- A console was overseen from its first line, by a worker of number w whose life began there and is this now, with a seat of that number at this board, from which nothing was drawn before. Number n launches.
+pub record ConsoleDone (C : Config) (n w : ℕ) (z : TableId) (most : ℕ) (life : Life) (old new : ConnWire) (now : Place) (e : Ending) : Type 0 where
   pub lines : ℕ
   pub before : Life
+  pub mid : ConnWire
   pub how : Overseen
+  pub place : Place
   pub begins : LifeBegins C n w before
-  pub oversees : Oversees C old new 0 lines before life how
-  pub failed_is : failed ≡ is_fault how
+  pub oversees : Oversees C old mid 0 lines before life how
+  pub place_is : IsFresh z w place
+  pub concludes : Concludes most how mid new place now e
 
 -- All workers of a run left their posts, at the doors and at the console, and these are the seats of their lives. The first of these lives began with the first launches of all services; what came up in them stands among these entries of okd, before any that a worker made.
-pub record WorkDone {X : Type 0} (wire : X → ConnWire) (C : Config) (n : ℕ) (z : TableId) (most : ℕ) (chairs : ChairsAre) (entries : List (Entry OkdEvent)) (old new : PlacesAre) (before after : ConnWire) (connections : ℕ) (starved failed : Bool) : Type 0 where
+pub record WorkDone {X : Type 0} (wire : X → ConnWire) (C : Config) (n : ℕ) (z : TableId) (most : ℕ) (chairs : ChairsAre) (entries : List (Entry OkdEvent)) (old new : PlacesAre) (before after : ConnWire) (connections : ℕ) (starved : Bool) (now : Place) (e : Ending) : Type 0 where
   pub lives : List Life
   pub last : Life
   pub seats : SeatsOf (lives ++ last ∷ []) chairs
   pub doors : DoorsDone wire C n z most lives old new connections starved
   pub opened : OpensFirst C (length old.entrances + 1) (lives_of doors.before)
   pub shown : ShowsFirst C n (length old.entrances + 1) entries (lives_of doors.before)
-  pub console : ConsoleDone C n (length old.entrances) last before after failed
+  pub console : ConsoleDone C n (length old.entrances) z most last before after now e

@@ -50,13 +50,14 @@ outside_of start doors left orders failed = record {
   console_failed = failed;
 }
 
--- A run of a site with tokens of this seed, in which number n launched and at most `most` connections were begun, from doors and a console as they were to objects as they are then. Its record, with the connections that its doors finished, is legal by what the outside tells. It is the record in which the lives of its workers ended: door w is number w's, and the console that of the number behind them.
+-- A run of a site with tokens of this seed, in which number n launched and at most `most` connections were begun, or as many as were begun when it was stopped, from doors and a console as they were to objects as they are then. Its record, with the connections that its doors finished, is legal by what the outside tells. It is the record in which the lives of its workers ended: door w is number w's, and the console that of the number behind them.
 pub record Runs {X : Type 0} (wire : X → ConnWire) (C : Config) (seed : List ℕ) (n most : ℕ) (start : StartIs) (doors : List Entrance) (console : ConnWire) (ran : Ran) (left : ObjectsAre) : Type 0 where
-  pub served : ServesDoors wire C n most ran.record (ended_among left.children.finished) doors left.entrances ran.counts.connections ran.starved
-  pub steered : ServesConsole C n ran.record (ended_among left.children.finished) (length doors) console left.console ran.console_failed
+  pub stopped : Option ℕ
+  pub served : ServesDoors wire C n most ran.record (ended_among left.children.finished) doors left.entrances ran.counts.connections ran.starved stopped
+  pub steered : ServesConsole C n ran.record (ended_among left.children.finished) (length doors) console left.console (record { stopped = stopped; failed = ran.console_failed })
   pub door_lists : (w : ℕ) → w < length doors → ListIsPieces C ran.record (ended_among left.children.finished) is_ordered w
   pub console_list : ListIsPieces C ran.record (ended_among left.children.finished) is_accept_item (length doors)
-  pub orders : OrdersAreObeyed C ran.record (length doors) console left.console ran.console_failed
+  pub orders : OrdersAreObeyed C ran.record (length doors) console left.console (record { stopped = stopped; failed = ran.console_failed })
   pub connections : List (List Connection)
   pub finish : AllFinish wire doors left.entrances connections
   pub legal : IsLegal C seed (outside_of start doors left orders.orders ran.console_failed) (record ran.record { doors = connections })

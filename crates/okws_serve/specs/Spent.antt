@@ -37,6 +37,7 @@ IsSpent R _ a = Unit {0}
 abbrev pub StepSpent : (C : Config) (R : Record) (w x : ConnWire) (before after : ℕ) (J K : Life) (what : Stepped) → StepsAt C w x before after J K what → Type 0
 StepSpent C R w x before after J K (stepped.Answered a) h = IsSpent R (order_of C h.0.line) a
 StepSpent C R w x before after J K stepped.Finished h = Unit {0}
+StepSpent C R w x before after J K stepped.Stop h = Unit {0}
 StepSpent C R w x before after J K (stepped.ConsoleFault (Some a)) h = IsSpent R (order_of C h.0.line) a
 StepSpent C R w x before after J K (stepped.ConsoleFault None) h = Unit {0}
 

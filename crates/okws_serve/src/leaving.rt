@@ -10,6 +10,7 @@ ghost use Rattle.okws_serve.specs.Doors.{any_starved};
 ghost use Rattle.okws_serve.specs.Manned.{doors_of, lives_of, AllDone, AreAt, attended_of, served_of};
 ghost use Rattle.okws_serve.specs.Posts.{DoorIs};
 
+use crate::outfit::Ending;
 use crate::post::{ConsolePost, DoorPost, Post, PostOf};
 use okld_launch::named::Staffed;
 use okws_outer::children::Children;
@@ -22,9 +23,9 @@ use site_cells::lock_names::CellNames;
 use site_locks::named::Site;
 use site_run::places::Doors;
 use site_run::row::Chairs;
-use site_worker::console::Overseen;
 use site_worker::door::Attended;
 use std::sync::Wait;
+use turn_lock::board::Seat as Place;
 
 /// How the workers at the doors did.
 #[derive(Clone, Copy)]
@@ -144,21 +145,22 @@ pub(crate) fn leave_console<
 >(
     post: ConsolePost<'_, R, G, N, J, C, K, S, F, O>,
     chairs: &mut Chairs<N, J, C, K, S, F>,
-) -> (O, Overseen)
-    requires done { IsSome post.overseen }
+) -> (O, Place, Ending)
+    requires done { IsSome post.ended }
     requires room { Spacious (length chairs.old.seats + 1) chairs.old }
     requires alike { (length chairs.old.cells ≡ length chairs.old.seats) × (length chairs.old.turns ≡ length chairs.old.seats) }
-    ensures overseen { post.entry.overseen ≡ Some result.1 }
+    ensures ended { post.entry.ended ≡ Some result.2 }
     ensures console { O.wire result.0 ≡ post.entry.wire }
+    ensures place { result.1 ≡ post.entry.place }
     ensures seated { (t : TurnIs) → WorksAs t (length chairs.old.seats) post.entry.life → Seated t (length N.site.services) chairs.old → Seated t (length N.site.services) chairs.new }
     ensures whose { MoreOf (post.entry.life ∷ []) chairs.old chairs.new }
     ensures many { length chairs.new.seats ≡ length chairs.old.seats + 1 }
     ensures room { SameRoom chairs.old chairs.new }
 {
-    let (console, worker, overseen) = post.into_parts();
+    let (console, place, worker, ended) = post.into_parts();
     chairs.take_back(worker);
-    match overseen {
-        Some(overseen) => (console, overseen),
+    match ended {
+        Some(ending) => (console, place, ending),
         None => unreachable!(),
     }
 }

@@ -1,6 +1,7 @@
 //! A run of a server, from its objects to its record.
 #![tactic(auto)]
 
+mod concluding;
 mod leaving;
 mod manning;
 pub mod outfit;

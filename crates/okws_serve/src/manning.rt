@@ -2,6 +2,7 @@
 
 ghost use Rattle.std.specs.Prelude.{◌≡◌, ◌≤◌, ◌+◌, [], true, length, map, vec_len, vec_capacity};
 ghost use Rattle.okws_base.specs.declared.limit.TheConstants.{MOST_SERVICES, MOST_TEMPLATES, GREATEST_RETRY};
+ghost use Rattle.turn_lock.specs.BoardSeats.{IsFresh};
 ghost use Rattle.site_run.specs.Places.{Placed, SamePlaces};
 ghost use Rattle.site_run.specs.Rooms.{HasRoom};
 ghost use Rattle.site_run.specs.Rows.{Seated, SameRoom};
@@ -24,11 +25,13 @@ use site_locks::named::Site;
 use site_run::places::Doors;
 use site_run::row::{Chairs, Ground};
 use std::sync::Wait;
+use turn_lock::board::Seat as Place;
 
-/// A console, and the reading of its lines.
+/// A console, the reading of its lines, and its seat at the board of the connections' numbers.
 pub(crate) struct Console<O: Conn> {
     pub(crate) console: O,
     pub(crate) reader: Reader,
+    pub(crate) place: Place,
 }
 
 // Puts a worker to each door, that of the greatest number first.
@@ -104,12 +107,14 @@ pub(crate) fn man_all<
     requires alike { length chairs.old.seats ≡ length places.old.entrances + 1 }
     requires posts { HasRoom (length places.old.entrances + 1) (vec_len posts.old) (vec_capacity posts.old) }
     requires first { console.reader ≡ 0 }
+    requires last { IsFresh ground.now.numbers.now.id (length places.old.entrances) console.place }
+    requires count { ground.now.numbers.now.count ≡ length places.old.entrances + 1 }
     ensures posted { ArePosted ground.now.turn.now ground.now.numbers.now.id ground.now.most chairs.old places.old.entrances (O.wire console.console) posts.new.items }
     ensures empty { (chairs.new.seats ≡ []) × (chairs.new.cells ≡ []) × (chairs.new.turns ≡ []) × (places.new.entrances ≡ []) × (places.new.places ≡ []) }
     ensures room { SameRoom chairs.old chairs.new × SamePlaces places.old places.new }
 {
-    let Console { console, reader } = console;
-    let overseer = ConsolePost::new(console, reader, chairs.last(ground), ground.site);
+    let worker = chairs.last(ground);
+    let overseer = ConsolePost::new(console, worker, ground.numbers, ground.most, ground.site);
     man_doors(ground, chairs, places, posts);
     posts.push_reserved(Post::Console(overseer));
 }

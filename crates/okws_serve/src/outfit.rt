@@ -32,6 +32,15 @@ pub struct Limits {
     pub keeps: bool,
 }
 
+/// How a console ended.
+#[derive(Clone, Copy, Debug, PartialEq, Eq)]
+pub struct Ending {
+    /// How many connections are begun, where the console ended by a stop.
+    pub stopped: Option<u64>,
+    /// Whether a call of the console failed.
+    pub failed: bool,
+}
+
 /// What a run did.
 #[derive(Drop)]
 pub struct Ran {

@@ -1,9 +1,13 @@
 //! Workers at their posts: one at each door, and one at the operator's console.
 
-ghost use Rattle.std.specs.Prelude.{◌≡◌, ◌≤◌, [], IsNone, None};
-ghost use Rattle.okws_serve.specs.Posts.{AttendedIf, OverseenIf, WorksAt, IsSteered};
+ghost use Rattle.std.specs.Prelude.{◌≡◌, ◌≤◌, ◌+◌, [], IsNone, None, slice_index};
 ghost use Rattle.okws_serve.specs.declared.outfit.TheConstants.{MOST_BEGUN};
+ghost use Rattle.site_worker.specs.declared.door.TheConstants.{STOPPED};
+ghost use Rattle.okws_serve.specs.Posts.{AttendedIf, OverseenIf, WorksAt, IsSteered};
 
+use crate::concluding::conclude;
+use crate::manning::Console;
+use crate::outfit::Ending;
 use admin_console::reader::Reader;
 use okld_launch::named::Staffed;
 use okws_outer::children::Children;
@@ -16,12 +20,11 @@ use okws_plan::configuration::Config;
 use site_cells::lock_names::CellNames;
 use site_locks::named::Site;
 use site_run::room::Desk;
-use site_worker::console::Overseen;
 use site_worker::door::Attended;
 use site_worker::worker::Worker;
 use std::marker::Model;
 use std::sync::Wait;
-use turn_lock::board::Board;
+use turn_lock::board::{Board, Seat as Place};
 
 /// A worker at its door, which it attends once.
 pub(crate) struct DoorPost<
@@ -159,8 +162,11 @@ pub(crate) struct ConsolePost<
 > {
     pub(crate) console: O,
     pub(crate) reader: Reader,
+    pub(crate) place: Place,
     pub(crate) worker: Worker<'a, R, G, N, J, C, K, S, F>,
-    pub(crate) overseen: Option<Overseen>,
+    pub(crate) ended: Option<Ending>,
+    numbers: &'a Board,
+    most: u64,
     site: &'a Config,
 }
 
@@ -176,13 +182,13 @@ impl<
     F: Children,
     O: Conn,
 > Model for ConsolePost<'a, R, G, N, J, C, K, S, F, O> {
-    ghost use Rattle.okws_serve.specs.Posts.{ConsoleIs, IsSteered};
+    ghost use Rattle.okws_serve.specs.Posts.{ConsoleIs, IsConsole};
 
     ghost Value = { ConsoleIs };
 
-    ghost view = { λ p. record { wire = O.wire p.console; lines = p.reader; life = p.worker.life; overseen = p.overseen } };
+    ghost view = { λ p. record { wire = O.wire p.console; lines = p.reader; life = p.worker.life; place = p.place; most = p.most; ended = p.ended } };
 
-    ghost invariant = { λ p. IsSteered N.site p.site.now };
+    ghost invariant = { λ p. IsConsole N.site p.site.now p.numbers.now (record { wire = O.wire p.console; lines = p.reader; life = p.worker.life; place = p.place; most = p.most; ended = p.ended }) };
 }
 
 impl<
@@ -197,49 +203,75 @@ impl<
     F: Children,
     O: Conn,
 > ConsolePost<'a, R, G, N, J, C, K, S, F, O> {
-    /// A worker at a console of this site.
+    /// A worker at a console of this site, whose seat at the board of the connections' numbers is the last one
+    /// there, and which may stop these below the limit.
     pub(crate) fn new(
-        console: O,
-        reader: Reader,
+        console: Console<O>,
         worker: Worker<'a, R, G, N, J, C, K, S, F>,
+        numbers: &'a Board,
+        most: u64,
         site: &'a Config,
     ) -> Self
-        requires { IsSteered N.site site.now }
-        ensures { result ≡ record { wire = O.wire console; lines = reader; life = worker.entry.life; overseen = None } }
+        requires steered { IsSteered N.site site.now }
+        requires board { console.place.board ≡ numbers.now.id }
+        requires last { console.place.number + 1 ≡ numbers.now.count }
+        requires calm { slice_index console.place.seen STOPPED ≡ 0 }
+        ensures { result ≡ record { wire = O.wire console.console; lines = console.reader; life = worker.entry.life; place = console.place; most = most; ended = None } }
     {
+        let Console {
+            console,
+            reader,
+            place,
+        } = console;
         ConsolePost {
             console,
             reader,
+            place,
             worker,
-            overseen: None,
+            ended: None,
+            numbers,
+            most,
             site,
         }
     }
 
-    /// The console, the worker, and how it oversaw the console.
-    pub(crate) fn into_parts(self) -> (O, Worker<'a, R, G, N, J, C, K, S, F>, Option<Overseen>)
-        ensures { self.entry ≡ record { wire = O.wire result.0; lines = self.entry.lines; life = result.1.life; overseen = result.2 } }
+    /// The console, its seat, the worker, and how the console ended.
+    pub(crate) fn into_parts(self) -> (O, Place, Worker<'a, R, G, N, J, C, K, S, F>, Option<Ending>)
+        ensures { self.entry ≡ record { wire = O.wire result.0; lines = self.entry.lines; life = result.2.life; place = result.1; most = self.entry.most; ended = result.3 } }
     {
         let ConsolePost {
             console,
             reader: _,
+            place,
             worker,
-            overseen,
+            ended,
+            numbers: _,
+            most: _,
             site: _,
         } = self;
-        (console, worker, overseen)
+        (console, place, worker, ended)
     }
 
     // Oversees the console, unless that is done.
     fn work(&mut self)
-        ensures { OverseenIf N.site self.old self.old.overseen self.new }
+        ensures { OverseenIf N.site self.old self.old.ended self.new }
     {
-        if self.overseen.is_none() {
+        if self.ended.is_none() {
             let site = self.site;
+            let numbers = self.numbers;
+            let limit = self.most;
             let overseen = self
                 .worker
                 .oversee(&mut self.console, &mut self.reader, site);
-            self.overseen = Some(overseen);
+            let ending = conclude(
+                &mut self.console,
+                &mut self.reader,
+                numbers,
+                &mut self.place,
+                limit,
+                overseen,
+            );
+            self.ended = Some(ending);
         }
     }
 }

@@ -4,6 +4,7 @@ ghost use Rattle.std.specs.Prelude.{◌≡◌, ◌≤◌, ◌<◌, ◌+◌, ℕ,
 ghost use Rattle.std.specs.Arc.{arc_value};
 ghost use Rattle.okws_base.specs.declared.limit.TheConstants.{MOST_DOORS};
 ghost use Rattle.okws_outer.specs.Conns.{ConnWire};
+ghost use Rattle.turn_lock.specs.BoardSeats.{IsFresh};
 ghost use Rattle.turn_lock.specs.Rows.{AllCount};
 ghost use Rattle.site_locks.specs.Sat.{ids_of};
 ghost use Rattle.site_making.specs.Keepers.{keeper_of};
@@ -11,14 +12,13 @@ ghost use Rattle.site_making.specs.Making.{IsServable};
 ghost use Rattle.site_run.specs.Places.{AllIdle, PlacesAre};
 ghost use Rattle.site_run.specs.Rooms.{HasRoom, IsStock};
 ghost use Rattle.site_run.specs.Whole.{IsHeld, IsReady};
-ghost use Rattle.okws_serve.specs.Doors.{is_fault};
 ghost use Rattle.okws_serve.specs.Manned.{WorkDone};
 ghost use Rattle.okws_serve.specs.Runs.{Runs};
 ghost use Rattle.okws_serve.specs.declared.outfit.TheConstants.{MOST_BEGUN};
 
 use crate::leaving::Served;
 use crate::manning::Console;
-use crate::outfit::{Left, Ran};
+use crate::outfit::{Ending, Left, Ran};
 use crate::outside::Outside;
 use crate::post::PostOf;
 use crate::scope::run;
@@ -39,10 +39,10 @@ use site_run::places::Doors;
 use site_run::room::Room;
 use site_run::row::{Chairs, Ground};
 use site_run::whole::{Hall, Run};
-use site_worker::console::Overseen;
 use std::alloc::Global;
 use std::sync::{Arc, Wait};
 use std::thread::Threads;
+use turn_lock::board::Seat as Place;
 
 /// What the workers of a run are lent.
 pub(crate) struct Scene<R, N: Staffed, J: Site, C: CellNames, K: Keeper, S: Sink, F: Children, G> {
@@ -131,6 +131,7 @@ pub(crate) fn stage<
     ensures ready { IfOk result (λ o. IsReady N.site N.launcher o.scene.hall.turn o.scene.hall.numbers o.scene.hall.cells o.chairs o.places) }
     ensures doors { IfOk result (λ o. o.places.entrances ≡ map D.entrance outside.doors.items) }
     ensures beside { IfOk result (λ o. (arc_value o.scene.site ≡ N.site) × (o.console.console ≡ outside.console) × (o.console.reader ≡ 0) × (o.room + 1 ≡ N.launcher)) }
+    ensures last { IfOk result (λ o. IsFresh o.scene.hall.numbers.id (vec_len outside.doors) o.console.place) }
     ensures back { IfErr result (λ o. (o.doors.items ≡ outside.doors.items) × (o.console ≡ outside.console) × (F.family o.children ≡ F.family outside.children)) }
 {
     let Outside {
@@ -157,6 +158,7 @@ pub(crate) fn stage<
                 hall,
                 chairs,
                 places,
+                last,
             } = run;
             Ok(Staged {
                 scene: Scene {
@@ -167,7 +169,11 @@ pub(crate) fn stage<
                 },
                 chairs,
                 places,
-                console: Console { console, reader },
+                console: Console {
+                    console,
+                    reader,
+                    place: last,
+                },
                 room,
             })
         }
@@ -195,7 +201,7 @@ pub(crate) fn work_in<
     places: &mut Doors<D>,
     console: Console<O>,
     posts: Vec<PostOf<'a, R, G, N, J, C, K, S, F, D, O>>,
-) -> (O, Served, Overseen, OkdNote<N, J>)
+) -> (O, Served, Ending, OkdNote<N, J>, Place)
 where
     D::Conn: Send,
     F::Child: Send,
@@ -208,9 +214,11 @@ where
     requires most { most ≤ MOST_BEGUN }
     requires posts { HasRoom (length places.old.entrances + 1) (vec_len posts) (vec_capacity posts) }
     requires first { console.reader ≡ 0 }
+    requires last { IsFresh scene.now.hall.numbers.id (length places.old.entrances) console.place }
     ensures held { IsHeld N.site N.launcher scene.now.hall.turn scene.now.hall.numbers scene.now.hall.cells chairs.new places.new }
     ensures idle { AllIdle places.new.entrances }
-    ensures done { WorkDone D.Conn.wire N.site N.launcher scene.now.hall.numbers.id most chairs.new result.3 places.old places.new (O.wire console.console) (O.wire result.0) result.1.connections result.1.starved (is_fault result.2) }
+    ensures last { result.4.board ≡ scene.now.hall.numbers.id }
+    ensures done { WorkDone D.Conn.wire N.site N.launcher scene.now.hall.numbers.id most chairs.new result.3 places.old places.new (O.wire console.console) (O.wire result.0) result.1.connections result.1.starved result.4 result.2 }
 {
     let common = scene.ground(alloc, most);
     run(&common, chairs, places, console, posts)
@@ -236,17 +244,19 @@ pub(crate) fn end_run<
     room: Room<N, K, F::Link>,
     console: O,
     served: Served,
-    overseen: Overseen,
+    ending: Ending,
     okd: OkdNote<N, J>,
+    place: Place,
 ) -> Left<D, O, F, K, S, G>
     requires held { IsHeld N.site N.launcher scene.hall.turn scene.hall.numbers scene.hall.cells chairs places }
     requires tells { N.tells ≡ true }
     requires room { room + 1 ≡ N.launcher }
     requires idle { AllIdle places.entrances }
+    requires last { place.board ≡ scene.hall.numbers.id }
     ensures idle { AllIdle (map D.entrance result.doors.items) }
     ensures some { IsSome result.ran × IsSome result.log }
     ensures ran { IfSome result.ran (λ ran. IfSome result.log (λ log. (most : ℕ) (old : PlacesAre) (w : ConnWire) → most ≤ MOST_BEGUN
-        → WorkDone D.Conn.wire N.site N.launcher scene.hall.numbers.id most chairs okd old places w (O.wire console) served.connections served.starved (is_fault overseen)
+        → WorkDone D.Conn.wire N.site N.launcher scene.hall.numbers.id most chairs okd old places w (O.wire console) served.connections served.starved place ending
         → Runs D.Conn.wire N.site N.run_seed N.launcher most (record { steady = N.steady; keeper_faults = N.keeper_faults; sink_faults = N.sink_faults; children = N.children }) old.entrances w ran
         (record { entrances = map D.entrance result.doors.items; console = O.wire result.console; children = F.family result.children; keepers = map (keeper_of K.tables K.told K.faults K.steady) result.keepers.items; given = S.given log; faults = S.faults log }))) }
 {
@@ -260,9 +270,10 @@ pub(crate) fn end_run<
         hall,
         chairs,
         places,
+        last: place,
     };
     let ended = run.end(&rt, alloc, room, served.connections, okd);
-    left(ended, console, gate, served, overseen)
+    left(ended, console, gate, served, ending)
 }
 
 // What is left of a run that ended.
@@ -271,11 +282,11 @@ fn left<D: Door, O: Conn, F: Children, K: Keeper, S: Sink, G: Gate>(
     console: O,
     gate: G,
     served: Served,
-    overseen: Overseen,
+    ending: Ending,
 ) -> Left<D, O, F, K, S, G>
     ensures objects { (result.doors.items ≡ ended.doors.items) × (result.console ≡ console) × (result.keepers.items ≡ ended.keepers.items) × (result.log ≡ Some ended.log) }
     ensures children { F.family result.children ≡ F.family ended.children }
-    ensures ran { result.ran ≡ Some (record { «record» = ended.record; counts = ended.counts; log_failed = ended.log_failed; console_failed = is_fault overseen; starved = served.starved }) }
+    ensures ran { result.ran ≡ Some (record { «record» = ended.record; counts = ended.counts; log_failed = ended.log_failed; console_failed = ending.failed; starved = served.starved }) }
 {
     let Ended {
         doors,
@@ -286,10 +297,6 @@ fn left<D: Door, O: Conn, F: Children, K: Keeper, S: Sink, G: Gate>(
         counts,
         log_failed,
     } = ended;
-    let console_failed = match overseen {
-        Overseen::Finished => false,
-        Overseen::ConsoleFault => true,
-    };
     Left {
         doors,
         console,
@@ -301,7 +308,7 @@ fn left<D: Door, O: Conn, F: Children, K: Keeper, S: Sink, G: Gate>(
             record,
             counts,
             log_failed,
-            console_failed,
+            console_failed: ending.failed,
             starved: served.starved,
         }),
     }

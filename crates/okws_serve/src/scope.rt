@@ -2,19 +2,19 @@
 
 ghost use Rattle.std.specs.Prelude.{◌≡◌, ◌≤◌, ◌<◌, ◌+◌, ◌*◌, ℕ, true, length, vec_len, vec_capacity, slice_index_or};
 ghost use Rattle.okws_base.specs.declared.limit.TheConstants.{MOST_SERVICES, MOST_TEMPLATES, GREATEST_RETRY};
-ghost use Rattle.turn_lock.specs.BoardSeats.{AllAt};
+ghost use Rattle.turn_lock.specs.BoardSeats.{AllAt, IsFresh};
 ghost use Rattle.site_worker.specs.declared.worker.TheConstants.{TURN_ITEMS};
 ghost use Rattle.site_run.specs.Opening.{IsUnopened};
 ghost use Rattle.site_run.specs.Places.{AllIdle, Placed, HasPlaces};
 ghost use Rattle.site_run.specs.Rooms.{HasRoom};
 ghost use Rattle.site_run.specs.Rows.{Seated, Spacious, SameRoom, first_spare};
 ghost use Rattle.site_run.specs.Tied.{Unused};
-ghost use Rattle.okws_serve.specs.Doors.{is_fault};
 ghost use Rattle.okws_serve.specs.Manned.{AllWork, WorkDone};
 ghost use Rattle.okws_serve.specs.declared.outfit.TheConstants.{MOST_BEGUN};
 
 use crate::leaving::{Served, leave_console, leave_doors};
 use crate::manning::{Console, man_all};
+use crate::outfit::Ending;
 use crate::post::{Post, PostOf, Works};
 use okld_launch::named::Staffed;
 use okws_outer::children::Children;
@@ -29,10 +29,10 @@ use site_locks::note::OkdNote;
 use site_run::launching::launch_all;
 use site_run::places::Doors;
 use site_run::row::{Chairs, Ground};
-use site_worker::console::Overseen;
 use std::sync::Wait;
 use std::thread;
 use std::thread::Threads;
+use turn_lock::board::Seat as Place;
 
 // Has each do what it has to do, in a thread of its own where one can be started.
 fn work_each<R: Threads + Sync, P: Works + Send>(rt: &R, all: &mut [P])
@@ -116,7 +116,7 @@ pub(crate) fn run<
     places: &mut Doors<D>,
     console: Console<O>,
     posts: Vec<PostOf<'a, R, G, N, J, C, K, S, F, D, O>>,
-) -> (O, Served, Overseen, OkdNote<N, J>)
+) -> (O, Served, Ending, OkdNote<N, J>, Place)
 where
     D::Conn: Send,
     F::Child: Send,
@@ -137,12 +137,15 @@ where
     requires room { Spacious (length chairs.old.seats) chairs.old × HasPlaces (length places.old.entrances) places.old }
     requires posts { HasRoom (length places.old.entrances + 1) (vec_len posts) (vec_capacity posts) }
     requires first { console.reader ≡ 0 }
+    requires last { IsFresh ground.now.numbers.now.id (length places.old.entrances) console.place }
+    requires count { ground.now.numbers.now.count ≡ length places.old.entrances + 1 }
     ensures seated { Seated ground.now.turn.now (length N.site.services) chairs.new }
     ensures many { length chairs.new.seats ≡ length chairs.old.seats }
     ensures room { SameRoom chairs.old chairs.new }
     ensures idle { AllIdle places.new.entrances }
+    ensures last { result.4.board ≡ ground.now.numbers.now.id }
     ensures places { (length places.new.entrances ≡ length places.old.entrances) × (length places.new.places ≡ length places.old.entrances) × AllAt ground.now.numbers.now.id places.new.places }
-    ensures done { WorkDone D.Conn.wire N.site N.launcher ground.now.numbers.now.id ground.now.most chairs.new result.3 places.old places.new (O.wire console.console) (O.wire result.0) result.1.connections result.1.starved (is_fault result.2) }
+    ensures done { WorkDone D.Conn.wire N.site N.launcher ground.now.numbers.now.id ground.now.most chairs.new result.3 places.old places.new (O.wire console.console) (O.wire result.0) result.1.connections result.1.starved result.4 result.2 }
 {
     let mut posts = posts;
     let okd = launch_all(ground, chairs);
@@ -155,6 +158,6 @@ where
         unreachable!()
     };
     let served = leave_doors(posts, chairs, places);
-    let (console, overseen) = leave_console(overseer, chairs);
-    (console, served, overseen, okd)
+    let (console, place, ending) = leave_console(overseer, chairs);
+    (console, served, ending, okd, place)
 }

@@ -33,7 +33,7 @@ use std::thread::Threads;
 use token_core::Seed;
 
 /// A run of a server: all services are launched, a worker serves each door and one carries out the operator's
-/// commands, all at once, until so many connections were begun and the console has ended; then all children
+/// commands, all at once, until so many connections were begun or they were stopped, and the console has ended; then all children
 /// are finished and what happened is told. All memory is taken before the run begins, but for what a request,
 /// a launch or a command takes. Where it is refused, nothing was done, and there is nothing to tell.
 pub fn serve_site<
@@ -201,7 +201,7 @@ where
                 console,
                 room,
             } = staged;
-            let (console, served, overseen, okd) = work_in(
+            let (console, served, ending, okd, place) = work_in(
                 &scene,
                 alloc,
                 limits.connections,
@@ -211,7 +211,7 @@ where
                 posts,
             );
             end_run(
-                scene, alloc, chairs, places, room, console, served, overseen, okd,
+                scene, alloc, chairs, places, room, console, served, ending, okd, place,
             )
         }
     }

@@ -13,7 +13,8 @@ use Rattle.site_making.specs.Keepers.{keeper_of}
 use Rattle.site_run.specs.Closing.{AllKept}
 use Rattle.site_run.specs.Pieced.{ended_among}
 use Rattle.site_run.specs.Whole.{AllDrawn}
-use Rattle.okws_serve.specs.Doors.{ServesConsole, ServesDoors, is_fault}
+use Rattle.okws_serve.specs.Doors.{ServesConsole, ServesDoors}
+use Rattle.okws_serve.specs.Manned.{ConsoleDone}
 use Rattle.okws_serve.specs.Lived.{ListIsPieces, OrdersAreObeyed}
 use Rattle.okws_serve.specs.Runs.{ObjectsAre, StartIs, outside_of}
 use Rattle.okws_serve.specs.declared.outfit.Ran.{Ran}
@@ -48,7 +49,7 @@ returns-clause-ran g c =
     let n = g.N.Numbered.launcher in
     let e = c.end-ended.result in
     let r = c.left.result in
-    let ran : Ran = record { «record» = e.record; counts = e.counts; log_failed = e.log_failed; console_failed = is_fault c.args.overseen; starved = c.args.served.starved } in
+    let ran : Ran = record { «record» = e.record; counts = e.counts; log_failed = e.log_failed; console_failed = c.args.ending.failed; starved = c.args.served.starved } in
     let keeper = keeper_of g.K.Keeper.tables g.K.Keeper.told g.K.Keeper.faults g.K.Keeper.steady in
     let doors : map g.D.Door.entrance r.doors.items ≡ c.args.places.entrances = ap (λ ds. map g.D.Door.entrance ds) c.left.ensures.objects.0 ∙ c.end-ended.ensures.doors in
     if_some r.ran ran _ c.left.ensures.ran (if_some r.log e.log _ c.left.ensures.objects.3 (λ most old w few done.
@@ -62,18 +63,21 @@ returns-clause-ran g c =
     let starved = c.args.served.starved in
     let size : length done.lives ≡ length old.entrances = lives_many wire C n z most done.lives old places connections starved done.doors in
     let ends = end_pop n 0 (length old.entrances) done.lives done.last R over (omega arith) (c.end-ended.ensures.lives (done.lives ++ done.last ∷ []) done.seats) in
-    let served = serves_doors wire C n z most (length places.entrances) R over done.lives old places connections starved
-    (omega arith) c.requires.held.some refl (subst (λ k. AllDrawn k places.places) (let k = c.requires.held.numbers_count in let q : c.args.scene.hall.numbers.count ≡ length places.entrances = omega arith in q) c.end-ended.ensures.drawn) done.doors ends.0 in
-    let steered = console_ends C n R over (length old.entrances) done.last w (g.O.Conn.wire c.args.console) (is_fault c.args.overseen) done.console ends.1 in
-    let told : (k : ℕ) → k ≤ n → Told n R k = all_told wire C n most R over old.entrances places.entrances served.attended w (g.O.Conn.wire c.args.console) (is_fault c.args.overseen) (omega arith) c.end-ended.ensures.numbers.workers served.attend steered c.end-ended.ensures.launched in
+    let last = c.args.place in
+    let ending = c.args.ending in
+    let console = subst (λ (k : ℕ). ConsoleDone C n k z most done.last w (g.O.Conn.wire c.args.console) last ending) alike done.console in
+    let served = serves_doors wire C n z most (length places.entrances) R over done.lives old places connections starved done.last w (g.O.Conn.wire c.args.console) last ending
+    (omega arith) c.requires.held.some refl (subst (λ k. AllDrawn k places.places last) (let k = c.requires.held.numbers_count in let q : c.args.scene.hall.numbers.count ≡ length places.entrances + 1 = omega arith in q) c.end-ended.ensures.drawn) done.doors ends.0 console in
+    let steered = console_ends C n R over (length old.entrances) z most done.last w (g.O.Conn.wire c.args.console) last ending done.console ends.1 in
+    let told : (k : ℕ) → k ≤ n → Told n R k = all_told wire C n most R over old.entrances places.entrances served.attended w (g.O.Conn.wire c.args.console) ending (omega arith) c.end-ended.ensures.numbers.workers served.attend steered c.end-ended.ensures.launched in
     let x = g.O.Conn.wire c.args.console in
-    let failed = is_fault c.args.overseen in
+    let failed = ending.failed in
     let proxies = c.end-ended.ensures.laws.proxies_are in
     let door_lists : (k : ℕ) → k < length old.entrances → ListIsPieces C R over is_ordered k
     = λ k l. doors_are wire C n most R over 0 k old.entrances places.entrances served.attended proxies served.attend (omega arith) (let u : k < length old.entrances + 0 = omega arith in u) in
-    let console_list : ListIsPieces C R over is_accept_item (length old.entrances) = console_is C n R over (length old.entrances) w x failed proxies steered in
-    let obeyed : OrdersAreObeyed C R (length old.entrances) w (g.O.Conn.wire r.console) failed
-    = subst (λ o. OrdersAreObeyed C R (length old.entrances) w (g.O.Conn.wire o) failed) (sym c.left.ensures.objects.1) (console_obeys C n R over (length old.entrances) w x failed proxies steered) in
+    let console_list : ListIsPieces C R over is_accept_item (length old.entrances) = console_is C n R over (length old.entrances) w x ending proxies steered in
+    let obeyed : OrdersAreObeyed C R (length old.entrances) w (g.O.Conn.wire r.console) ending
+    = subst (λ o. OrdersAreObeyed C R (length old.entrances) w (g.O.Conn.wire o) ending) (sym c.left.ensures.objects.1) (console_obeys C n R over (length old.entrances) w x ending proxies steered) in
     let cells = cells_are_true C g.N.Numbered.run_seed n R c.end-ended.ensures.laws c.end-ended.ensures.numbers (λ k l. (told k l).1) in
     let kept : AllKept C true g.N.Backed.steady g.N.Backed.keeper_faults 0 (map keeper r.keepers.items) R.proxies
     = subst (λ t. AllKept C t g.N.Backed.steady g.N.Backed.keeper_faults 0 (map keeper r.keepers.items) e.record.proxies) c.requires.tells
@@ -105,11 +109,12 @@ returns-clause-ran g c =
     (have_causes C R over (length old.entrances) T (λ s k h. subst (λ (ended : ℕ → ℕ → Bool). ended s k ≡ true) same h) (omega (arith, workers, many, alike)) door_lists console_list lead c.end-ended.ensures.caused)
     opened.comes in
     record {
-      served = subst (λ (ended : ℕ → ℕ → Bool). ServesDoors wire C n most R ended old.entrances (map g.D.Door.entrance r.doors.items) e.counts.connections starved) same
-          (subst (λ k. ServesDoors wire C n most R over old.entrances (map g.D.Door.entrance r.doors.items) k starved) (sym c.end-ended.ensures.connections)
-          (subst (λ es. ServesDoors wire C n most R over old.entrances es connections starved) (sym doors) served));
-      steered = subst (λ (ended : ℕ → ℕ → Bool). ServesConsole C n R ended (length old.entrances) w (g.O.Conn.wire r.console) (is_fault c.args.overseen)) same
-          (subst (λ x. ServesConsole C n R over (length old.entrances) w (g.O.Conn.wire x) (is_fault c.args.overseen)) (sym c.left.ensures.objects.1) steered);
+      stopped = ending.stopped;
+      served = subst (λ (ended : ℕ → ℕ → Bool). ServesDoors wire C n most R ended old.entrances (map g.D.Door.entrance r.doors.items) e.counts.connections starved ending.stopped) same
+          (subst (λ k. ServesDoors wire C n most R over old.entrances (map g.D.Door.entrance r.doors.items) k starved ending.stopped) (sym c.end-ended.ensures.connections)
+          (subst (λ es. ServesDoors wire C n most R over old.entrances es connections starved ending.stopped) (sym doors) served));
+      steered = subst (λ (ended : ℕ → ℕ → Bool). ServesConsole C n R ended (length old.entrances) w (g.O.Conn.wire r.console) ending) same
+          (subst (λ x. ServesConsole C n R over (length old.entrances) w (g.O.Conn.wire x) ending) (sym c.left.ensures.objects.1) steered);
       door_lists = subst (λ (ended : ℕ → ℕ → Bool). (k : ℕ) → k < length old.entrances → ListIsPieces C R ended is_ordered k) same door_lists;
       console_list = subst (λ (ended : ℕ → ℕ → Bool). ListIsPieces C R ended is_accept_item (length old.entrances)) same console_list;
       orders = obeyed;

@@ -1,10 +1,9 @@
-use Rattle.std.proofs.Common.{◌≤◌, ℕ, ◌∙◌, length, sym, subst}
+use Rattle.std.proofs.Common.{◌≤◌, ℕ, ◌∙◌, length, sym, ap, subst}
 use Rattle.atomic_table.specs.Seated.{TableId}
-use Rattle.turn_lock.specs.BoardSeats.{AllAt, BoardIs}
+use Rattle.turn_lock.specs.BoardSeats.{AllAt, BoardIs, IsFresh}
 use Rattle.turn_lock.specs.Seats.{TurnIs}
 use Rattle.site_run.specs.Places.{Placed}
 use Rattle.site_run.specs.Rows.{Seated}
-use Rattle.okws_serve.specs.Doors.{is_fault}
 use Rattle.okws_serve.specs.Manned.{WorkDone}
 use Rattle.okws_serve.specs.declared.outfit.TheConstants.{MOST_BEGUN}
 use Rattle.okws_serve.proofs.Surviving.{held_again, ready_spacious}
@@ -62,6 +61,16 @@ returns-clause-done g c =
     let r = c.run.result in
     let w = g.O.Conn.wire c.args.console.console in
     let x = g.O.Conn.wire r.0 in
-    let Done = λ (z : TableId) (m : ℕ). WorkDone g.D.Conn.Conn.wire g.N.Numbered.site g.N.Numbered.launcher z m c.run.new.chairs r.3 c.args.places.now c.run.new.places w x r.1.connections r.1.starved (is_fault r.2) in
+    let Done = λ (z : TableId) (m : ℕ). WorkDone g.D.Conn.Conn.wire g.N.Numbered.site g.N.Numbered.launcher z m c.run.new.chairs r.3 c.args.places.now c.run.new.places w x r.1.connections r.1.starved r.4 r.2 in
     subst (λ (b : BoardIs). Done b.id c.args.most) c.ground-common.ensures.locks.1
     (subst (λ (m : ℕ). Done c.ground-common.result.numbers.now.id m) c.ground-common.ensures.setting.1 c.run.ensures.done)
+
+pub run-requires-clause-last : goal.run-requires-clause-last
+run-requires-clause-last g c = λ κs within. subst (λ (b : BoardIs). IsFresh b.id (length c.args.places.now.entrances) c.args.console.place) (sym c.ground-common.ensures.locks.1) c.requires.last
+
+pub run-requires-clause-count : goal.run-requires-clause-count
+run-requires-clause-count g c = λ κs within.
+    ap (λ (b : BoardIs). b.count) c.ground-common.ensures.locks.1 ∙ (c.requires.ready.held.numbers_count ∙ sym c.requires.ready.held.doors_many)
+
+pub returns-clause-last : goal.returns-clause-last
+returns-clause-last g c = c.run.ensures.last ∙ ap (λ (b : BoardIs). b.id) c.ground-common.ensures.locks.1

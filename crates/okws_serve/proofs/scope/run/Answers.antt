@@ -1,9 +1,10 @@
-use Rattle.std.proofs.Common.{rules, arith, ◌≡◌, ◌≤◌, ◌+◌, suc, ◌∙◌, [], ◌∷◌, ◌++◌, length}
+use Rattle.std.proofs.Common.{rules, arith, ◌≡◌, ◌≤◌, ◌+◌, suc, ap, ◌∙◌, [], ◌∷◌, ◌++◌, length}
 use Rattle.std.specs.Prelude.{vec_len}
+use Rattle.turn_lock.specs.BoardSeats.{SeatIs as Place}
 use Rattle.site_run.proofs.Seating.{chairs_many}
 use Rattle.site_run.proofs.Tying.{all_seats, more_then}
 use Rattle.okws_serve.specs.Manned.{doors_of, lives_of}
-use Rattle.okws_serve.proofs.Finishing.{console_back, last_console, overseer_back, places_back, some_posts}
+use Rattle.okws_serve.proofs.Finishing.{console_back, last_console, overseer_back, place_at, places_back, some_posts}
 use Rattle.okws_serve.proofs.Running.{all_served, doors_done, here_overseen, overseen_some, same_room, still_places, still_spacious}
 use Rattle.okws_serve.proofs.scope.run.Goals as goal
 
@@ -55,7 +56,7 @@ leave_console-console-requires-clause-done g c =
     let ground = c.args.ground.now in
     let s = all_served g.D.Conn.Conn.wire g.N.Numbered.site g.N.Numbered.launcher ground.turn.now ground.numbers.now.id ground.most c.launch_all-okd.new.chairs c.launch_all-okd.result c.args.places.now.entrances (g.O.Conn.wire c.args.console.console)
     c.man_all.new.posts.items c.work_posts.new.posts.items c.pop.new.self.items c.in-Some.last (c.launch_all-okd.ensures.waiting c.requires.unused) (c.launch_all-okd.ensures.opened c.requires.unused c.requires.unopened) (c.launch_all-okd.ensures.shown c.requires.unused) c.man_all.ensures.posted c.work_posts.ensures c.in-Some.ensures.items in
-    overseen_some g.N.Numbered.site s.console.overseen s.console c.in-Console.overseer s.none (here_overseen g.D.Conn.Conn.wire g.N.Numbered.site g.N.Numbered.launcher s.console c.in-Some.last c.in-Console.overseer s.overseen c.in-Console.is)
+    overseen_some g.N.Numbered.site s.console.ended s.console c.in-Console.overseer s.none (here_overseen g.D.Conn.Conn.wire g.N.Numbered.site g.N.Numbered.launcher s.console c.in-Some.last c.in-Console.overseer s.overseen c.in-Console.is)
 
 pub leave_console-console-requires-clause-room : goal.leave_console-console-requires-clause-room
 leave_console-console-requires-clause-room g c =
@@ -140,6 +141,17 @@ returns-clause-done g c =
           s.done s.begin s.entrances_are l.doors l.places l.connections l.starved l.idle;
       opened = s.opened;
       shown = s.shown;
-      console = console_back wire C n t z ground.most c.launch_all-okd.result es w (g.O.Conn.wire c.leave_console-console.result.0) qs c.in-Some.last d c.leave_console-console.result.1
-          s c.in-Console.is c.leave_console-console.ensures.overseen c.leave_console-console.ensures.console;
+      console = console_back wire C n t z ground.most c.launch_all-okd.result es w (g.O.Conn.wire c.leave_console-console.result.0) qs c.in-Some.last d c.leave_console-console.result.1 c.leave_console-console.result.2
+          s c.in-Console.is c.leave_console-console.ensures.ended c.leave_console-console.ensures.console c.leave_console-console.ensures.place;
     }
+
+pub returns-clause-last : goal.returns-clause-last
+returns-clause-last g c =
+    let ground = c.args.ground.now in
+    let es = c.args.places.now.entrances in
+    let w = g.O.Conn.wire c.args.console.console in
+    let qs = c.pop.new.self.items in
+    let s = all_served g.D.Conn.Conn.wire g.N.Numbered.site g.N.Numbered.launcher ground.turn.now ground.numbers.now.id ground.most c.launch_all-okd.new.chairs c.launch_all-okd.result es w
+    c.man_all.new.posts.items c.work_posts.new.posts.items qs c.in-Some.last (c.launch_all-okd.ensures.waiting c.requires.unused) (c.launch_all-okd.ensures.opened c.requires.unused c.requires.unopened) (c.launch_all-okd.ensures.shown c.requires.unused) c.man_all.ensures.posted c.work_posts.ensures c.in-Some.ensures.items in
+    ap (λ (p : Place). p.board) c.leave_console-console.ensures.place
+    ∙ place_at g.D.Conn.Conn.wire g.N.Numbered.site g.N.Numbered.launcher ground.turn.now ground.numbers.now.id ground.most c.launch_all-okd.result es w qs c.in-Some.last c.in-Console.overseer s c.in-Console.is

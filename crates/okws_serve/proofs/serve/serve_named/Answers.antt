@@ -1,8 +1,10 @@
-use Rattle.std.proofs.Common.{List, map, sym, ap, ◌∙◌, subst}
+use Rattle.std.proofs.Common.{rules, ◌≡◌, ℕ, List, map, length, sym, ap, ◌∙◌, subst}
+use Rattle.std.specs.Prelude.{vec_len}
+use Rattle.std.proofs.lemmas.List.{length-map}
+use Rattle.turn_lock.specs.BoardSeats.{IsFresh}
 use Rattle.okws_outer.specs.Doors.{Entrance}
 use Rattle.site_making.specs.Keepers.{keeper_of}
 use Rattle.site_run.specs.Places.{AllIdle}
-use Rattle.okws_serve.specs.Doors.{is_fault}
 use Rattle.okws_serve.specs.Manned.{WorkDone}
 use Rattle.okws_serve.specs.Runs.{ObjectsAre, Runs, StartIs}
 use Rattle.okws_serve.proofs.Surviving.{always_none, if_both, none_some, none_then, some_none}
@@ -61,7 +63,7 @@ returns-in-Ok-stage-clause-ran g c =
     let r = c.end_run.result in
     let w = g.O.Conn.wire c.args.outside.console in
     let l = c.in-Ok-stage.staged in
-    let done = subst (λ x. WorkDone g.D.Conn.Conn.wire g.N.Numbered.site g.N.Numbered.launcher l.scene.hall.numbers.id c.args.limits.connections c.work_in-console.new.chairs c.work_in-console.result.3 l.places c.work_in-console.new.places (g.O.Conn.wire x) (g.O.Conn.wire c.work_in-console.result.0) c.work_in-console.result.1.connections c.work_in-console.result.1.starved (is_fault c.work_in-console.result.2)) c.in-Ok-stage.ensures.beside.1 c.work_in-console.ensures.done in
+    let done = subst (λ x. WorkDone g.D.Conn.Conn.wire g.N.Numbered.site g.N.Numbered.launcher l.scene.hall.numbers.id c.args.limits.connections c.work_in-console.new.chairs c.work_in-console.result.3 l.places c.work_in-console.new.places (g.O.Conn.wire x) (g.O.Conn.wire c.work_in-console.result.0) c.work_in-console.result.1.connections c.work_in-console.result.1.starved c.work_in-console.result.4 c.work_in-console.result.2) c.in-Ok-stage.ensures.beside.1 c.work_in-console.ensures.done in
     let start : StartIs = record { steady = g.N.Backed.steady; keeper_faults = g.N.Backed.keeper_faults; sink_faults = g.N.Backed.sink_faults; children = g.N.Staffed.children } in
     if_both r.ran r.log _ _ (λ ran log h.
     let now : ObjectsAre = record {
@@ -80,3 +82,13 @@ returns-in-Ok-stage-clause-log g c = λ some. c.end_run.ensures.some.1
 
 pub returns-in-Ok-stage-clause-unserved : goal.returns-in-Ok-stage-clause-unserved
 returns-in-Ok-stage-clause-unserved g c = some_none c.end_run.result.ran _ c.end_run.ensures.some.0
+
+pub work_in-console-requires-clause-last : goal.work_in-console-requires-clause-last
+work_in-console-requires-clause-last g c = λ κs within.
+    let l = c.in-Ok-stage.staged in
+    let many : length c.args.outside.doors.items ≡ vec_len c.args.outside.doors = search rules in
+    let size : length l.places.entrances ≡ vec_len c.args.outside.doors = ap length c.in-Ok-stage.ensures.doors ∙ (length-map c.args.outside.doors.items g.D.Door.entrance ∙ many) in
+    subst (λ (k : ℕ). IsFresh l.scene.hall.numbers.id k l.console.place) (sym size) c.in-Ok-stage.ensures.last
+
+pub end_run-requires-clause-last : goal.end_run-requires-clause-last
+end_run-requires-clause-last g c = c.work_in-console.ensures.last

@@ -19,6 +19,7 @@ pub const CALM: Weather<'static> = Weather {
     relaunches: 200,
     relaunched: 0,
     order: b"relaunch guest\n",
+    last: b"end\n",
     requests: 200,
     short: 0,
     torn: 0,
@@ -48,6 +49,13 @@ const FAILING: Weather<'static> = Weather {
         starts: &[1, 2, 3, 9, 17, 18, 40],
         ..SOUND
     },
+    ..CALM
+};
+
+/// A storm that is stopped behind a few orders, mostly while requests come.
+const STOPPED: Weather<'static> = Weather {
+    relaunches: 20,
+    last: b"stop\n",
     ..CALM
 };
 
@@ -82,22 +90,27 @@ pub fn judged<'a>(
     parts.expect(rt, MEMORY)
 }
 
-/// Whether a storm, which ends well, has a legal record.
+/// Whether a storm of this weather, which ended well, has a legal record.
+fn is_lawful(rt: &impl Abort, alloc: Global, weather: &Weather<'_>, storm: &Storm) -> bool {
+    let ran = &storm.ran;
+    holds(rt, !ran.starved, "starved");
+    holds(rt, !ran.console_failed, "the console");
+    holds(rt, !ran.log_failed, "the log");
+    let plain = storm.plain(rt, alloc);
+    let orders = orders(rt, alloc, weather);
+    judged(rt, alloc, storm, &orders, &plain).is_empty()
+}
+
+/// Whether a storm whose requests are all served has a legal record.
 fn is_legal<R: Abort + Wait + Threads + Sync>(
     rt: &R,
     alloc: Global,
     weather: &Weather<'_>,
 ) -> bool {
     let storm = rage(rt, alloc, weather);
-    let ran = &storm.ran;
-    holds(rt, !ran.starved, "starved");
-    holds(rt, !ran.console_failed, "the console");
-    holds(rt, !ran.log_failed, "the log");
-    let served = ran.counts.connections;
+    let served = storm.ran.counts.connections;
     holds(rt, served == u64::from(weather.requests), "connections");
-    let plain = storm.plain(rt, alloc);
-    let orders = orders(rt, alloc, weather);
-    judged(rt, alloc, &storm, &orders, &plain).is_empty()
+    is_lawful(rt, alloc, weather, &storm)
 }
 
 #[test]
@@ -113,6 +126,21 @@ fn a_storm_of_crashes_leaves_a_legal_record(rt: HostRuntime) {
 #[test]
 fn a_storm_of_failing_starts_and_links_leaves_a_legal_record(rt: HostRuntime) {
     holds(&rt, is_legal(&rt, rt.alloc(), &FAILING), "legal");
+}
+
+#[test]
+fn a_storm_that_is_stopped_leaves_a_legal_record(rt: HostRuntime) {
+    let alloc = rt.alloc();
+    let storm = rage(&rt, alloc, &STOPPED);
+    let served = storm.ran.counts.connections;
+    let told = format!(in alloc; "\nstopping {served}\n").expect(&rt, MEMORY);
+    let answers = storm.answers.as_slice();
+    holds(
+        &rt,
+        answers.ends_with(told.as_bytes()),
+        "as many were begun as it told",
+    );
+    holds(&rt, is_lawful(&rt, alloc, &STOPPED, &storm), "legal");
 }
 
 /// The first part that an edit of a storm's record breaks.

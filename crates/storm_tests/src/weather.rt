@@ -23,6 +23,8 @@ pub struct Weather<'a> {
     pub relaunched: u16,
     /// The order of a relaunch.
     pub order: &'static [u8],
+    /// The last line of the operator, by which the console ends.
+    pub last: &'static [u8],
     /// How many requests come, at most 200.
     pub requests: u32,
     /// Each incarnation of guest whose number this divides ends after a dialog; where it is 0 none does.
@@ -138,7 +140,7 @@ fn console(rt: &impl Abort, alloc: Global, weather: &Weather<'_>) -> Vec<u8> {
         }
         console.extend_from_slice(weather.order).expect(rt, MEMORY);
     }
-    console.extend_from_slice(b"end\n").expect(rt, MEMORY);
+    console.extend_from_slice(weather.last).expect(rt, MEMORY);
     console
 }
 

@@ -624,6 +624,65 @@ def a_server_without_end_outlives_its_console():
         same(server.process.poll(), None)
         server.process.terminate()
         same(server.process.wait(10), -signal.SIGTERM)
+def refused(port):
+    """Whether no client is taken at this port."""
+    try:
+        socket.create_connection(('127.0.0.1', port), 1).close()
+        return False
+    except ConnectionRefusedError:
+        return True
+
+def a_stop_ends_a_run_whose_console_is_open():
+    with Server(SITE % './svc_probe', 1000) as server:
+        for _ in range(3):
+            same(get(server.port), ANN_AND_BOB)
+        begun = time.monotonic()
+        # One door or both were waiting for the next connection.
+        assert server.answers(b'stop\nrelaunch guest\n') in (b'stopping 4\n', b'stopping 5\n')
+        same(server.process.wait(10), 0)
+        assert time.monotonic() - begun < 3, time.monotonic() - begun
+        assert refused(server.port)
+        same(server.process.stdout.read().decode(), counts(3, 3, 2, 0, 0))
+
+def a_stop_tells_no_more_than_were_asked_for():
+    with Server(SITE % './svc_probe', 1) as server:
+        same(get(server.port), ANN_AND_BOB)
+        same(server.answers(b'stop\n'), b'stopping 1\n')
+        same((server.process.stdout.read().decode(), server.process.wait(10)), (counts(1, 1, 2, 0, 0), 0))
+
+def what_has_begun_is_answered_behind_a_stop():
+    doors = 4
+    with Server(SITE % './svc_probe', 1_000_000, doors=doors) as server:
+        whole, torn = [0] * 16, []
+        def client(place):
+            while True:
+                try:
+                    answer = get(server.port)
+                except OSError:
+                    return
+                if answer == ANN_AND_BOB:
+                    whole[place] += 1
+                elif answer:
+                    torn.append(answer)
+        clients = [threading.Thread(target=client, args=(place,)) for place in range(16)]
+        for one in clients:
+            one.start()
+        wait_until(lambda: sum(whole) > 500)
+        answer = server.answers(b'stop\n').split()
+        for one in clients:
+            one.join(30)
+        same((server.process.wait(10), answer[0], torn), (0, b'stopping', []))
+        same(server.process.stdout.read().decode(), counts(sum(whole), sum(whole), 2, 0, 0))
+        assert sum(whole) <= int(answer[1]) <= sum(whole) + doors, (sum(whole), answer)
+
+def no_client_waits_behind_the_last_connection():
+    with Server(SITE % './svc_probe', 2) as server:
+        for _ in range(2):
+            same(get(server.port), ANN_AND_BOB)
+        wait_until(lambda: not server.listens())
+        assert refused(server.port)
+        same(server.answers(b'relaunch guest\n'), b'relaunched 2\n')
+        same(server.ends(), (counts(2, 2, 3, 0, 0), 0))
 
 CHECKS = [
     the_guestbook_shows_and_takes_entries, a_log_is_appended_to, a_log_that_cannot_be_opened_is_a_fault_at_the_end, requests_are_refused_by_the_standard,
@@ -640,6 +699,7 @@ CHECKS = [
     a_new_file_of_rows_has_its_tables_when_the_doors_open,
     rows_of_tables_or_columns_in_another_order_are_refused, who_holds_a_file_of_rows_for_a_moment_is_waited_for, a_page_of_many_places_is_refused_soon,
     silent_clients_keep_no_door, a_slow_client_is_cut_off, a_client_may_take_its_time_within_its_patience, a_server_without_end_outlives_its_console,
+    a_stop_ends_a_run_whose_console_is_open, a_stop_tells_no_more_than_were_asked_for, what_has_begun_is_answered_behind_a_stop, no_client_waits_behind_the_last_connection,
 ]
 passed = failed = 0
 for check in CHECKS:

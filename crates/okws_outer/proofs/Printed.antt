@@ -42,7 +42,7 @@ printed_first old new bytes stopped h = h old [] (record { part = whole_is_part 
 
 -- what a print at the start has counted
 pub counted_first : (old new : ℕ) (stopped : Bool) → CountsOn old false new stopped → Counted old new stopped
-counted_first old new stopped h = h old (record { later = omega arith; rose = λ e. cc })
+counted_first old new stopped h = h old (record { later = omega arith; rose = λ e. cc; still = λ e. refl })
 
 -- nothing is printed
 pub nothing_on : (a : Printer) → PrintsOn a a []

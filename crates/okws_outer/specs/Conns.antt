@@ -20,16 +20,18 @@ Latest old new into (Took n) = IfSome new (λ last. last ≡ take n into)
 Latest old new into End = new ≡ old
 Latest old new into Failed = new ≡ old
 
--- A pull takes bytes that are left, and gives none.
+-- A pull takes bytes that are left, and gives none. It counts its own fault alone.
 pub record PullsFrom (old new : ConnWire) (into : List ℕ) (pull : Pull) : Type 0 where
   pub pulls : Pulls old.left new.left into pull
   pub last : Latest old.last new.last into pull
   pub given : new.given ≡ old.given
   pub faults : Counts old.faults new.faults (pull ≡ Failed)
+  pub still : (pull ≡ Failed → ⊥) → new.faults ≡ old.faults
 
--- A put gives bytes, and takes none.
+-- A put gives bytes, and takes none. It counts its own fault alone.
 pub record PutsTo (old new : ConnWire) (bytes : List ℕ) (put : Put) : Type 0 where
   pub puts : Puts old.given new.given bytes put
   pub left : new.left ≡ old.left
   pub last : new.last ≡ old.last
   pub faults : Counts old.faults new.faults (put ≡ Done → ⊥)
+  pub still : put ≡ Done → new.faults ≡ old.faults

@@ -14,10 +14,11 @@ abbrev pub Prints : Option (List ℕ) → Bool → Option (List ℕ) → Bool �
 Prints old stopped_before new stopped_now bytes =
     (start : Option (List ℕ)) (due : List ℕ) → Printed start old due stopped_before → Printed start new (due ++ bytes) stopped_now
 
--- Since it stood at the start, the count has not fallen, and has risen where the sink has stopped.
+-- Since it stood at the start, the count has risen where the sink has stopped, and is the same where it has not.
 pub record Counted (start now : ℕ) (stopped : Bool) : Type 0 where
   pub later : start ≤ now
   pub rose : stopped ≡ true → Rose start now
+  pub still : stopped ≡ false → now ≡ start
 
 -- A count that was right before is right after.
 abbrev pub CountsOn : ℕ → Bool → ℕ → Bool → Type 0

@@ -36,10 +36,10 @@ Pulls old new into (Took n) = (0 < n) × (n ≤ length into) × Consumes old new
 Pulls old new into End = Keeps old new × IsAtEnd new
 Pulls old new into Failed = Keeps old new
 
--- A put appended the bytes, or the first n of them.
+-- A put appended the bytes, or the first n of them, fewer than all where there are any.
 abbrev pub Puts : Option (List ℕ) → Option (List ℕ) → List ℕ → Put → Type 0
 Puts old new bytes Done = Appends old new bytes
-Puts old new bytes (Stopped n) = (n ≤ length bytes) × Appends old new (take n bytes)
+Puts old new bytes (Stopped n) = (n ≤ length bytes) × Appends old new (take n bytes) × (0 < length bytes → n < length bytes)
 
 -- A prefix of what is due was appended.
 pub record AppendsPrefix (old new : Option (List ℕ)) (due : List ℕ) : Type 0 where

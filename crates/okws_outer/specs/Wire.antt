@@ -27,9 +27,10 @@ fed bytes wire = record wire { came = option_map (λ (came : List ℕ). came ++ 
 abbrev pub shut : Wire → Wire
 shut wire = record wire { ended = true }
 
--- Bytes may have come in, and nothing else changed but the count of faults: this fault was counted, which a steady link never has.
+-- Bytes may have come in, and nothing else changed but the count of faults: this fault was counted, which a steady link never has, and no other.
 pub record Receives (old new : Wire) (fault : Type 0) : Type 0 where
   pub faults : Counts old.faults new.faults fault
+  pub still : (fault → ⊥) → new.faults ≡ old.faults
   pub sure : old.steady ≡ true → fault → ⊥
   pub whose : new.whose ≡ old.whose
   pub came : new.came ≡ old.came
@@ -38,9 +39,10 @@ pub record Receives (old new : Wire) (fault : Type 0) : Type 0 where
   pub ended : new.ended ≡ old.ended
   pub room : new.room ≡ old.room
 
--- So many bytes were to go out, and nothing else changed but the count of faults: where it isn't done a fault was counted, which a steady link that had room for them never has. A link that doesn't tell never does.
+-- So many bytes were to go out, and nothing else changed but the count of faults: where it isn't done a fault was counted, which a steady link that had room for them never has, and where it is none was. A link that doesn't tell never does.
 pub record Gives (old new : Wire) (count : ℕ) (done : Type 0) : Type 0 where
   pub faults : Counts old.faults new.faults (done → ⊥)
+  pub still : done → new.faults ≡ old.faults
   pub sure : old.steady ≡ true → count ≤ old.room → done
   pub whose : new.whose ≡ old.whose
   pub came : new.came ≡ old.came

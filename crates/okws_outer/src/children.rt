@@ -51,7 +51,7 @@ pub struct ChildEnd {
     pub service: u16,
     /// The incarnation, from 1.
     pub incarnation: u32,
-    /// Whether Yes was among its answers.
+    /// Whether Yes was among its answers before it was stopped.
     pub ended: bool,
     /// The child that the link led to with which it was finished.
     pub whose: Option<ChildName>,

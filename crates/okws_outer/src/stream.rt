@@ -43,7 +43,8 @@ pub trait Source {
     fn pull(&mut self, into: &mut [u8]) -> Pull
         requires { 0 < length into.old }
         ensures bytes { Pulls (left self.old) (left self.new) into.new result }
-        ensures faults { Counts (faults self.old) (faults self.new) (result ≡ Failed) };
+        ensures faults { Counts (faults self.old) (faults self.new) (result ≡ Failed) }
+        ensures still { (result ≡ Failed → ⊥) → faults self.new ≡ faults self.old };
 }
 
 /// Bytes that go out.
@@ -58,7 +59,8 @@ pub trait Sink {
     fn put(&mut self, bytes: &[u8]) -> Put
         ensures bytes { Puts (given self.old) (given self.new) bytes.now result }
         ensures untold { given self.old ≡ None → given self.new ≡ None }
-        ensures faults { Counts (faults self.old) (faults self.new) (result ≡ Done → ⊥) };
+        ensures faults { Counts (faults self.old) (faults self.new) (result ≡ Done → ⊥) }
+        ensures still { result ≡ Done → faults self.new ≡ faults self.old };
 }
 
 /// Bytes in both directions, with one count of faults.

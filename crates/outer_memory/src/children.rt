@@ -101,7 +101,7 @@ impl<'a> Child for MemoryChild<'a> {
         self.asked = self.asked.saturating_add(1);
         self.last = Some(answer);
         match answer {
-            Ended::Yes => self.ended = true,
+            Ended::Yes => self.ended = !self.stopped || self.ended,
             Ended::No => {}
             Ended::Failed => self.faults = self.faults.saturating_add(1),
         }

@@ -74,6 +74,7 @@ pub fn pull_from<I: Read>(input: &mut I, faults: &mut u64, into: &mut [u8]) -> P
     requires { 0 < length into.old }
     ensures bytes { Pulls (I.remaining input.old) (I.remaining input.new) into.new result }
     ensures faults { Counts faults.old faults.new (result ≡ Pull.Failed) }
+    ensures still { (result ≡ Pull.Failed → ⊥) → faults.new ≡ faults.old }
 {
     match read_once(input, into) {
         Ok(0) => Pull::End,
@@ -119,6 +120,7 @@ fn write_all<O: Write>(output: &mut O, bytes: &[u8]) -> usize
 pub fn put_to<O: Write>(output: &mut O, faults: &mut u64, bytes: &[u8]) -> Put
     ensures bytes { Puts (O.contents output.old) (O.contents output.new) bytes.now result }
     ensures faults { Counts faults.old faults.new (result ≡ Put.Done → ⊥) }
+    ensures still { result ≡ Put.Done → faults.new ≡ faults.old }
 {
     let done = write_all(output, bytes);
     if done == bytes.len() {

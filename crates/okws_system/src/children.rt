@@ -134,7 +134,7 @@ impl Child for RealChild {
         self.asked = self.asked.saturating_add(1);
         self.last = Some(answer);
         match answer {
-            Ended::Yes => self.ended = true,
+            Ended::Yes => self.ended = !self.stopped || self.ended,
             Ended::No => {}
             Ended::Failed => count(&mut self.faults),
         }

@@ -191,11 +191,12 @@ rose_after : (a b c : ℕ) → a ≤ b → Rose b c → Rose a c
 rose_after a b c le rose = omega (arith, rose)
 
 pub received_none : (wire : Wire) → Receives wire wire ⊥
-received_none wire = record { faults = record { later = omega arith; cause = λ f. absurd f }; sure = λ steady f. f; whose = refl; came = refl; given = refl; steady = refl; ended = refl; room = refl }
+received_none wire = record { faults = record { later = omega arith; cause = λ f. absurd f }; still = λ _. refl; sure = λ steady f. f; whose = refl; came = refl; given = refl; steady = refl; ended = refl; room = refl }
 
-pub received_if : (old new : Wire) (fault other : Type 0) → (other → fault) → Receives old new fault → Receives old new other
-received_if old new fault other leads r = record {
+pub received_if : (old new : Wire) (fault other : Type 0) → (other → fault) → (fault → ⊥) → Receives old new fault → Receives old new other
+received_if old new fault other leads never r = record {
   faults = record { later = r.faults.later; cause = λ f. r.faults.cause (leads f) };
+  still = λ _. r.still never;
   sure = λ steady f. r.sure steady (leads f);
   whose = r.whose;
   came = r.came;
@@ -208,6 +209,7 @@ received_if old new fault other leads r = record {
 pub received_then : (old mid new : Wire) (fault : Type 0) → Receives old mid ⊥ → Receives mid new fault → Receives old new fault
 received_then old mid new fault a b = record {
   faults = record { later = omega (arith, a.faults.later, b.faults.later); cause = λ f. rose_after old.faults mid.faults new.faults a.faults.later (b.faults.cause f) };
+  still = λ none. b.still none ∙ a.still (λ f. f);
   sure = λ steady f. b.sure (a.steady ∙ steady) f;
   whose = b.whose ∙ a.whose;
   came = b.came ∙ a.came;

@@ -18,6 +18,7 @@ rose_later a b c le rose = omega (arith, rose)
 pub gives_then : (start mid new : Wire) (n m k : ℕ) (done : Type 0) → k ≡ n + m → Gives start mid n (Unit {0}) → Gives mid new m done → Gives start new k done
 gives_then start mid new n m k done e a b = record {
   faults = record { later = omega (arith, a.faults.later, b.faults.later); cause = λ fault. rose_later start.faults mid.faults new.faults a.faults.later (b.faults.cause fault) };
+  still = λ done. b.still done ∙ a.still tt;
   sure = λ steady room. b.sure (a.steady ∙ steady) (omega (arith, e, room, a.room));
   whose = b.whose ∙ a.whose;
   came = b.came ∙ a.came;
@@ -28,13 +29,13 @@ gives_then start mid new n m k done e a b = record {
   room = omega (arith, e, a.room, b.room);
 }
 
-pub done_so_far : (start mid : Wire) (n : ℕ) (done : Type 0) → Gives start mid n done → Gives start mid n (Unit {0})
-done_so_far start mid n done a = record { faults = record { later = a.faults.later; cause = λ fault. absurd (fault tt) }; sure = λ steady room. tt; whose = a.whose; came = a.came; left = a.left; untold = a.untold; steady = a.steady; ended = a.ended; room = a.room }
+pub done_so_far : (start mid : Wire) (n : ℕ) (done : Type 0) → done → Gives start mid n done → Gives start mid n (Unit {0})
+done_so_far start mid n done is a = record { faults = record { later = a.faults.later; cause = λ fault. absurd (fault tt) }; still = λ _. a.still is; sure = λ steady room. tt; whose = a.whose; came = a.came; left = a.left; untold = a.untold; steady = a.steady; ended = a.ended; room = a.room }
 
 pub sends_then : (start mid new : Wire) (text bytes : List ℕ) (result : Result (Unit {0}) LinkFault) → Sends start text (Ok tt) mid → Sends mid bytes result new → Sends start (text ++ bytes) result new
 sends_then start mid new text bytes result a b = record {
   puts = both result b.puts;
-  link = gives_then start mid new (length text) (length bytes) (length (text ++ bytes)) (result ≡ Ok tt) (length-append text bytes) (done_so_far start mid (length text) (Ok tt ≡ Ok tt) a.link) b.link;
+  link = gives_then start mid new (length text) (length bytes) (length (text ++ bytes)) (result ≡ Ok tt) (length-append text bytes) (done_so_far start mid (length text) (Ok tt ≡ Ok tt) refl a.link) b.link;
 }
   where
     both : (r : Result (Unit {0}) LinkFault) → MatchResult r (λ _. Appends mid.given new.given bytes) (λ _. AppendsPrefix mid.given new.given bytes)
@@ -50,6 +51,7 @@ sends_more start new text bytes fault a = record {
   puts = prefix_of_part start.given new.given text bytes a.puts;
   link = record {
     faults = record { later = a.link.faults.later; cause = λ none. a.link.faults.cause (λ is. cc) };
+    still = λ is. cc;
     sure = λ steady room. let done = a.link.sure steady (omega (arith, room, length-append text bytes)) in cc;
     whose = a.link.whose;
     came = a.link.came;

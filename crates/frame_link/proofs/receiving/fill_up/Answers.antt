@@ -19,7 +19,7 @@ loop-done-preserved g c =
     record {
       within = grind (arith, common_steps, few);
       read = more_put _ _ _ (take c.args.first c.args.room.now) c.loop-done.room c.pull.new.into c.loop-done.done c.in-Took.count i.read i.within p.bytes.2;
-      link = received_then _ _ _ ⊥ i.link (received_if _ _ _ ⊥ (λ f. absurd f) p.link);
+      link = received_then _ _ _ ⊥ i.link (received_if _ _ _ ⊥ (λ f. absurd f) (λ e. cc) p.link);
     }
 
 pub returns-in-End-clause-bytes : goal.returns-in-End-clause-bytes

@@ -31,7 +31,7 @@ returns-in-Whole-clause-bad g c = λ old first.
     reads_front g.F.Frame.parts g.F.Frame.fits _ _ _ c.whole_frame.result (took_both old _ _ _ _ s.0 before s.1 s.2) (rw c.deref.ensures.value at c.whole_frame.ensures)
 
 pub returns-in-Whole-clause-link : goal.returns-in-Whole-clause-link
-returns-in-Whole-clause-link g c = received_if _ _ _ _ (λ is. absurd (not_fault g.F.Frame.parts g.F.Frame.fits _ c.whole_frame.result c.whole_frame.ensures is)) c.in-Whole.ensures.link
+returns-in-Whole-clause-link g c = received_if _ _ _ _ (λ is. absurd (not_fault g.F.Frame.parts g.F.Frame.fits _ c.whole_frame.result c.whole_frame.ensures is)) (λ e. cc) c.in-Whole.ensures.link
 
 pub returns-in-Ended-clause-next : goal.returns-in-Ended-clause-next
 returns-in-Ended-clause-next g c = λ old first.

@@ -37,7 +37,7 @@ pub returns-clause-bad : goal.returns-clause-bad
 returns-clause-bad g c = c.short_frame.ensures.bad _ (head_in_room _ _ c.fill_up.new.room _ c.in-Some.size (grind (arith, common_steps)) c.in-All.ensures.bytes)
 
 pub returns-then-size-gt-SHORT-clause-link : goal.returns-then-size-gt-SHORT-clause-link
-returns-then-size-gt-SHORT-clause-link g c = received_then _ _ _ _ (received_if _ _ _ ⊥ (λ f. absurd f) c.in-All.ensures.link) c.long_frame.ensures.link
+returns-then-size-gt-SHORT-clause-link g c = received_then _ _ _ _ (received_if _ _ _ ⊥ (λ f. absurd f) (λ e. cc) c.in-All.ensures.link) c.long_frame.ensures.link
 
 pub returns-clause-link : goal.returns-clause-link
-returns-clause-link g c = received_then _ _ _ _ (received_if _ _ _ ⊥ (λ f. absurd f) c.in-All.ensures.link) c.short_frame.ensures.link
+returns-clause-link g c = received_then _ _ _ _ (received_if _ _ _ ⊥ (λ f. absurd f) (λ e. cc) c.in-All.ensures.link) c.short_frame.ensures.link

@@ -13,7 +13,7 @@ pub returns-in-All-clause-bad : goal.returns-in-All-clause-bad
 returns-in-All-clause-bad g c = λ old first. (room_next g.F.Frame.parts g.F.Frame.fits old _ _ c.args.room.now c.fill_up.new.room c.whole_frame.result c.in-All.ensures.bytes c.whole_frame.ensures first).1
 
 pub returns-in-All-clause-link : goal.returns-in-All-clause-link
-returns-in-All-clause-link g c = received_if _ _ _ _ (λ is. absurd (not_fault g.F.Frame.parts g.F.Frame.fits c.fill_up.new.room c.whole_frame.result c.whole_frame.ensures is)) c.in-All.ensures.link
+returns-in-All-clause-link g c = received_if _ _ _ _ (λ is. absurd (not_fault g.F.Frame.parts g.F.Frame.fits c.fill_up.new.room c.whole_frame.result c.whole_frame.ensures is)) (λ e. cc) c.in-All.ensures.link
 
 pub returns-in-Ended-clause-next : goal.returns-in-Ended-clause-next
 returns-in-Ended-clause-next g c = λ old first. (room_ended g.F.Frame.parts g.F.Frame.fits old _ _ c.args.room.now c.fill_up.new.room _ c.requires (search rules) c.in-Ended.ensures.bytes first).0

@@ -1,6 +1,6 @@
 -- How what was read and given becomes an answer.
 use Rattle.std.proofs.Common.{◌≡◌, ◌≤◌, ℕ, ◌+◌, Bool, true, false, List, [], ◌∷◌, length, take, drop, refl, sym, ap, ◌∙◌, subst, arith, inl, Result, Ok, Err, codes}
-use Rattle.std.specs.Prelude.{if◌then◌else◌, not, nat_le, nat_lt, IfSome}
+use Rattle.std.specs.Prelude.{if◌then◌else◌, not, nat_le, nat_lt}
 use Rattle.std.specs.declared.option.Option.{Option}
 use Rattle.std.specs.Io.KnownBytes.{Appends, Consumes}
 use Rattle.std.proofs.KnownBytes.{Appends-nil}
@@ -9,7 +9,7 @@ use Rattle.std.proofs.lemmas.Grind.{common_steps}
 use Rattle.std.proofs.lemmas.Bool.Decides.{nat_tests}
 use Rattle.std.proofs.Math.Seq.{take-length, take-append_seam, drop-append_seam}
 use Rattle.okws_base.specs.declared.limit.TheConstants.{LONGEST_CONTENT}
-use Rattle.okws_outer.specs.Streams.{Rose}
+use Rattle.okws_outer.specs.Streams.{Rose, Tells as TellsBytes}
 use Rattle.okws_outer.specs.Conns.{ConnWire}
 use Rattle.httparse.specs.Grammar.{RequestHead, print_request}
 use Rattle.httparse.specs.Spans.{span_bytes}
@@ -20,7 +20,7 @@ use Rattle.http_text.specs.Target.{is_target, path}
 use Rattle.http_text.specs.Reading.{checked, has_hosts, is_served, values_named, content_length, told_length, checked_head, interim_head, continue_text, IsWholeHead, HasNoWholeHead, HasFront, Headed, Overlong, Hopeless, Unfinished, Front, waits, fields_of, IsReading, Asks, with_head, interim_of, method_of}
 use Rattle.http_front.specs.Kept.{method_text}
 use Rattle.http_front.specs.Looking.{Tells}
-use Rattle.http_front.specs.Pulling.{HasRead, IsPrompt, IsContentOf, FillsContent}
+use Rattle.http_front.specs.Pulling.{HasRead, IsContentOf, FillsContent}
 use Rattle.http_front.specs.Requests.{target_text, path_text, HasTarget, IsAsked, Receives, due, HasBegun, HasAnswered, PutsInterim}
 use Rattle.http_front.specs.declared.kept.Kept.{Kept}
 use Rattle.http_front.specs.declared.looking.WholeHead.{WholeHead}
@@ -128,8 +128,8 @@ method_is false = refl
 
 -- an answer once the head is whole and its interim response was given
 pub receive_content : (start old new : ConnWire) (before kept : Kept) (whole : WholeHead) (h : RequestHead) (total : ℕ) (ended : Filled) (incoming : Incoming) → Tells h whole → HasAnswered start old before whole → FillsContent start old new h kept.bytes.items before.interim total ended
-    → kept.interim ≡ before.interim → kept.response ≡ before.response → kept.to_head ≡ before.to_head → IsAsked new kept.bytes.items incoming → (incoming ≡ ConnFault → Rose old.faults new.faults) → Receives start new kept incoming
-receive_content start old new before kept whole h total ended incoming told begun fills interim response to_head asked rose =
+    → kept.interim ≡ before.interim → kept.response ≡ before.response → kept.to_head ≡ before.to_head → IsAsked new kept.bytes.items incoming → (incoming ≡ ConnFault → Rose old.faults new.faults) → ((incoming ≡ ConnFault → ⊥) → new.faults ≡ old.faults) → Receives start new kept incoming
+receive_content start old new before kept whole h total ended incoming told begun fills interim response to_head asked rose still =
     let written : kept.interim ≡ length (interim_head h) = interim ∙ begun.interim ∙ ap length (sym (due_is h whole told)) in
     record {
       reads = subst (λ (n : ℕ). HasRead start new kept.bytes.items n) (sym interim) fills.reads;
@@ -146,12 +146,13 @@ receive_content start old new before kept whole h total ended incoming told begu
       method = (Headed h fills.rest, fills.whole, method_is kept.to_head ∙ to_head ∙ begun.to_head ∙ told.to_head);
       response = response ∙ begun.response;
       rose = λ e. rose_later start.faults old.faults new.faults begun.reads.later (rose e);
+      still = λ fine. still fine ∙ begun.still;
     }
 
 -- an answer without a whole head
 pub receive_headless : (start new : ConnWire) (kept : Kept) (front : Front) (incoming : Incoming) → HasRead start new kept.bytes.items kept.interim → HasFront kept.bytes.items front → interim_of front ≡ [] → is_head (method_of front) ≡ false
-    → new.given ≡ start.given → kept.interim ≡ 0 → kept.response ≡ 0 → kept.to_head ≡ false → IsAsked new kept.bytes.items incoming → (incoming ≡ ConnFault → Rose start.faults new.faults) → Receives start new kept incoming
-receive_headless start new kept front incoming reads has none method given interim response to_head asked rose = record {
+    → new.given ≡ start.given → kept.interim ≡ 0 → kept.response ≡ 0 → kept.to_head ≡ false → IsAsked new kept.bytes.items incoming → (incoming ≡ ConnFault → Rose start.faults new.faults) → ((incoming ≡ ConnFault → ⊥) → new.faults ≡ start.faults) → Receives start new kept incoming
+receive_headless start new kept front incoming reads has none method given interim response to_head asked rose still = record {
   reads = reads;
   asked = asked;
   interim = record {
@@ -166,6 +167,7 @@ receive_headless start new kept front incoming reads has none method given inter
   method = (front, has, method_is kept.to_head ∙ to_head ∙ sym method);
   response = response;
   rose = rose;
+  still = still;
 }
 
 -- what stands at the front without a whole head has no interim response, and no method HEAD
@@ -179,14 +181,14 @@ headless bytes Unfinished has none = (refl, refl)
 pub read_put : (start mid new : ConnWire) (bytes : List ℕ) (written : ℕ) → HasRead start mid bytes written → new.left ≡ mid.left → new.last ≡ mid.last → mid.faults ≤ new.faults → HasRead start new bytes written
 read_put start mid new bytes written read left last later = record {
   taken = subst (λ (o : Option (List ℕ)). Consumes start.left o bytes) (sym left) read.taken;
-  prompt = subst (λ (o : Option (List ℕ)). (bytes ≡ [] → ⊥) → IfSome o (λ l. IsPrompt l bytes written)) (sym last) read.prompt;
+  prompt = λ some. let p = read.prompt some in (p.0, subst (λ (o : Option (List ℕ)). TellsBytes o p.0) (sym last) p.1, p.2, p.3);
   later = omega (arith, read.later, later);
 }
 
 -- a whole head that a check refuses
 pub receive_refused : (start now : ConnWire) (kept : Kept) (whole : WholeHead) (h : RequestHead) (rest : List ℕ) (status : ℕ) → IsWholeHead kept.bytes.items h rest → Tells h whole → whole.checked ≡ Err status
-    → ((written : ℕ) → HasRead start now kept.bytes.items written) → now.given ≡ start.given → HasBegun kept whole → Receives start now kept (Refused status)
-receive_refused start now kept whole h rest status is told refused reads given begun =
+    → ((written : ℕ) → HasRead start now kept.bytes.items written) → now.given ≡ start.given → now.faults ≡ start.faults → HasBegun kept whole → Receives start now kept (Refused status)
+receive_refused start now kept whole h rest status is told refused reads given still begun =
     let found : checked_head h ≡ Err status = sym told.checked_is ∙ refused in
     let quiet : interim_head h ≡ [] = ap (λ (r : Result ℕ ℕ). if waits r h.minor (fields_of h) then continue_text else []) found in
     record {
@@ -202,6 +204,7 @@ receive_refused start now kept whole h rest status is told refused reads given b
       method = (Headed h rest, is, method_is kept.to_head ∙ begun.to_head ∙ told.to_head);
       response = begun.response;
       rose = λ e. cc;
+      still = λ _. still;
     }
 
 -- the interim response was cut
@@ -222,16 +225,18 @@ receive_cut start old new before kept whole h rest is told reads given begun put
       method = (Headed h rest, stands, method_is kept.to_head ∙ to_head ∙ begun.to_head ∙ told.to_head);
       response = response ∙ begun.response;
       rose = λ _. rose_later start.faults old.faults new.faults (reads 0).later (puts.rose refl);
+      still = λ other. absurd (other refl);
     }
 
 -- the interim response was given where it is due
-pub answered_due : (start old new : ConnWire) (before kept : Kept) (whole : WholeHead) → ((written : ℕ) → HasRead start old before.bytes.items written) → old.given ≡ start.given → HasBegun before whole
+pub answered_due : (start old new : ConnWire) (before kept : Kept) (whole : WholeHead) → ((written : ℕ) → HasRead start old before.bytes.items written) → old.given ≡ start.given → old.faults ≡ start.faults → HasBegun before whole
     → PutsInterim old new whole.waits kept.interim true → kept.bytes.items ≡ before.bytes.items → kept.response ≡ before.response → kept.to_head ≡ before.to_head → HasAnswered start new kept whole
-answered_due start old new before kept whole reads given begun puts bytes response to_head = record {
+answered_due start old new before kept whole reads given still begun puts bytes response to_head = record {
   reads = subst (λ (b : List ℕ). HasRead start new b kept.interim) (sym bytes) (read_put start old new before.bytes.items kept.interim (reads kept.interim) puts.left puts.last puts.later);
   given =
       let all : take kept.interim (due whole.waits) ≡ due whole.waits = ap (λ (n : ℕ). take n (due whole.waits)) (puts.whole refl) ∙ take-length (due whole.waits) in
       subst (λ (t : List ℕ). Appends start.given new.given t) all (subst (λ (o : Option (List ℕ)). Appends o new.given (take kept.interim (due whole.waits))) given puts.given);
+  still = puts.still refl ∙ still;
   interim = puts.whole refl;
   response = response ∙ begun.response;
   to_head = to_head ∙ begun.to_head;

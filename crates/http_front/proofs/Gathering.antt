@@ -51,6 +51,7 @@ pub nothing_written : (start : ConnWire) (before kept : Kept) → SameRequest be
 nothing_written start before kept same none empty = (
   record { left = refl; last = refl; later = omega arith; bytes = same.bytes; interim = same.interim; to_head = same.to_head },
   record { gone = []; together = sym empty; given = Appends-nil start.given; count = none ∙ omega arith },
+  refl,
 )
 
 -- ---- a part waits
@@ -67,6 +68,7 @@ waiting_put start old new before kept after text w puts empty count same = (
     given = Appends-trans start.given old.given new.given w.1.gone kept.waiting.items w.1.given puts.puts;
     count = counted (length w.1.gone) (length kept.waiting.items) kept.response after.response w.1.count count ∙ ap (λ (n : ℕ). min n (2 ^ 64 - 1)) (sym (length-append w.1.gone kept.waiting.items));
   },
+  puts.still refl ∙ w.2,
 )
 
 -- where nothing waits a part was put
@@ -80,6 +82,7 @@ part_put start old new before kept after text part none w puts waits count same 
         given = Appends-trans start.given old.given new.given w.1.gone part w.1.given puts.puts;
         count = counted (length w.1.gone) (length part) kept.response after.response w.1.count count ∙ ap (λ (n : ℕ). min n (2 ^ 64 - 1)) (sym (length-append w.1.gone part));
       },
+      puts.still refl ∙ w.2,
     )
 
 -- ---- a put that failed
@@ -143,6 +146,7 @@ all_sent start now before kept text w none =
       given = (
         subst (λ (t : List ℕ). Appends start.given now.given t) (sym all) w.1.given,
         w.1.count ∙ ap (λ (t : List ℕ). min (length t) (2 ^ 64 - 1)) (sym all),
+        w.2,
       );
     }
 

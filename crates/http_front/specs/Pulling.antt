@@ -1,13 +1,14 @@
 -- How the bytes of a request come.
 use Rattle.std.specs.Prelude.{◌≡◌, ◌≢◌, ◌≤◌, ◌<◌, ℕ, ◌+◌, List, [], ◌++◌, length, Ok, IfSome}
 use Rattle.std.specs.Io.KnownBytes.{Consumes, Keeps, IsAtEnd}
-use Rattle.okws_outer.specs.Streams.{Counts}
+use Rattle.okws_outer.specs.Streams.{Counts, Tells}
 use Rattle.okws_outer.specs.Conns.{ConnWire}
 use Rattle.httparse.specs.Grammar.{RequestHead, print_request}
 use Rattle.http_text.specs.Reading.{IsWholeHead, HasNoWholeHead, Front, HasFront, IsReading, reading_of, checked_head, interim_head}
 use Rattle.http_text.specs.Reading.{Unfinished}
 use Rattle.http_text.specs.Reading.{Refuses, Unsettled}
-use Rattle.http_front.specs.Looking.{Tells}
+use Rattle.http_front.specs.Looking.{Tells as TellsHead}
+use Rattle.http_front.specs.declared.kept.TheConstants.{PIECE}
 use Rattle.http_front.specs.declared.pulling.Piece.{Piece}
 use Rattle.http_front.specs.declared.pulling.Piece.TheVariants as piece
 use Rattle.http_front.specs.declared.pulling.HeadRead.{HeadRead}
@@ -15,17 +16,26 @@ use Rattle.http_front.specs.declared.pulling.HeadRead.TheVariants as head
 use Rattle.http_front.specs.declared.pulling.Filled.{Filled}
 use Rattle.http_front.specs.declared.pulling.Filled.TheVariants as filled
 
--- All bytes but those of the last piece settled nothing; and where a whole head stood there, its interim response was written before that piece came.
-pub record IsPrompt (last bytes : List ℕ) (written : ℕ) : Type 0 where
+-- The bytes but for a last piece settled nothing; and where a whole head stood there, that piece brought none behind its content.
+pub record IsPrompt (last bytes : List ℕ) : Type 0 where
   pub before : List ℕ
   pub together : bytes ≡ before ++ last
   pub unsettled : IsReading before Unsettled
-  pub answered : (h : RequestHead) (rest : List ℕ) → IsWholeHead before h rest → written ≡ length (interim_head h)
+  pub within : (h : RequestHead) (rest : List ℕ) (size : ℕ) → IsWholeHead before h rest → checked_head h ≡ Ok size → length bytes ≤ length (print_request h) + size
+  pub short : length last ≤ PIECE
 
--- Since the start these bytes were taken, and none once they were settled.
+-- None of the bytes was read once they were settled: but for a last piece they settled nothing.
+abbrev pub IsReadPromptly : List ℕ → Type 0
+IsReadPromptly bytes = bytes ≢ [] → (last : List ℕ) × IsPrompt last bytes
+
+-- Where a whole head stood there, its interim response was written.
+abbrev pub IsAnswered : List ℕ → ℕ → Type 0
+IsAnswered before written = (h : RequestHead) (rest : List ℕ) → IsWholeHead before h rest → written ≡ length (interim_head h)
+
+-- Since the start these bytes were taken, and none once they were settled: the piece that was taken last settled them, and what is due before it was written.
 pub record HasRead (start now : ConnWire) (bytes : List ℕ) (written : ℕ) : Type 0 where
   pub taken : Consumes start.left now.left bytes
-  pub prompt : bytes ≢ [] → IfSome now.last (λ last. IsPrompt last bytes written)
+  pub prompt : bytes ≢ [] → (last : List ℕ) × Tells now.last last × (prompt : IsPrompt last bytes) × IsAnswered prompt.before written
   pub later : start.faults ≤ now.faults
 
 -- Bytes came behind those that were there, or none were taken.
@@ -35,11 +45,12 @@ PieceBytes old new before now piece.Ended = (now ≡ before) × Keeps old.left n
 PieceBytes old new before now piece.Failed = (now ≡ before) × Keeps old.left new.left × (new.last ≡ old.last)
 PieceBytes old new before now piece.NoMemory = (now ≡ before) × Keeps old.left new.left × (new.last ≡ old.last)
 
--- What a piece does.
+-- What a piece does. It counts its own fault alone.
 pub record TakesPiece (old new : ConnWire) (before now : List ℕ) (came : Piece) : Type 0 where
   pub bytes : PieceBytes old new before now came
   pub given : new.given ≡ old.given
   pub faults : Counts old.faults new.faults (came ≡ piece.Failed)
+  pub still : (came ≡ piece.Failed → ⊥) → new.faults ≡ old.faults
 
 -- Without a whole head the bytes are refused by this status.
 pub record IsRefusedFront (bytes : List ℕ) (status : ℕ) : Type 0 where
@@ -50,7 +61,7 @@ pub record IsRefusedFront (bytes : List ℕ) (status : ℕ) : Type 0 where
 
 -- What stands at the front of the bytes where the reading of a head ends.
 abbrev pub HeadEnds : ConnWire → List ℕ → HeadRead → Type 0
-HeadEnds now bytes (head.Whole whole) = (h : RequestHead) × (rest : List ℕ) × IsWholeHead bytes h rest × Tells h whole
+HeadEnds now bytes (head.Whole whole) = (h : RequestHead) × (rest : List ℕ) × IsWholeHead bytes h rest × TellsHead h whole
 HeadEnds now bytes (head.Refused status) = IsRefusedFront bytes status
 HeadEnds now bytes head.Ended = HasFront bytes Unfinished × IsAtEnd now.left
 HeadEnds now bytes head.Failed = HasFront bytes Unfinished
@@ -62,6 +73,7 @@ pub record ReadsHead (start now : ConnWire) (bytes : List ℕ) (read : HeadRead)
   pub given : now.given ≡ start.given
   pub ends : HeadEnds now bytes read
   pub faults : Counts start.faults now.faults (read ≡ head.Failed)
+  pub still : (read ≡ head.Failed → ⊥) → now.faults ≡ start.faults
 
 -- So many bytes are a head that passed its checks, and its content.
 pub record IsContentOf (h : RequestHead) (total : ℕ) : Type 0 where
@@ -84,3 +96,4 @@ pub record FillsContent (start old now : ConnWire) (h : RequestHead) (bytes : Li
   pub given : now.given ≡ old.given
   pub ends : FillEnds now bytes total ended
   pub faults : Counts old.faults now.faults (ended ≡ filled.Failed)
+  pub still : (ended ≡ filled.Failed → ⊥) → now.faults ≡ old.faults

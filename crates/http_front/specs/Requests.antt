@@ -46,7 +46,7 @@ pub record GivesInterim (old new : Option (List ℕ)) (bytes : List ℕ) (writte
   pub given : Appends old new (take written text)
   pub whole : (incoming ≡ ConnFault → ⊥) → written ≡ length text
 
--- What was read and given on a connection for this answer, and what is kept of it.
+-- What was read and given on a connection for this answer, and what is kept of it. A fault was counted exactly where the connection failed.
 pub record Receives (old new : ConnWire) (kept : Kept) (incoming : Incoming) : Type 0 where
   pub reads : HasRead old new kept.bytes.items kept.interim
   pub asked : IsAsked new kept.bytes.items incoming
@@ -54,6 +54,7 @@ pub record Receives (old new : ConnWire) (kept : Kept) (incoming : Incoming) : T
   pub method : IsMethod kept.bytes.items (method_text kept.to_head)
   pub response : kept.response ≡ 0
   pub rose : incoming ≡ ConnFault → Rose old.faults new.faults
+  pub still : (incoming ≡ ConnFault → ⊥) → new.faults ≡ old.faults
 
 -- The whole head at the front of the bytes, of which this is told.
 pub record Stands (bytes : List ℕ) (whole : WholeHead) : Type 0 where
@@ -75,12 +76,13 @@ pub record HasBegun (kept : Kept) (whole : WholeHead) : Type 0 where
 -- What follows a whole head ends what was begun at the start.
 abbrev pub ReceivesRest : ConnWire → ConnWire → Kept → Kept → WholeHead → Incoming → Type 0
 ReceivesRest old new before kept whole incoming =
-    (start : ConnWire) → ((written : ℕ) → HasRead start old before.bytes.items written) → old.given ≡ start.given → HasBegun before whole → Receives start new kept incoming
+    (start : ConnWire) → ((written : ℕ) → HasRead start old before.bytes.items written) → old.given ≡ start.given → old.faults ≡ start.faults → HasBegun before whole → Receives start new kept incoming
 
 -- The interim response was given whole where it is due.
 pub record HasAnswered (start old : ConnWire) (kept : Kept) (whole : WholeHead) : Type 0 where
   pub reads : HasRead start old kept.bytes.items kept.interim
   pub given : Appends start.given old.given (due whole.waits)
+  pub still : old.faults ≡ start.faults
   pub interim : kept.interim ≡ length (due whole.waits)
   pub response : kept.response ≡ 0
   pub to_head : kept.to_head ≡ whole.to_head
@@ -99,3 +101,4 @@ pub record PutsInterim (old new : ConnWire) (waits : Bool) (written : ℕ) (sent
   pub given : Appends old.given new.given (take written (due waits))
   pub whole : sent ≡ true → written ≡ length (due waits)
   pub rose : sent ≡ false → Rose old.faults new.faults
+  pub still : sent ≡ true → new.faults ≡ old.faults

@@ -43,14 +43,14 @@ pub record IsCut (start now : ConnWire) (text : List ℕ) (written : ℕ) : Type
   pub count : written ≡ min part.taken (2 ^ 64 - 1)
   pub rose : Rose start.faults now.faults
 
--- The text so far was given or waits, or a front of it was given.
+-- The text so far was given or waits, and no fault was counted; or a front of it was given.
 abbrev pub Writes : ConnWire → Kept → List ℕ → ConnWire → Kept → Result (Unit {0}) Cut → Type 0
-Writes start before text now kept (Ok done) = Stays start now before kept × Gathered start.given now.given text kept
+Writes start before text now kept (Ok done) = Stays start now before kept × Gathered start.given now.given text kept × (now.faults ≡ start.faults)
 Writes start before text now kept (Err cut) = Stays start now before kept × IsCut start now text kept.response
 
--- All of the text was given; or, where the connection failed, a front of it.
+-- All of the text was given, and no fault was counted; or, where the connection failed, a front of it.
 abbrev pub Given : ConnWire → ConnWire → List ℕ → ℕ → Responded → Type 0
-Given start now text written Sent = Appends start.given now.given text × (written ≡ min (length text) (2 ^ 64 - 1))
+Given start now text written Sent = Appends start.given now.given text × (written ≡ min (length text) (2 ^ 64 - 1)) × (now.faults ≡ start.faults)
 Given start now text written ConnFault = IsCut start now text written
 
 -- What a response does.

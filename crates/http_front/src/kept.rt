@@ -11,7 +11,7 @@ use std::alloc::{AllocError, Global};
 const ONE_PUT: usize = 65_536;
 
 /// Bytes that are asked for at a time.
-pub(crate) const PIECE: usize = 16_384;
+pub const PIECE: usize = 16_384;
 
 /// Room that reading works in.
 #[derive(Drop)]

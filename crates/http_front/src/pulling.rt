@@ -1,6 +1,6 @@
 //! Takes what a client sends, piece by piece, and looks at it where it could have settled something.
 
-ghost use Rattle.std.specs.Prelude.{◌≡◌, ◌<◌, ◌≤◌, ◌++◌, ℕ, List, [], length};
+ghost use Rattle.std.specs.Prelude.{◌≡◌, ◌<◌, ◌≤◌, ◌+◌, ◌++◌, ℕ, List, [], length};
 ghost use Rattle.okws_outer.specs.Conns.{ConnWire};
 ghost use Rattle.httparse.specs.Grammar.{RequestHead};
 ghost use Rattle.http_text.specs.Reading.{IsWholeHead, interim_head};
@@ -28,7 +28,8 @@ pub(crate) enum Piece {
 /// Takes one piece, at most as long as the buffer, behind the bytes that are there.
 fn take_piece<C: Conn>(conn: &mut C, bytes: &mut Vec<u8>, buffer: &mut [u8]) -> Piece
     requires { 0 < length buffer.old }
-    ensures { TakesPiece (C.wire conn.old) (C.wire conn.new) bytes.old.items bytes.new.items result }
+    ensures piece { TakesPiece (C.wire conn.old) (C.wire conn.new) bytes.old.items bytes.new.items result }
+    ensures within { length bytes.new.items ≤ length bytes.old.items + length buffer.old }
 {
     if bytes.reserve(buffer.len()).is_err() {
         return Piece::NoMemory;

@@ -12,7 +12,7 @@ invariant-loop-bytes g l = record {
       → (more : List ℕ) × IsWholeHead l.bytes.items h more × HasRead start (g.C.Conn.wire l.conn) l.bytes.items written;
   grown : (more : List ℕ) × (l.bytes.items ≡ l.fn.bytes.items ++ more);
   given : (g.C.Conn.wire l.conn).given ≡ (g.C.Conn.wire l.fn.conn).given;
-  later : (g.C.Conn.wire l.fn.conn).faults ≤ (g.C.Conn.wire l.conn).faults;
+  still : (g.C.Conn.wire l.conn).faults ≡ (g.C.Conn.wire l.fn.conn).faults;
 }
 
 abbrev pub decreases-loop-bytes : goal.decreases-loop-bytes

@@ -12,7 +12,7 @@ invariant-loop-place g l = record {
   front : HasFront l.bytes.items Unfinished;
   at : At l.place l.bytes.items;
   given : (g.C.Conn.wire l.conn).given ≡ (g.C.Conn.wire l.fn.conn).given;
-  later : (g.C.Conn.wire l.fn.conn).faults ≤ (g.C.Conn.wire l.conn).faults;
+  still : (g.C.Conn.wire l.conn).faults ≡ (g.C.Conn.wire l.fn.conn).faults;
 }
 
 abbrev pub decreases-loop-place : goal.decreases-loop-place

@@ -39,14 +39,14 @@ returns-in-Ok g c = λ start begun.
     c.in-Ok.ensures.target
     (c.in-Ok.ensures.head ∙ ap (take c.args.head.now.len) same)
     (c.in-Ok.ensures.content ∙ ap (λ (b : List ℕ). take c.args.size (drop c.args.head.now.len b)) same))
-    (λ e. absurd (request_is_no_fault _ e))
+    (λ e. absurd (request_is_no_fault _ e)) (λ _. fills.still (λ e. cc))
 
 pub returns-in-Err : goal.returns-in-Err
 returns-in-Err g c = λ start begun.
     let stands = c.requires.stands in
     let content = content_of stands.head c.args.head.now c.args.size _ stands.told c.requires.passed refl in
     let fills = c.in-Whole.ensures.content start stands.head stands.rest c.args.kept.now.interim content stands.is (begun.interim ∙ ap length (sym (due_is stands.head c.args.head.now stands.told))) begun.reads in
-    receive_content start _ _ c.args.kept.now _ c.args.head.now stands.head _ _ _ stands.told begun fills refl refl refl tt (λ e. absurd (want_is_no_fault e))
+    receive_content start _ _ c.args.kept.now _ c.args.head.now stands.head _ _ _ stands.told begun fills refl refl refl tt (λ e. absurd (want_is_no_fault e)) (λ _. fills.still (λ e. cc))
 
 pub returns-in-Ended : goal.returns-in-Ended
 returns-in-Ended g c = λ start begun.
@@ -54,18 +54,18 @@ returns-in-Ended g c = λ start begun.
     let content = content_of stands.head c.args.head.now c.args.size _ stands.told c.requires.passed refl in
     let fills = c.in-Ended.ensures.content start stands.head stands.rest c.args.kept.now.interim content stands.is (begun.interim ∙ ap length (sym (due_is stands.head c.args.head.now stands.told))) begun.reads in
     receive_content start _ _ c.args.kept.now _ c.args.head.now stands.head _ _ _ stands.told begun fills refl refl refl
-    (inr (short_content _ stands.head fills.rest c.args.size fills.whole (sym stands.told.checked_is ∙ c.requires.passed) (omega (arith, fills.ends.0, stands.told.len)), fills.ends.1, refl)) (λ e. absurd (refused_is_no_fault _ e))
+    (inr (short_content _ stands.head fills.rest c.args.size fills.whole (sym stands.told.checked_is ∙ c.requires.passed) (omega (arith, fills.ends.0, stands.told.len)), fills.ends.1, refl)) (λ e. absurd (refused_is_no_fault _ e)) (λ _. fills.still (λ e. cc))
 
 pub returns-in-Failed : goal.returns-in-Failed
 returns-in-Failed g c = λ start begun.
     let stands = c.requires.stands in
     let content = content_of stands.head c.args.head.now c.args.size _ stands.told c.requires.passed refl in
     let fills = c.in-Failed.ensures.content start stands.head stands.rest c.args.kept.now.interim content stands.is (begun.interim ∙ ap length (sym (due_is stands.head c.args.head.now stands.told))) begun.reads in
-    receive_content start _ _ c.args.kept.now _ c.args.head.now stands.head _ _ _ stands.told begun fills refl refl refl tt (λ _. fills.faults.cause refl)
+    receive_content start _ _ c.args.kept.now _ c.args.head.now stands.head _ _ _ stands.told begun fills refl refl refl tt (λ _. fills.faults.cause refl) (λ fine. absurd (fine refl))
 
 pub returns-in-NoMemory : goal.returns-in-NoMemory
 returns-in-NoMemory g c = λ start begun.
     let stands = c.requires.stands in
     let content = content_of stands.head c.args.head.now c.args.size _ stands.told c.requires.passed refl in
     let fills = c.in-NoMemory.ensures.content start stands.head stands.rest c.args.kept.now.interim content stands.is (begun.interim ∙ ap length (sym (due_is stands.head c.args.head.now stands.told))) begun.reads in
-    receive_content start _ _ c.args.kept.now _ c.args.head.now stands.head _ _ _ stands.told begun fills refl refl refl tt (λ e. absurd (want_is_no_fault e))
+    receive_content start _ _ c.args.kept.now _ c.args.head.now stands.head _ _ _ stands.told begun fills refl refl refl tt (λ e. absurd (want_is_no_fault e)) (λ _. fills.still (λ e. cc))

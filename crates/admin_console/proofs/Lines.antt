@@ -69,17 +69,17 @@ pub line_ended : (start old new : ConnWire) (held into : List ℕ) (n : ℕ) →
 line_ended start old new held into n h p size is =
     let one : take n into ≡ 10 ∷ [] = one_byte into n size p.pulls.0 p.pulls.1 ∙ ap (λ (b : ℕ). b ∷ []) is in
     let more = subst (λ (t : List ℕ). Took start new (h.text ++ t)) one (took_more start old new h.text into n h.took p) in
-    record { text = h.text; plain = h.plain; held_is = h.held_is; given = more.given; later = more.later; ends = more.taken }
+    record { text = h.text; plain = h.plain; held_is = h.held_is; given = more.given; later = more.later; still = λ _. more.still; ends = more.taken }
 
 pub line_cut : (start old new : ConnWire) (held into : List ℕ) → Holds start old held → PullsFrom old new into pull.End → TakesLine start new held taken.Ended
 line_cut start old new held into h p =
     let at_end = took_end start old new h.text into h.took p in
-    record { text = h.text; plain = h.plain; held_is = h.held_is; given = at_end.0.given; later = at_end.0.later; ends = (at_end.0.taken, at_end.1) }
+    record { text = h.text; plain = h.plain; held_is = h.held_is; given = at_end.0.given; later = at_end.0.later; still = λ _. at_end.0.still; ends = (at_end.0.taken, at_end.1) }
 
 pub line_failed : (start old new : ConnWire) (held into : List ℕ) → Holds start old held → PullsFrom old new into pull.Failed → TakesLine start new held taken.Failed
 line_failed start old new held into h p =
     let failed = took_failed start old new h.text into h.took p in
-    record { text = h.text; plain = h.plain; held_is = h.held_is; given = failed.0.given; later = failed.0.later; ends = (failed.0.taken, failed.1) }
+    record { text = h.text; plain = h.plain; held_is = h.held_is; given = failed.given; later = failed.later; still = λ fine. absurd (fine refl); ends = (failed.taken, failed.rose) }
 
 -- ---- what is held tells what the line says
 
@@ -154,6 +154,7 @@ skipped_more start old new before mid after held s line empty is =
         taken = subst (λ (t : List ℕ). Consumes start.left new.left t) (sym (ended_more s.blanks line.text)) (Consumes-trans start.left old.left new.left (ended s.blanks) (line.text ++ 10 ∷ []) s.took.taken line.ends);
         given = line.given ∙ s.took.given;
         later = omega (arith, s.took.later, line.later);
+        still = line.still (λ e. cc) ∙ s.took.still;
       };
       count = omega (arith, is, s.count, size);
     }
@@ -168,6 +169,7 @@ command_taken start old new before mid after held s line filled is = record {
   count = omega (arith, is, s.count);
   given = line.given ∙ s.took.given;
   later = omega (arith, s.took.later, line.later);
+  still = λ _. line.still (λ e. cc) ∙ s.took.still;
   ends = (
     Consumes-trans start.left old.left new.left (ended s.blanks) (line.text ++ 10 ∷ []) s.took.taken line.ends,
     λ blank. filled (subst (λ (t : List ℕ). strip_carriage_return t ≡ []) (sym line.held_is) (held_blank line.text blank.1)),
@@ -184,6 +186,7 @@ command_cut start old new before after held s line = record {
   count = s.count;
   given = line.given ∙ s.took.given;
   later = omega (arith, s.took.later, line.later);
+  still = λ _. line.still (λ e. cc) ∙ s.took.still;
   ends = (Consumes-trans start.left old.left new.left (ended s.blanks) line.text s.took.taken line.ends.0, line.ends.1);
 }
 
@@ -199,6 +202,7 @@ command_failed start old new before after held s line =
       count = s.count;
       given = line.given ∙ s.took.given;
       later = omega (arith, s.took.later, line.later);
+      still = λ fine. absurd (fine refl);
       ends = (Consumes-trans start.left old.left new.left (ended s.blanks) line.text s.took.taken line.ends.0, omega (arith, s.took.later, rose));
     }
 

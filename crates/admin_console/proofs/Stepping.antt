@@ -66,7 +66,7 @@ module _ (S : Type 0) (publishes : S → ℕ → List ℕ → Publishing → S �
       let same : old.given ≡ start.given = carried.given ∙ t.given in
       let done = did start mid old new before after held command J now a t is carried tells.left in
       let given = subst (λ (g : Option (List ℕ)). Appends g new.given (answer_text a)) same tells.told.1 in
-      subst (λ (x : Answer). Does publishes relaunches C start new before after J now x × Appends start.given new.given (answer_text x)) (sym tells.told.0) (done, given)
+      subst (λ (x : Answer). Does publishes relaunches C start new before after J now x × Appends start.given new.given (answer_text x) × (new.faults ≡ start.faults)) (sym tells.told.0) (done, given, tells.told.2 ∙ carried.still (λ e. cc) ∙ t.still (λ e. cc))
   told start mid old new before after held command J now a (ConsoleFault b) t is carried tells =
       let same : old.given ≡ start.given = carried.given ∙ t.given in
       let done = did start mid old new before after held command J now a t is carried tells.left in
@@ -82,7 +82,7 @@ module _ (S : Type 0) (publishes : S → ℕ → List ℕ → Publishing → S �
   ends start mid new before after held command J now t is carried =
       let command_is = commanded start mid new new before after held [] t (subst (λ (b : List ℕ). Consumes mid.left new.left b) carried.is.1 carried.taken_are) refl in
       let order_is = sym (said C start mid before after held command t is) ∙ carried.is.0 in
-      (inl (strip_carriage_return t.text, command_is, order_is), carried.given ∙ t.given, carried.is.2)
+      (inl (strip_carriage_return t.text, command_is, order_is), carried.given ∙ t.given, carried.is.2, carried.still (λ e. cc) ∙ t.still (λ e. cc))
 
   pub stops : (start mid new : ConnWire) (before after : ℕ) (held : List ℕ) (command : Order) (J now : S) → TakesCommand start mid before after held taken.Line → command ≡ order_of C (strip_carriage_return held)
       → CarriesOut publishes relaunches mid new after command J now done.Stops → Steps publishes relaunches C start new before after J now Stop
@@ -102,4 +102,19 @@ module _ (S : Type 0) (publishes : S → ℕ → List ℕ → Publishing → S �
       let fewer : length carried.bytes < size_said (order_of C (strip_carriage_return t.text))
       = subst (λ (o : Order). length carried.bytes < size_said o) (said C start mid before after held command t is) carried.is.1 in
       let cut : IsCut C taken = record { blanks = t.blanks; text = t.text; are_blank = t.are_blank; plain = t.plain; cut = inr (carried.bytes, refl, fewer) } in
-      (taken, all, carried.given ∙ t.given, carried.is.0, rose_later start.faults mid.faults new.faults t.later rose, cut)
+      (taken, all, carried.given ∙ t.given, carried.is.0, rose_later start.faults mid.faults new.faults t.later rose, cut, inr (carried.bytes, refl, t.count))
+
+  -- the console ended before a line did
+  pub runs_out : (start new : ConnWire) (before after : ℕ) (held : List ℕ) (J : S) → TakesCommand start new before after held taken.Ended → Steps publishes relaunches C start new before after J J Finished
+  runs_out start new before after held J t = (
+    inr (record { blanks = t.blanks; rest = t.text; are_blank = t.are_blank; plain = t.plain; taken_are = t.ends.0; none_left = t.ends.1; count = t.count }),
+    t.given,
+    refl,
+    t.still (λ e. cc),
+  )
+
+  -- the console failed before a line was whole
+  pub cut_off : (start new : ConnWire) (before after : ℕ) (held : List ℕ) (J : S) → TakesCommand start new before after held taken.Failed → Steps publishes relaunches C start new before after J J (ConsoleFault None)
+  cut_off start new before after held J t =
+      let cut : IsCut C (ended t.blanks ++ t.text) = record { blanks = t.blanks; text = t.text; are_blank = t.are_blank; plain = t.plain; cut = inl refl } in
+      (ended t.blanks ++ t.text, t.ends.0, t.given, refl, t.ends.1, cut, inl (refl, t.count))

@@ -41,13 +41,14 @@ LineEnds old new text taken.Line = Consumes old.left new.left (text ++ 10 ∷ []
 LineEnds old new text taken.Ended = Consumes old.left new.left text × IsAtEnd new.left
 LineEnds old new text taken.Failed = Consumes old.left new.left text × Rose old.faults new.faults
 
--- A line was taken; its first bytes are held.
+-- A line was taken; its first bytes are held. A fault was counted only where the connection failed.
 pub record TakesLine (old new : ConnWire) (held : List ℕ) (read : Taken) : Type 0 where
   pub text : List ℕ
   pub plain : IsPlain text
   pub held_is : held ≡ take HELD text
   pub given : new.given ≡ old.given
   pub later : old.faults ≤ new.faults
+  pub still : (read ≡ taken.Failed → ⊥) → new.faults ≡ old.faults
   pub ends : LineEnds old new text read
 
 -- How the bytes of empty lines and of the line behind them go.
@@ -72,6 +73,7 @@ pub record TakesCommand (old new : ConnWire) (before after : ℕ) (held : List �
   pub count : after ≡ counted before (lines_read blanks read)
   pub given : new.given ≡ old.given
   pub later : old.faults ≤ new.faults
+  pub still : (read ≡ taken.Failed → ⊥) → new.faults ≡ old.faults
   pub ends : CommandEnds old new blanks text read
 
 -- So many bytes were taken, or fewer as the input ended or the connection failed.
@@ -86,6 +88,7 @@ pub record PassesBytes (old new : ConnWire) (size : ℕ) (passing : Passed) : Ty
   pub taken_are : Consumes old.left new.left bytes
   pub given : new.given ≡ old.given
   pub later : old.faults ≤ new.faults
+  pub still : (passing ≡ passed.Failed → ⊥) → new.faults ≡ old.faults
   pub ends : BytesEnd old new bytes size passing
 
 -- The same of a publication's bytes, which are at hand where all came and memory was given.
@@ -101,4 +104,5 @@ pub record TakesContent (old new : ConnWire) (size : ℕ) (taking : Content) : T
   pub taken_are : Consumes old.left new.left bytes
   pub given : new.given ≡ old.given
   pub later : old.faults ≤ new.faults
+  pub still : (taking ≡ content.Failed → ⊥) → new.faults ≡ old.faults
   pub ends : ContentEnds old new bytes size taking

@@ -63,6 +63,7 @@ pub record CarriesOut {S : Type 0} (publishes : S → ℕ → List ℕ → Publi
   pub taken_are : Consumes old.left new.left bytes
   pub given : new.given ≡ old.given
   pub later : old.faults ≤ new.faults
+  pub still : (what ≡ done.Failed → ⊥) → new.faults ≡ old.faults
   pub is : Carries publishes relaunches old new line command J now bytes what
 
 -- What became of a refused command.
@@ -78,11 +79,12 @@ pub record Refuses (old new : ConnWire) (line : ℕ) (broken : Rule) (size : ℕ
   pub taken_are : Consumes old.left new.left bytes
   pub given : new.given ≡ old.given
   pub later : old.faults ≤ new.faults
+  pub still : (what ≡ done.Failed → ⊥) → new.faults ≡ old.faults
   pub is : IsRefused old new line broken size bytes what
 
--- The line of an answer was given; or a front of it, and the connection failed.
+-- The line of an answer was given, and no fault was counted; or a front of it, and the connection failed.
 abbrev pub IsTold : ConnWire → ConnWire → Answer → Stepped → Type 0
-IsTold old new a (Answered b) = (b ≡ a) × Appends old.given new.given (answer_text a)
+IsTold old new a (Answered b) = (b ≡ a) × Appends old.given new.given (answer_text a) × (new.faults ≡ old.faults)
 IsTold old new a (ConsoleFault b) = (b ≡ Some a) × AppendsPrefix old.given new.given (answer_text a) × Rose old.faults new.faults
 IsTold old new a Finished = ⊥
 IsTold old new a Stop = ⊥
@@ -138,18 +140,24 @@ pub record IsCut (C : Config) (taken : List ℕ) : Type 0 where
   pub cut : (taken ≡ ended blanks ++ text)
       ⊎ ((bytes : List ℕ) × (taken ≡ ended blanks ++ (text ++ 10 ∷ bytes)) × (length bytes < size_said (order_of C (strip_carriage_return text))))
 
+-- The lines of a command that was cut are counted: the empty ones, and its own where bytes are lacking behind it.
+abbrev pub CountsCut : ℕ → ℕ → List (List ℕ) → List ℕ → List ℕ → Type 0
+CountsCut before after blanks text taken =
+    ((taken ≡ ended blanks ++ text) × (after ≡ counted before (length blanks)))
+    ⊎ ((bytes : List ℕ) × (taken ≡ ended blanks ++ (text ++ 10 ∷ bytes)) × (after ≡ counted before (length blanks + 1)))
+
 -- What a step answers.
--- Answered: the next command was carried out, and its answer was given. Finished: it is `end`, or the input ended before one was whole; nothing was done.
--- Stop: it is `stop`; nothing was done, and no answer was given yet.
--- ConsoleFault: the count rose, and a command was carried out of whose answer just a front was given; or the bytes that were taken are no whole command, and nothing was done.
+-- Answered: the next command was carried out, and its answer was given. Finished: it is `end`, or the input ended before one was whole; nothing was done. In both no fault was counted.
+-- Stop: it is `stop`; nothing was done, no answer was given yet, and no fault was counted.
+-- ConsoleFault: the count rose, and a command was carried out of whose answer just a front was given; or the bytes that were taken are no whole command, whose lines are counted, and nothing was done.
 abbrev pub Steps : {S : Type 0} → (S → ℕ → List ℕ → Publishing → S → Type 0) → (S → ℕ → Relaunching → S → Type 0) → Config → ConnWire → ConnWire → ℕ → ℕ → S → S → Stepped → Type 0
 Steps publishes relaunches C old new before after J now (Answered a) =
-    Does publishes relaunches C old new before after J now a × Appends old.given new.given (answer_text a)
+    Does publishes relaunches C old new before after J now a × Appends old.given new.given (answer_text a) × (new.faults ≡ old.faults)
 Steps publishes relaunches C old new before after J now Finished =
-    (Ends C old new before after ⊎ RunsOut old new before after) × (new.given ≡ old.given) × (now ≡ J)
+    (Ends C old new before after ⊎ RunsOut old new before after) × (new.given ≡ old.given) × (now ≡ J) × (new.faults ≡ old.faults)
 Steps publishes relaunches C old new before after J now Stop =
-    Stops C old new before after × (new.given ≡ old.given) × (now ≡ J)
+    Stops C old new before after × (new.given ≡ old.given) × (now ≡ J) × (new.faults ≡ old.faults)
 Steps publishes relaunches C old new before after J now (ConsoleFault (Some a)) =
     Does publishes relaunches C old new before after J now a × AppendsPrefix old.given new.given (answer_text a) × Rose old.faults new.faults
 Steps publishes relaunches C old new before after J now (ConsoleFault None) =
-    (taken : List ℕ) × Consumes old.left new.left taken × (new.given ≡ old.given) × (now ≡ J) × Rose old.faults new.faults × IsCut C taken
+    (taken : List ℕ) × Consumes old.left new.left taken × (new.given ≡ old.given) × (now ≡ J) × Rose old.faults new.faults × (cut : IsCut C taken) × CountsCut before after cut.blanks cut.text taken

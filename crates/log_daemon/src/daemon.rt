@@ -232,6 +232,7 @@ impl<S: Sink> LogDaemon<S> {
         ensures given { (more : List ℕ) × Appends self.old.given self.new.given more }
         ensures untold { self.old.given ≡ None → self.new.given ≡ None }
         ensures fault { result ≡ WriteOut.LogFault → (self.old.stopped ≡ false) × Rose self.old.faults self.new.faults }
+        ensures still { result ≡ WriteOut.Written → self.new.faults ≡ self.old.faults }
         ensures before { result ≡ WriteOut.Stopped → (self.old.stopped ≡ true) × (self.new ≡ self.old) }
         ensures stopped { self.new.stopped ≡ is_stopped result }
         ensures sticks { self.old.stopped ≡ true → result ≡ WriteOut.Stopped }

@@ -9,6 +9,7 @@ invariant_of-self g c =
       services = before.services;
       law = before.law;
       owes = owes_nothing _ _ _ _ c.if-self.false c.clear.ensures.items (whole_given _ _ _ _ _ _ c.if-self.false c.deref.ensures.value c.in-Done.ensures.untold before.owes c.in-Done.ensures.bytes);
+      spent = λ _. c.clear.ensures.items;
     }
 
 pub invariant_of-self-in-Stopped : goal.invariant_of-self-in-Stopped
@@ -18,6 +19,7 @@ invariant_of-self-in-Stopped g c =
       services = before.services;
       law = before.law;
       owes = front_given _ _ _ _ _ c.in-Stopped.field-0 _ c.if-self.false c.deref.ensures.value c.in-Stopped.ensures.untold before.owes c.in-Stopped.ensures.bytes.1;
+      spent = λ _. c.clear-in-Stopped.ensures.items;
     }
 
 pub returns-in-Done-clause-whole : goal.returns-in-Done-clause-whole

@@ -31,6 +31,7 @@ tied_new C n g currents few fresh services templates none nothing = record {
   count_is = rw nothing refl;
   below = tt;
   wanted_are = tt;
+  readers_may = λ s k m e. cc;
   drained_is = λ s k may. refl;
   heard_are = λ s k m e. cc;
   news_is = λ s k m may e. refl;

@@ -30,8 +30,9 @@ pub record Tied (C : Config) (J : List (Entry PubdEvent)) (g : Granted) (current
   pub most : (t : ℕ) → number_of (current_in currents t) ≤ MOST_EDITIONS
   pub count_is : count ≡ total currents
   pub below : AreBelow count P
-  -- each edition that is kept is still due to a reader
+  -- each edition that is kept is still due to a reader, and a reader that is kept stands or may yet stand
   pub wanted_are : Each (λ (p : Publication). is_wanted C R p ≡ true) P
+  pub readers_may : (s k m : ℕ) → heard_in R s k ≡ Some m → may_stand J s k ≡ true
   pub drained_is : (s k : ℕ) → may_stand J s k ≡ true → is_some (heard_in R s k) ≡ drained J s k
   pub heard_are : (s k m : ℕ) → heard_in R s k ≡ Some m → m ≤ count
   pub news_is : (s k m : ℕ) → may_stand J s k ≡ true → heard_in R s k ≡ Some m → news_in C s m P ≡ news C J s k

@@ -10,7 +10,8 @@ ghost use Rattle.monitor_model.specs.Standing.{pubd_grant, live_at_pubd};
 ghost use Rattle.monitor_model.specs.Pubd.{edition, current, current_from, drain_verdict, get_verdict, get_of};
 ghost use Rattle.monitor_model.specs.Columns.{PubdLaw};
 ghost use Rattle.pubd_core.specs.Seen.{entered};
-ghost use Rattle.pubd_core.specs.Readers.{may_stand};
+ghost use Rattle.grant_column.specs.Granted.{service_count};
+ghost use Rattle.pubd_core.specs.Readers.{may_stand, kept_readers, wanted};
 
 use crate::kept::{
     Edition, Publication, may_read, news_since, number_of, pushed, tell_publication,
@@ -154,7 +155,13 @@ impl Pubd {
             incarnation,
         };
         self.head.install(service, incarnation, None, event)?;
-        self.forget(service);
+        forget(
+            &self.config,
+            &self.head,
+            service,
+            &mut self.readers,
+            &mut self.publications,
+        );
         Ok(())
     }
 
@@ -168,19 +175,13 @@ impl Pubd {
             incarnation,
         };
         self.head.revoke(service, incarnation, event);
-        self.forget(service);
-    }
-
-    // Forgets the incarnations of the service that can't stand any more, and the editions that are due
-    // to nobody then.
-    fn forget(&mut self, service: u16)
-        requires { service < length self.old.config.services }
-        ensures { self.new ≡ self.old }
-    {
-        let last = self.head.last(service);
-        let standing = self.head.standing(service);
-        keep_readers(&mut self.readers, service, last, standing);
-        keep_wanted(&self.config, &self.readers, &mut self.publications);
+        forget(
+            &self.config,
+            &self.head,
+            service,
+            &mut self.readers,
+            &mut self.publications,
+        );
     }
 
     /// Publishes an edition of the template of this number. Where memory is refused, all is as before.
@@ -367,6 +368,25 @@ impl Pubd {
             }),
         }
     }
+}
+
+// Forgets the incarnations of the service that can't stand any more, and the editions that are due to
+// nobody then.
+fn forget(
+    config: &Config,
+    head: &Head<PubdColumn>,
+    service: u16,
+    readers: &mut Vec<Reader>,
+    publications: &mut Vec<Publication>,
+)
+    requires { service < service_count head.now.granted }
+    ensures readers { readers.new.items ≡ kept_readers service (last_by pubd_grant head.now.past service) (standing_by pubd_grant head.now.past service) readers.old.items }
+    ensures publications { publications.new.items ≡ wanted config.now readers.new.items publications.old.items }
+{
+    let last = head.last(service);
+    let standing = head.standing(service);
+    keep_readers(readers, service, last, standing);
+    keep_wanted(config, readers, publications);
 }
 
 impl Journaled for Pubd {

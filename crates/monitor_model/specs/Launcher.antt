@@ -94,12 +94,20 @@ may_begin C J s k = (k == begun J s + 1) && (((tries J s == 0) || nat_lt (tries 
 abbrev pub may_give_up : Config → List (Entry LauncherEvent) → ℕ → ℕ → Bool
 may_give_up C J s n = (n == tries J s) && (nat_le C.retry n && fell J s)
 
+-- A Failed may stand of the greatest incarnation that was begun, while it is that.
+abbrev pub may_fail : List (Entry LauncherEvent) → ℕ → ℕ → Bool
+may_fail J s k = nat_lt 0 k && (k == begun J s)
+
+-- A Crashed may stand of an incarnation that was begun.
+abbrev pub may_crash : List (Entry LauncherEvent) → ℕ → ℕ → Bool
+may_crash J s k = nat_lt 0 k && nat_le k (begun J s)
+
 -- The entry fits those before it.
 abbrev pub may_enter : Config → List (Entry LauncherEvent) → LauncherEvent → Bool
 may_enter C J (Begun s k) = may_begin C J s k
 may_enter C J (Dead s n) = may_give_up C J s n
-may_enter C J (Failed s k) = true
-may_enter C J (Crashed s k) = true
+may_enter C J (Failed s k) = may_fail J s k
+may_enter C J (Crashed s k) = may_crash J s k
 may_enter C J (Asked s) = true
 
 -- The launcher's law: each entry fits the entries before it.

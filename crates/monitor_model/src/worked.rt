@@ -133,13 +133,16 @@ pub fn launches()
 {}
 
 /// An incarnation counts once as tried, by a Failed or by a Crashed while it is the greatest begun; at the
-/// limit no more is begun, until it is asked for, and only then is the service given up.
+/// limit no more is begun, until it is asked for, and only then is the service given up. What was not begun
+/// has neither.
 pub fn tries_and_giving_up()
     ensures tried { map (λ n. tries (tried_so_far n) 0) (0 ∷ 1 ∷ 3 ∷ 5 ∷ 6 ∷ 8 ∷ 9 ∷ 10 ∷ []) ≡ 0 ∷ 0 ∷ 1 ∷ 1 ∷ 2 ∷ 3 ∷ 3 ∷ 0 ∷ [] }
     ensures first { map (λ k. may_enter A (tried_so_far 0) (launcher.Begun 0 k)) (1 ∷ 2 ∷ []) ≡ true ∷ false ∷ [] }
     ensures third { may_enter A (tried_so_far 6) (launcher.Begun 0 3) ≡ true }
     ensures at_the_limit { map (λ n. may_enter A (tried_so_far n) (launcher.Begun 0 4)) (8 ∷ 9 ∷ 10 ∷ []) ≡ false ∷ false ∷ true ∷ [] }
     ensures below_the_limit { may_enter A (tried_so_far 6) (launcher.Dead 0 2) ≡ false }
+    ensures failed { map (λ k. may_enter A (tried_so_far 1) (launcher.Failed 0 k)) (0 ∷ 1 ∷ 2 ∷ []) ≡ false ∷ true ∷ false ∷ [] }
+    ensures crashed { map (λ k. may_enter A (tried_so_far 1) (launcher.Crashed 0 k)) (0 ∷ 1 ∷ 2 ∷ []) ≡ false ∷ true ∷ false ∷ [] }
     ensures given_up { map (λ n. may_enter A (tried_so_far 8) (launcher.Dead 0 n)) (3 ∷ 4 ∷ []) ≡ true ∷ false ∷ [] }
 {}
 

@@ -37,10 +37,10 @@ appends_none : (a b : Option (List ℕ)) → b ≡ a → Appends a b []
 appends_none a b e = subst (λ (o : Option (List ℕ)). Appends a o []) (sym e) (Appends-nil a)
 
 pub stood : (old new : Wire) → GainsRoom old new → Moves old new [] []
-stood old new s = record { whose = s.whose; came = s.came; takes = consumes_none old.left new.left s.left; puts = appends_none old.given new.given s.given; untold = λ none. s.given ∙ none; faults = omega (arith, s.faults); steady = s.steady; ended = s.ended }
+stood old new s = record { whose = s.whose; came = s.came; takes = consumes_none old.left new.left s.left; puts = appends_none old.given new.given s.given; untold = λ none. s.given ∙ none; faults = s.faults; steady = s.steady; ended = s.ended }
 
 pub unmoved : (w : Wire) → Moves w w [] []
-unmoved w = record { whose = refl; came = refl; takes = Consumes-nil w.left; puts = Appends-nil w.given; untold = λ none. none; faults = omega arith; steady = refl; ended = refl }
+unmoved w = record { whose = refl; came = refl; takes = Consumes-nil w.left; puts = Appends-nil w.given; untold = λ none. none; faults = refl; steady = refl; ended = refl }
 
 pub moves_then : (a b c : Wire) (t u p q : List ℕ) → Moves a b t p → Moves b c u q → Moves a c (t ++ u) (p ++ q)
 moves_then a b c t u p q x y = record {
@@ -49,7 +49,7 @@ moves_then a b c t u p q x y = record {
   takes = Consumes-trans a.left b.left c.left t u x.takes y.takes;
   puts = Appends-trans a.given b.given c.given p q x.puts y.puts;
   untold = λ none. y.untold (x.untold none);
-  faults = omega (arith, x.faults, y.faults);
+  faults = y.faults ∙ x.faults;
   steady = y.steady ∙ x.steady;
   ended = y.ended ∙ x.ended;
 }
@@ -67,7 +67,7 @@ breaks_after a b c t u p q due x y = record {
   cut = y.cut;
   puts = subst (λ (bytes : List ℕ). Appends a.given c.given bytes) (sym (append_assoc p q y.front)) (Appends-trans a.given b.given c.given p (q ++ y.front) x.puts y.puts);
   untold = λ none. y.untold (x.untold none);
-  faults = rose_later a.faults b.faults c.faults x.faults y.faults;
+  faults = rose_later a.faults b.faults c.faults (omega (arith, x.faults)) y.faults;
   steady = y.steady ∙ x.steady;
   unsteady = sym x.steady ∙ y.unsteady;
   ended = y.ended ∙ x.ended;
@@ -92,7 +92,7 @@ pub puts_frame : (old new : Wire) (text : List ℕ) (result : Result (Unit {0}) 
     → (old.steady ≡ true → length text ≤ old.room)
     → PutsFrame old text result new
 puts_frame old new text (Ok done) bytes link room =
-    record { whose = link.whose; came = link.came; takes = consumes_none old.left new.left link.left; puts = bytes; untold = link.untold; faults = link.faults.later; steady = link.steady; ended = link.ended }
+    record { whose = link.whose; came = link.came; takes = consumes_none old.left new.left link.left; puts = bytes; untold = link.untold; faults = link.still refl; steady = link.steady; ended = link.ended }
 puts_frame old new text (Err fault) bytes link room =
     record {
       whose = link.whose;
@@ -127,14 +127,14 @@ broke_taking old mid new taken fault made takes link failed = breaks_after old m
 })
 
 -- room was made first, and then bytes were taken
-pub took : (old mid new : Wire) (taken : List ℕ) (fault : Type 0) → GainsRoom old mid → Consumes mid.left new.left taken → Receives mid new fault → Moves old new taken []
-took old mid new taken fault made takes link = moves_then old mid new [] taken [] [] (stood old mid made) (record {
+pub took : (old mid new : Wire) (taken : List ℕ) (fault : Type 0) → GainsRoom old mid → Consumes mid.left new.left taken → Receives mid new fault → (fault → ⊥) → Moves old new taken []
+took old mid new taken fault made takes link never = moves_then old mid new [] taken [] [] (stood old mid made) (record {
   whose = link.whose;
   came = link.came;
   takes = takes;
   puts = appends_none mid.given new.given link.given;
   untold = λ none. link.given ∙ none;
-  faults = link.faults.later;
+  faults = link.still never;
   steady = link.steady;
   ended = link.ended;
 })

@@ -63,14 +63,14 @@ abbrev pub with_open : Option Open → List CellEvent → List CellEvent
 with_open None J = J
 with_open (Some o) J = cell.Speaking o.worker o.items ∷ J
 
--- The same link, from which some bytes were taken and on which some were put; no fault is forgotten.
+-- The same link, from which some bytes were taken and on which some were put; no call of it failed.
 pub record Moves (old new : Wire) (taken put : List ℕ) : Type 0 where
   pub whose : new.whose ≡ old.whose
   pub came : new.came ≡ old.came
   pub takes : Consumes old.left new.left taken
   pub puts : Appends old.given new.given put
   pub untold : old.given ≡ None → new.given ≡ None
-  pub faults : old.faults ≤ new.faults
+  pub faults : new.faults ≡ old.faults
   pub steady : new.steady ≡ old.steady
   pub ended : new.ended ≡ old.ended
 

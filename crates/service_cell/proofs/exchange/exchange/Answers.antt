@@ -10,7 +10,7 @@ exchange_frame-requires-clause-spelling g c = let spells = c.in-Frame.ensures.ne
 pub returns-in-Frame-clause-exchanged : goal.returns-in-Frame-clause-exchanged
 returns-in-Frame-clause-exchanged g c =
     let n = c.in-Frame.ensures in
-    let before = took (g.L.Link.wire c.args.link.now) (g.L.Link.wire c.make_room.new.self) (g.L.Link.wire c.next.new.link) n.next.0 _ c.make_room.ensures.link n.next.2 n.link in
+    let before = took (g.L.Link.wire c.args.link.now) (g.L.Link.wire c.make_room.new.self) (g.L.Link.wire c.next.new.link) n.next.0 _ c.make_room.ensures.link n.next.2 n.link (λ e. cc) in
     exchanged (g.C.Columns.asker c.args.columns.now).config (record { worker = (g.C.Columns.asker c.args.columns.now).worker; service = c.args.who.service; incarnation = c.args.who.incarnation })
     (g.L.Link.wire c.args.link.now) (g.L.Link.wire c.next.new.link) (g.L.Link.wire c.exchange_frame.new.link) c.args.items.now.past c.in-Frame.said n.next.0 (g.C.Columns.seen c.args.columns.now) c.exchange_frame.result c.exchange_frame.new.items.past (g.C.Columns.seen c.exchange_frame.new.columns) n.next.1 before (rw c.begin_step.ensures.past at c.exchange_frame.ensures.exchanged)
 

@@ -1,5 +1,5 @@
 -- What a call leaves of a cell at which no dialog is open.
-use Rattle.std.proofs.Common.{◌≡◌, ◌≢◌, inl, inr, ℕ, ◌<◌, ◌≤◌, Bool, true, false, List, [], ◌∷◌, Option, Some, None, refl, ap, sym, ◌∙◌, subst, arith}
+use Rattle.std.proofs.Common.{◌≡◌, ◌≢◌, inl, inr, ℕ, ◌<◌, ◌≤◌, Bool, true, false, List, [], ◌∷◌, Option, Some, None, refl, ap, sym, ◌∙◌, subst, arith, eq-eqb}
 use Rattle.std.specs.Prelude.{IfSome, if◌then◌else◌, ◌==◌, is_some, max, option_map}
 use Rattle.std.proofs.lemmas.Bool.{false≢true}
 use Rattle.okws_outer.specs.Streams.{Rose}
@@ -22,7 +22,7 @@ use Rattle.monitor_model.specs.Sent.{AreSent, broken_in, is_link_fault, or_else}
 use Rattle.monitor_model.specs.declared.sent.Sent.{Sent}
 use Rattle.monitor_model.specs.Seen.{Seen, noted}
 use Rattle.service_cell.specs.Asking.{Asker}
-use Rattle.site_cells.specs.Held.{by_event, events_in, is_booted, newest, with_boot, with_dialog, is_broken, HasCounted, IsLinkOf, IsShut, LeadsTo}
+use Rattle.site_cells.specs.Held.{by_event, events_in, is_booted, newest, with_boot, with_dialog, is_broken, CountsFaults, HasCounted, IsLinkOf, IsShut, LeadsTo}
 use Rattle.service_cell.specs.Dialogs.{Dialogs, GoesOver, HasDialog}
 use Rattle.service_cell.specs.Standing.{Standing, all_sent, finished, speaker, Passes, Fails}
 use Rattle.service_cell.specs.Steps.{Boots, crash_end, retired}
@@ -30,7 +30,7 @@ use Rattle.service_cell.specs.declared.answer.Booting.{Booting}
 use Rattle.service_cell.specs.declared.answer.Booting.TheVariants as booting
 use Rattle.service_cell.specs.declared.answer.Spoken.{Spoken}
 use Rattle.service_cell.specs.declared.answer.Spoken.TheVariants as spoken
-use Rattle.service_cell.proofs.Sending.{unbroken}
+use Rattle.service_cell.proofs.Sending.{is_last, unbroken}
 use Rattle.site_cells.specs.Taken.{IsTaken}
 use Rattle.site_cells.proofs.Taken.{bad_stop, boot_taken, goes_taken, missed_taken}
 
@@ -119,27 +119,28 @@ unbroken_by J w items how other =
     ap (λ (b : Bool). is_some (if incarnation J == last_booted J then or_else (if b then Some items else None) (broken_in (last_booted J) J) else broken_in (last_booted J) J)) other
     ∙ ap is_some (same_either (incarnation J == last_booted J) (broken_in (last_booted J) J))
 
-no_fewer : (a b : ℕ) → a ≤ b → 0 < a → 0 < b
-no_fewer a b more some = omega (arith, more, some)
-
 some_rose : (a b : ℕ) → Rose a b → 0 < b
 some_rose a b rose = omega (arith, rose)
 
 counted_as : (J K : List CellEvent) (link : Option Wire) → is_broken K ≡ is_broken J → HasCounted J link → HasCounted K link
 counted_as J K None same counted = tt
-counted_as J K (Some wire) same counted = λ broken. counted (sym same ∙ broken)
+counted_as J K (Some wire) same counted = subst (λ (b : Bool). CountsFaults b wire.faults) (sym same) counted
 
 passes_counts : (J K : List CellEvent) (old new : Option Wire) (taken put : List ℕ) → is_broken K ≡ is_broken J → Passes old new taken put → HasCounted J old → HasCounted K new
 passes_counts J K None new taken put same h counted = absurd h
 passes_counts J K (Some wire) None taken put same h counted = absurd h
-passes_counts J K (Some wire) (Some now) taken put same h counted = λ broken. no_fewer wire.faults now.faults h.faults (counted (sym same ∙ broken))
+passes_counts J K (Some wire) (Some now) taken put same h counted = subst (λ (n : ℕ). CountsFaults (is_broken K) n) (sym h.faults) (subst (λ (b : Bool). CountsFaults b wire.faults) (sym same) counted)
 
-fails_counts : (K : List CellEvent) (old new : Option Wire) (taken put due : List ℕ) → Fails old new taken put due → HasCounted K new
-fails_counts K None new taken put due h = absurd h
-fails_counts K (Some wire) None taken put due h = absurd h
-fails_counts K (Some wire) (Some now) taken put due h = λ broken. some_rose wire.faults now.faults h.faults
+fails_counts : (K : List CellEvent) (old new : Option Wire) (taken put due : List ℕ) → is_broken K ≡ true → Fails old new taken put due → HasCounted K new
+fails_counts K None new taken put due broken h = absurd h
+fails_counts K (Some wire) None taken put due broken h = absurd h
+fails_counts K (Some wire) (Some now) taken put due broken h = subst (λ (b : Bool). CountsFaults b now.faults) (sym broken) (some_rose wire.faults now.faults h.faults)
 
-module _ (J : List CellEvent) (w : ℕ) (old new : Option Wire) (since left due : List ℕ) (items : List Item) where
+-- a dialog that a fault of its link ended breaks its incarnation
+broken_by : (J : List CellEvent) (w : ℕ) (items : List Item) → incarnation J ≡ last_booted J → is_broken (cell.Dialog (record { worker = w; items = items; end = end.LinkFault }) ∷ J) ≡ true
+broken_by J w items there = ap (λ (b : Bool). is_some (if b then or_else (Some items) (broken_in (last_booted J) J) else broken_in (last_booted J) J)) (eq-eqb (incarnation J) (last_booted J) there)
+
+module _ (J : List CellEvent) (w : ℕ) (old new : Option Wire) (since left due : List ℕ) (items : List Item) (there : incarnation J ≡ last_booted J) where
   -- the events with the dialog
   abbrev ended_so : End → List CellEvent
   ended_so how = cell.Dialog (record { worker = w; items = items; end = how }) ∷ J
@@ -154,14 +155,15 @@ module _ (J : List CellEvent) (w : ℕ) (old new : Option Wire) (since left due 
   goes_counts (end.Superseded shown) (inr h) counted = passes_so (end.Superseded shown) _ _ refl h counted
   goes_counts end.BadFrame h counted = passes_so end.BadFrame _ _ refl h.0 counted
   goes_counts end.Ended h counted = passes_so end.Ended _ _ refl h.0 counted
-  goes_counts end.LinkFault h counted = fails_counts (ended_so end.LinkFault) old new _ _ due h.1
+  goes_counts end.LinkFault h counted = fails_counts (ended_so end.LinkFault) old new _ _ due (broken_by J w items there) h.1
   goes_counts end.FrameLimit h counted = passes_so end.FrameLimit _ _ refl h counted
   goes_counts end.Starved h counted = passes_so end.Starved _ _ refl h.1 counted
 
 -- a link was put on a cell by a Boot
-boot_counts : (k : ℕ) (J : List CellEvent) (link : Option Wire) → last_booted J < k → HasCounted (cell.Boot k ∷ J) link
-boot_counts k J None later = tt
-boot_counts k J (Some wire) later = λ broken. absurd (false≢true (sym (ap is_some (unbroken (max k (last_booted J)) J (omega (arith, later)))) ∙ broken))
+boot_counts : (k : ℕ) (J : List CellEvent) (old : Wire) (new : Option Wire) (put : List ℕ) → last_booted J < k → old.faults ≡ 0 → Passes (Some old) new [] put → HasCounted (cell.Boot k ∷ J) new
+boot_counts k J old None put later fresh h = absurd h
+boot_counts k J old (Some wire) put later fresh h =
+    subst (λ (b : Bool). CountsFaults b wire.faults) (sym (ap is_some (unbroken (max k (last_booted J)) J (omega (arith, later))))) (h.faults ∙ fresh)
 
 most_of : (k n : ℕ) → n < k → max k n ≡ k
 most_of k n less = omega (arith, less)
@@ -234,7 +236,7 @@ keeps_dialog n who shows head content wanted E c J answer d now law some h = by 
     talked items how is x =
         keeps_finished n who.worker E c d items how d.link (goes_link c.link d.link x.since x.left x.due items how x.link)
         (goes_leads c.service c.past (cell.Dialog (record { worker = who.worker; items = items; end = how }) ∷ c.past) c.link d.link x.since x.left x.due items how refl x.link)
-        (goes_counts c.past who.worker c.link d.link x.since x.left x.due items how x.link)
+        (goes_counts c.past who.worker c.link d.link x.since x.left x.due items (is_last c.past law (wanted_there wanted (incarnation c.past) some is)) how x.link)
         (goes_taken c.past who.worker items law (wanted_there wanted (incarnation c.past) some is) how c.link d.link x.since x.left x.due x.link
         (bad_stop who.config (speaker c who.worker) x.since x.left x.due head content (noted J (own.Dialog c.service)) now items how x.follows)) x.entered
 
@@ -255,7 +257,7 @@ keeps_boot n wire link frame k E c booting.Booted d later new_link h = record {
   past_is = λ past. ap (λ (s : Standing). s.past) h.0 ∙ ap (λ J. cell.Boot k ∷ J) past;
   link_is = λ linked. passes_link (Some (wire link)) d.link _ _ h.1;
   whose = λ leads. subst (λ (x : ℕ × List CellEvent). LeadsTo x.0 x.1 d.link) (sym (ap (λ (s : Standing). (s.service, s.past)) h.0)) (boot_leads c.service k c.past (wire link) d.link (server_spelling frame) later new_link.whose h.1);
-  counted = λ counted. subst (λ (J : List CellEvent). HasCounted J d.link) (sym (ap (λ (s : Standing). s.past) h.0)) (boot_counts k c.past d.link later);
+  counted = λ counted. subst (λ (J : List CellEvent). HasCounted J d.link) (sym (ap (λ (s : Standing). s.past) h.0)) (boot_counts k c.past (wire link) d.link (server_spelling frame) later new_link.faults h.1);
   taken = λ taken. subst (λ (J : List CellEvent). IsTaken J d.link) (sym (ap (λ (s : Standing). s.past) h.0)) (boot_taken k c.past (wire link) d.link (server_spelling frame) later new_link.came h.1);
   adds = (cell.Boot k ∷ [], (refl, tt), refl);
 }

@@ -75,20 +75,25 @@ pub record Held : Type 0 where
 abbrev pub is_broken : List CellEvent → Bool
 is_broken J = is_some (broken_in (last_booted J) J)
 
--- The link of a cell with these events counted a fault, where one ended a dialog of its incarnation.
+-- So many faults were counted: some exactly where this says so.
+abbrev pub CountsFaults : Bool → ℕ → Type 0
+CountsFaults true faults = 0 < faults
+CountsFaults false faults = faults ≡ 0
+
+-- The link of a cell with these events counted a fault exactly where one ended a dialog of its incarnation.
 abbrev pub HasCounted : List CellEvent → Option Wire → Type 0
-HasCounted J link = IfSome link (λ wire. IsTrue (is_broken J) → 0 < wire.faults)
+HasCounted J link = IfSome link (λ wire. CountsFaults (is_broken J) wire.faults)
 
 -- The link leads to the child of the last incarnation of s that was booted.
 abbrev pub LeadsTo : ℕ → List CellEvent → Option Wire → Type 0
 LeadsTo s J link = IfSome link (λ wire. wire.whose ≡ Some (child_named s (last_booted J)))
 
--- The link of the last incarnation of s that was booted leads to its child, was given what that heard, what that said was taken from it, and it counted a fault, where one ended a dialog of it.
+-- The link of the last incarnation of s that was booted leads to its child, was given what that heard, what that said was taken from it, and it counted a fault exactly where one ended a dialog of it.
 pub record IsLinkOf (C : Config) (seed : List ℕ) (s : ℕ) (J : List CellEvent) (wire : Wire) : Type 0 where
   pub whose : wire.whose ≡ Some (child_named s (last_booted J))
   pub given : IsGiven (heard C seed s (last_booted J) J) (broken_in (last_booted J) J) wire.given
   pub taken : HasTaken (last_booted J) J wire.came wire.left
-  pub faults : IsTrue (is_broken J) → 0 < wire.faults
+  pub faults : CountsFaults (is_broken J) wire.faults
 
 -- A cell of a site and a run's seed, at which no dialog is open. Its past is what was entered, it has its link where it was booted last: that leads to the child of the incarnation, what was said was taken from it, and it has counted its fault.
 pub record IsShut (C : Config) (seed : List ℕ) (entered : List CellEvent) (c : Standing) : Type 0 where

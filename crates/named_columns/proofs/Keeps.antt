@@ -96,10 +96,10 @@ pubd_got C n a x s k name h = record { config_is = h.config_is; rules = h.rules;
 
 -- oklogd
 pub log_installed : (C : Config) (n first : ℕ) (a : Log) (x s k : ℕ) → IsLog C n first a x → a.holder ≡ n → IsLog C n first (log_entered a (log_event.Install s k)) x
-log_installed C n first a x s k h w = record { config_is = h.config_is; launched = (w, h.launched); written_are = h.written_are ∙ counts_same (logged C a.past); later = h.later; stopped_is = h.stopped_is }
+log_installed C n first a x s k h w = record { config_is = h.config_is; launched = (w, h.launched); written_are = h.written_are ∙ counts_same (logged C a.past); later = h.later; stopped_is = h.stopped_is; still = h.still }
 
 pub log_revoked : (C : Config) (n first : ℕ) (a : Log) (x s k : ℕ) → IsLog C n first a x → a.holder ≡ n → IsLog C n first (log_entered a (log_event.Revoke s k)) x
-log_revoked C n first a x s k h w = record { config_is = h.config_is; launched = (w, h.launched); written_are = h.written_are ∙ counts_same (logged C a.past); later = h.later; stopped_is = h.stopped_is }
+log_revoked C n first a x s k h w = record { config_is = h.config_is; launched = (w, h.launched); written_are = h.written_are ∙ counts_same (logged C a.past); later = h.later; stopped_is = h.stopped_is; still = h.still }
 
 -- the columns at which nothing happened yet
 pub okd_first : (C : Config) (n : ℕ) (a : Okd) → a.config ≡ C → KeepsRules C → a.past ≡ [] → IsOkd C n a 0 0
@@ -129,11 +129,12 @@ proxy_first C seed n tells steady first a config rules seeded declared fresh tol
 pub pubd_first : (C : Config) (n : ℕ) (a : Pubd) → a.config ≡ C → KeepsRules C → a.past ≡ [] → IsPubd C n a 0
 pubd_first C n a config rules fresh = record { config_is = config; rules = rules; launched = rw fresh tt; short = ap are_short fresh; published_are = sym (ap (λ J. capped (publications J)) fresh) }
 
-pub log_first : (C : Config) (n first : ℕ) (a : Log) → a.config ≡ C → a.past ≡ [] → a.stopped ≡ false → first ≤ a.faults → IsLog C n first a 0
-log_first C n first a config fresh running later = record {
+pub log_first : (C : Config) (n first : ℕ) (a : Log) → a.config ≡ C → a.past ≡ [] → a.stopped ≡ false → first ≡ a.faults → IsLog C n first a 0
+log_first C n first a config fresh running same = record {
   config_is = config;
   launched = rw fresh tt;
   written_are = sym (ap (λ J. capped (logged C J)) fresh);
-  later = later;
+  later = omega (arith, same);
   stopped_is = λ is. absurd (let no : true ≡ false = sym is ∙ running in cc);
+  still = λ _. sym same;
 }

@@ -1,5 +1,5 @@
 -- What each column of a run keeps behind its lock: the run's site, who launched, and the counts of its entries. Number n launches.
-use Rattle.std.specs.Prelude.{◌≡◌, ◌<◌, ◌≤◌, ℕ, Bool, true, List, length, is_some}
+use Rattle.std.specs.Prelude.{◌≡◌, ◌<◌, ◌≤◌, ℕ, Bool, true, false, List, length, is_some}
 use Rattle.okws_plan.specs.declared.configuration.Config.{Config}
 use Rattle.okws_outer.specs.Streams.{Rose, counted}
 use Rattle.monitor_model.specs.Columns.{faults}
@@ -41,10 +41,11 @@ pub record IsPubd (C : Config) (n : ℕ) (pubd : Pubd) (published : ℕ) : Type 
   pub short : are_short pubd.past ≡ true
   pub published_are : published ≡ capped (publications pubd.past)
 
--- A log that has stopped did so since the sink's count stood at `first`.
+-- A log has stopped exactly where the sink's count rose since it stood at `first`.
 pub record IsLog (C : Config) (n first : ℕ) (log : Log) (written : ℕ) : Type 0 where
   pub config_is : log.config ≡ C
   pub launched : LaunchedBy log_grant n log.past
   pub written_are : written ≡ capped (logged C log.past)
   pub later : first ≤ log.faults
   pub stopped_is : log.stopped ≡ true → Rose first log.faults
+  pub still : log.stopped ≡ false → log.faults ≡ first

@@ -63,7 +63,7 @@ impl<N: Backed, S: Sink> SiteLog<N, S> {
     pub fn new(daemon: LogDaemon<S>) -> Self
         requires site { daemon.config ≡ N.site }
         requires fresh { (daemon.past ≡ []) × (daemon.stopped ≡ false) }
-        requires faults { N.sink_faults ≤ daemon.faults }
+        requires faults { N.sink_faults ≡ daemon.faults }
         ensures { result ≡ record { past = []; keeps = daemon.keeps; given = daemon.given; faults = daemon.faults; stopped = false; holder = daemon.holder } }
     {
         SiteLog {
@@ -153,6 +153,7 @@ impl<N: Backed, S: Sink> SiteLog<N, S> {
         ensures given { (more : List ℕ) × Appends self.old.given self.new.given more }
         ensures untold { self.old.given ≡ None → self.new.given ≡ None }
         ensures fault { result ≡ WriteOut.LogFault → (self.old.stopped ≡ false) × Rose self.old.faults self.new.faults }
+        ensures still { result ≡ WriteOut.Written → self.new.faults ≡ self.old.faults }
         ensures before { result ≡ WriteOut.Stopped → (self.old.stopped ≡ true) × (self.new ≡ self.old) }
         ensures stopped { self.new.stopped ≡ is_stopped result }
         ensures sticks { self.old.stopped ≡ true → result ≡ WriteOut.Stopped }
@@ -165,7 +166,7 @@ impl<N: Backed, S: Sink> SiteLog<N, S> {
 
     /// What was entered, where each entry fits the entries before it and what was launched names the
     /// launcher's number, and the sink. What is still due isn't written any more. Where the log had
-    /// stopped, the sink's count rose in the run.
+    /// stopped, the sink's count rose in the run, and else it is as it was.
     pub fn close(self) -> (Past<Entry<LogEvent>>, S)
         ensures past { result.0 ≡ self.past }
         ensures law { LogLaw result.0 }
@@ -174,6 +175,7 @@ impl<N: Backed, S: Sink> SiteLog<N, S> {
         ensures faults { S.faults result.1 ≡ self.faults }
         ensures stopped { self.stopped ≡ true → Rose N.sink_faults self.faults }
         ensures later { N.sink_faults ≤ self.faults }
+        ensures still { self.stopped ≡ false → self.faults ≡ N.sink_faults }
     {
         let SiteLog {
             daemon,

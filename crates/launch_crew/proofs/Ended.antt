@@ -169,10 +169,11 @@ stays_on a b c h i s k told = i s k (h s k told)
 
 -- ---- a child was asked
 
-yes_stays : (answer : Ended) (ended : Bool) → ended ≡ true → ended_after answer ended ≡ true
-yes_stays Yes ended h = refl
-yes_stays No ended h = h
-yes_stays Failed ended h = h
+yes_stays : (stopped : Bool) (answer : Ended) (ended : Bool) → ended ≡ true → ended_after stopped answer ended ≡ true
+yes_stays true Yes ended h = h
+yes_stays false Yes ended h = refl
+yes_stays stopped No ended h = h
+yes_stays stopped Failed ended h = h
 
 pub stays_asked : (s : ℕ) (r : Recorded) (a : StaffIs) (answer : Ended) (b : StaffIs) → AsksLife s a answer b → StaysEnded (crew_of r a) (crew_of r b)
 stays_asked s r a answer b asks t k =
@@ -185,7 +186,7 @@ stays_asked s r a answer b asks t k =
     let h = and_parts (before.incarnation == k) before.ended (sym (ap (λ (x : Option Life). life_ended x k) (ap (running_at a.running) is ∙ asks.was)) ∙ lives) in
     or_left (life_ended (running_at b.running t) k) (family_ended b.family t k)
     (ap (λ (x : Option Life). life_ended x k) (ap (running_at b.running) is ∙ (ap (λ lives. running_at lives s) running ∙ some_here a.running s before asks.after asks.was))
-    ∙ (ap (λ (x : Life). (x.incarnation == k) && x.ended) asks.asks.life ∙ and_from (before.incarnation == k) (ended_after answer before.ended) h.0 (yes_stays answer before.ended h.1))))
+    ∙ (ap (λ (x : Life). (x.incarnation == k) && x.ended) asks.asks.life ∙ and_from (before.incarnation == k) (ended_after before.stopped answer before.ended) h.0 (yes_stays before.stopped answer before.ended h.1))))
     (λ apart. still_runs (crew_of r a) (crew_of r b) t k (ap (λ lives. running_at lives t) running ∙ here_else a.running s t (Some asks.after) apart) lives))
 
 -- ---- no child runs any more

@@ -12,7 +12,7 @@ use Rattle.okws_outer.specs.Wire.{Wire}
 use Rattle.okws_outer.specs.declared.children.ChildEnd.{ChildEnd}
 use Rattle.monitor_model.specs.Cell.{heard, incarnation, last_booted}
 use Rattle.monitor_model.specs.Sent.{IsGiven, broken_in}
-use Rattle.site_cells.specs.Held.{IsLinkOf, is_broken}
+use Rattle.site_cells.specs.Held.{CountsFaults, IsLinkOf, is_broken}
 use Rattle.site_cells.specs.Row.{CellsSeen, link_at, seen_at}
 use Rattle.launch_crew.specs.Crews.{CrewIs, child_of, running_at}
 use Rattle.launch_crew.specs.Ended.{Attended, Attends}
@@ -32,10 +32,10 @@ none_less n = omega arith
 same_most : (n : ℕ) → n ≤ n
 same_most n = omega arith
 
-fault_shown : (linked broken : Bool) (faults : ℕ) → (broken ≡ true → 0 < faults) → one_if (linked && broken) ≤ one_if (nat_lt 0 faults)
+fault_shown : (linked broken : Bool) (faults : ℕ) → CountsFaults broken faults → one_if (linked && broken) ≤ one_if (nat_lt 0 faults)
 fault_shown false broken faults told = none_less (one_if (nat_lt 0 faults))
 fault_shown true false faults told = none_less (one_if (nat_lt 0 faults))
-fault_shown true true faults told = subst (λ (b : Bool). 1 ≤ one_if b) (sym (lt-ltb 0 faults (told refl))) (same_most 1)
+fault_shown true true faults told = subst (λ (b : Bool). 1 ≤ one_if b) (sym (lt-ltb 0 faults told)) (same_most 1)
 
 wider : (a b c d : ℕ) → a ≤ b + c → c ≤ d → a ≤ b + d
 wider a b c d less more = omega (arith, less, more)

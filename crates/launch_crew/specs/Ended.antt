@@ -17,7 +17,7 @@ Attends s (Some life) link last = (life.service ≡ s) × (link ≡ true) × (li
 abbrev pub Attended : CrewIs → Type 0
 Attended c = (s : ℕ) → Attends s (child_of c s) (link_at c.watch s) (last_booted (seen_at c.watch s))
 
--- A child was finished that was incarnation k of s, and Yes was among its answers when it was asked whether it has ended.
+-- A child was finished that was incarnation k of s, and Yes was among its answers when it was asked whether it has ended, before it was stopped.
 abbrev pub ended_at : ℕ → ℕ → ChildEnd → Bool
 ended_at s k e = (e.service == s) && ((e.incarnation == k) && e.ended)
 

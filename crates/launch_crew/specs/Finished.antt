@@ -13,7 +13,7 @@ use Rattle.monitor_model.specs.declared.record.CellEvent.{CellEvent}
 use Rattle.monitor_model.specs.declared.record.CellEvent.TheVariants as cell
 use Rattle.monitor_model.specs.Cell.{boot_frame, heard, incarnation, last_booted}
 use Rattle.monitor_model.specs.Sent.{IsGiven, broken_in, is_link_fault}
-use Rattle.site_cells.specs.Held.{is_broken}
+use Rattle.site_cells.specs.Held.{CountsFaults, is_broken}
 use Rattle.site_cells.specs.Taken.{HasTaken}
 use Rattle.site_cells.specs.Row.{CellsSeen, link_at, seen_at}
 use Rattle.launch_crew.specs.Crews.{CrewIs, child_of}
@@ -59,7 +59,7 @@ one_if b = if b then 1 else 0
 abbrev pub has_fault : ChildEnd → Bool
 has_fault e = nat_lt 0 e.faults
 
--- The child was the last incarnation that was booted at the cell of its service when that was left empty, behind these events. Its link is the one that led to it: that was given what the incarnation heard, from it was taken what that said, and a call of it had failed where a fault ended a dialog of the incarnation.
+-- The child was the last incarnation that was booted at the cell of its service when that was left empty, behind these events. Its link is the one that led to it: that was given what the incarnation heard, from it was taken what that said, and a call of it had failed exactly where a fault ended a dialog of the incarnation.
 pub record EndsAt (C : Config) (seed : List ℕ) (watch : CellsSeen) (e : ChildEnd) : Type 0 where
   pub events : List CellEvent
   pub behind : Behind events (seen_at watch e.service)
@@ -68,7 +68,7 @@ pub record EndsAt (C : Config) (seed : List ℕ) (watch : CellsSeen) (e : ChildE
   pub whose : e.whose ≡ Some (child_named e.service e.incarnation)
   pub given : IsGiven (heard C seed e.service (last_booted events) events) (broken_in (last_booted events) events) e.given
   pub taken : HasTaken (last_booted events) events e.came e.left
-  pub faults : IsTrue (is_broken events) → 0 < e.faults
+  pub faults : CountsFaults (is_broken events) e.faults
 
 -- The child that stood so was finished so, and no other call was made. At most its fault is one more of a link that is out.
 pub record EndsAs (C : Config) (seed : List ℕ) (before watch : CellsSeen) (life : Life) (f g : Family) : Type 0 where

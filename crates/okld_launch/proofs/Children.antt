@@ -1,6 +1,6 @@
 -- What each step leaves of what is known of the children.
-use Rattle.std.proofs.Common.{◌≡◌, ◌∙◌, ℕ, true, Option, Some, None, sym, ap, subst, eq-eqb}
-use Rattle.std.specs.Prelude.{◌==◌}
+use Rattle.std.proofs.Common.{◌≡◌, ◌∙◌, ℕ, Bool, true, Option, Some, None, sym, ap, subst, eq-eqb}
+use Rattle.std.specs.Prelude.{◌==◌, ◌||◌, not}
 use Rattle.std.proofs.lemmas.Bool.{and_from, or_left}
 use Rattle.okws_outer.specs.Lives.{Asks, Life}
 use Rattle.okws_outer.specs.declared.child.Ended.{Ended}
@@ -41,7 +41,8 @@ stays_asked s answer r a b h = record { attended = attended_asked s r a answer b
 -- a child that runs as incarnation k said that it has ended
 pub asked_yes : (s k : ℕ) (c d : CrewIs) (before after : Life) → child_of c s ≡ Some before → child_of d s ≡ Some after → Asks before after Yes → RunsAs k (child_of c s) → tells_ended d s k ≡ true
 asked_yes s k c d before after was is asks runs =
-    let named : before.incarnation ≡ k = (subst (RunsAs k) was runs).0 in
+    let runs_so : RunsAs k (Some before) = subst (RunsAs k) was runs in
     or_left (life_ended (child_of d s) k) (family_ended d.family s k)
     (subst (λ (child : Option Life). life_ended child k ≡ true) (sym is)
-    (and_from (after.incarnation == k) after.ended (eq-eqb after.incarnation k (ap (λ (life : Life). life.incarnation) asks.life ∙ named)) (ap (λ (life : Life). life.ended) asks.life)))
+    (and_from (after.incarnation == k) after.ended (eq-eqb after.incarnation k (ap (λ (life : Life). life.incarnation) asks.life ∙ runs_so.0))
+    (ap (λ (life : Life). life.ended) asks.life ∙ ap (λ (stopped : Bool). not stopped || before.ended) runs_so.1)))

@@ -23,6 +23,7 @@ use Rattle.monitor_model.specs.Cell.{CellLaw, heard, incarnation, last_booted}
 use Rattle.monitor_model.specs.First.{is_boot_of}
 use Rattle.monitor_model.specs.Merged.{cell_items, cell_past, is_at_cell}
 use Rattle.monitor_model.specs.Sent.{IsGiven, broken_in}
+use Rattle.site_cells.specs.Held.{CountsFaults}
 use Rattle.site_cells.specs.Taken.{HasTaken}
 use Rattle.site_cells.proofs.Taken.{quiet_taken}
 use Rattle.site_cells.specs.Row.{CellsSeen, seen_at}
@@ -73,7 +74,7 @@ heard_at C seed w R e law behind counted h =
       said_is = subst (λ (J : List CellEvent). HasTaken e.incarnation J e.came e.left) (sym is)
           (quiet_taken e.incarnation h.events ((behind.0 ++ h.behind.0) ++ h.events) e.came e.left stays.said_is stays.end_is
           (subst (λ (k : ℕ). HasTaken k h.events e.came e.left) (sym h.last) h.taken));
-      counted = λ some. h.faults (subst (λ (b : Option (List Item)). IsTrue (is_some b)) broken some);
+      counted = subst (λ (b : Option (List Item)). CountsFaults (is_some b) e.faults) (sym broken) h.faults;
     }
 
 -- the items of a cell that the launcher has are its Boots

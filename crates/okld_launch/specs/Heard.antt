@@ -15,6 +15,7 @@ use Rattle.monitor_model.specs.First.{is_boot_of}
 use Rattle.monitor_model.specs.Launcher.{begun}
 use Rattle.monitor_model.specs.Merged.{cell_past}
 use Rattle.monitor_model.specs.Sent.{IsGiven, broken_in}
+use Rattle.site_cells.specs.Held.{CountsFaults}
 use Rattle.site_cells.specs.Taken.{HasTaken}
 use Rattle.launch_crew.specs.Finished.{IsFront, is_end_of}
 use Rattle.okld_launch.specs.Kin.{AreAlone, IsStart, is_start_of}
@@ -25,12 +26,12 @@ pub record IsBehind (k : ℕ) (J : List CellEvent) : Type 0 where
   pub below : k ≤ last_booted J
   pub gone : incarnation J ≡ k → ⊥
 
--- The child was finished with its own link. It was given just what its incarnation heard by the record, or, where its link failed in a dialog, a front of the next frame more; and then a fault of the link was counted. Of all that came from it, where its link tells, just what its incarnation said by the record was taken, in order; and some bytes more where a dialog ended by a bad frame, by a fault of the link, or because memory was refused.
+-- The child was finished with its own link. It was given just what its incarnation heard by the record, or, where its link failed in a dialog, a front of the next frame more; exactly then a fault of the link was counted. Of all that came from it, where its link tells, just what its incarnation said by the record was taken, in order; and some bytes more where a dialog ended by a bad frame, by a fault of the link, or because memory was refused.
 pub record HasHeard (C : Config) (seed : List ℕ) (R : Record) (e : ChildEnd) : Type 0 where
   pub whose_is : e.whose ≡ Some (child_named e.service e.incarnation)
   pub given_is : IsGiven (heard C seed e.service e.incarnation (cell_past R e.service)) (broken_in e.incarnation (cell_past R e.service)) e.given
   pub said_is : HasTaken e.incarnation (cell_past R e.service) e.came e.left
-  pub counted : IsTrue (is_some (broken_in e.incarnation (cell_past R e.service))) → 0 < e.faults
+  pub counted : CountsFaults (is_some (broken_in e.incarnation (cell_past R e.service))) e.faults
 
 -- The child was finished with its own link: it was given a front of its Boot frame at most, nothing was taken that came from it, and its incarnation was not booted, by the record.
 pub record WasVain (C : Config) (seed : List ℕ) (R : Record) (e : ChildEnd) : Type 0 where

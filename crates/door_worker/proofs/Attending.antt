@@ -10,6 +10,7 @@ use Rattle.okws_outer.specs.Conns.{ConnWire}
 use Rattle.okws_outer.specs.Doors.{Entrance}
 use Rattle.http_text.specs.Reading.{IsInterim, IsMethod}
 use Rattle.http_front.specs.Kept.{method_text}
+use Rattle.http_front.specs.Pulling.{IsReadPromptly}
 use Rattle.http_front.specs.Requests.{Receives}
 use Rattle.http_front.specs.Writing.{Responds}
 use Rattle.http_front.specs.declared.kept.Kept.{Kept}
@@ -31,9 +32,11 @@ pub record Ready (begun mid : ConnWire) (kept : Kept) : Type 0 where
   pub is : IsInterim kept.bytes.items interim
   pub method : IsMethod kept.bytes.items (method_text kept.to_head)
   pub taken : Consumes begun.left mid.left kept.bytes.items
+  pub prompt : IsReadPromptly kept.bytes.items
   pub given : Appends begun.given mid.given interim
   pub count : kept.interim ≡ length interim
   pub later : begun.faults ≤ mid.faults
+  pub still : mid.faults ≡ begun.faults
 
 pub ready : (begun mid : ConnWire) (kept : Kept) (came : Incoming) → Receives begun mid kept came → (came ≡ incoming.ConnFault → ⊥) → Ready begun mid kept
 ready begun mid kept came r sound =
@@ -44,9 +47,11 @@ ready begun mid kept came r sound =
       is = r.interim.is;
       method = r.method;
       taken = r.reads.taken;
+      prompt = λ some. let p = r.reads.prompt some in (p.0, p.2);
       given = subst (λ (t : List ℕ). Appends begun.given mid.given t) all r.interim.given;
       count = whole;
       later = r.reads.later;
+      still = r.still sound;
     }
 
 -- ---- what was written
@@ -91,13 +96,14 @@ module _ (S : Type 0) (handles : S → Asked → Outcome → Replied → S → T
         method = method_text kept.to_head;
         written = was.interim ++ text;
         taken = rw (r.stays.left, r.stays.bytes) was.taken;
+        prompt = rw r.stays.bytes was.prompt;
         given = Appends-trans begun.given mid.given ended.given was.interim text was.given r.given.0;
         is = rw (r.stays.left, r.stays.bytes) is;
         handled = done;
         interim_is = rw r.stays.bytes was.is;
         method_is = rw r.stays.bytes was.method;
         written_is = written_whole kept after was.interim text b was.count r.stays.interim r.given.1;
-        told = answer ∙ ap (λ (x : Answer). Some x) (sym same);
+        told = (answer ∙ ap (λ (x : Answer). Some x) (sym same), r.given.2 ∙ was.still);
       }
 
   cut : (begun mid ended : ConnWire) (J now : S) (kept after : Kept) (reply : Replied) (course : Course) (a : Answer) (b : Option Answer) → Ready begun mid kept → IsRead kept.bytes.items mid.left course → IsHandled handles starves J course reply now → due_answer course ≡ Some a → b ≡ Some a
@@ -111,6 +117,7 @@ module _ (S : Type 0) (handles : S → Asked → Outcome → Replied → S → T
         method = method_text kept.to_head;
         written = was.interim ++ take part.taken text;
         taken = rw (r.stays.left, r.stays.bytes) was.taken;
+        prompt = rw r.stays.bytes was.prompt;
         given = Appends-trans begun.given mid.given ended.given was.interim (take part.taken text) was.given part.given;
         is = rw (r.stays.left, r.stays.bytes) is;
         handled = done;
@@ -141,6 +148,7 @@ module _ (S : Type 0) (handles : S → Asked → Outcome → Replied → S → T
         method = method_text kept.to_head;
         written = take kept.interim text;
         taken = r.reads.taken;
+        prompt = λ some. let p = r.reads.prompt some in (p.0, p.2);
         given = r.interim.given;
         is = tt;
         handled = refl;

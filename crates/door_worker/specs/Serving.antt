@@ -8,6 +8,7 @@ use Rattle.http_text.specs.Response.{own_response}
 use Rattle.http_text.specs.Reading.{IsReading, IsInterim, IsMethod}
 use Rattle.http_text.specs.Reading.{Asks, Refuses, Unsettled}
 use Rattle.http_front.specs.Kept.{method_text}
+use Rattle.http_front.specs.Pulling.{IsReadPromptly}
 use Rattle.http_front.specs.Writing.{Responds}
 use Rattle.http_front.specs.declared.kept.Kept.{Kept}
 use Rattle.http_front.specs.declared.writing.Responded.TheVariants as responded
@@ -55,13 +56,13 @@ due_answer (Refused status) = Some (answer.Own status)
 due_answer Starved = Some (answer.Own 507)
 due_answer Broken = None
 
--- What is told of a connection: what was answered, if anything; that it was cut only where its count of faults rose.
-abbrev pub IsTold : Course → Type 0 → Serving → Type 0
-IsTold course rose (Served a) = due_answer course ≡ Some a
-IsTold course rose (ConnFault a) = (due_answer course ≡ a) × rose
-IsTold course rose NoConn = ⊥
-IsTold course rose NoneCame = ⊥
-IsTold course rose NoMemory = ⊥
+-- What is told of a connection: what was answered, if anything; that it was cut exactly where its count of faults rose.
+abbrev pub IsTold : Course → ℕ → ℕ → Serving → Type 0
+IsTold course before now (Served a) = (due_answer course ≡ Some a) × (now ≡ before)
+IsTold course before now (ConnFault a) = (due_answer course ≡ a) × Rose before now
+IsTold course before now NoConn = ⊥
+IsTold course before now NoneCame = ⊥
+IsTold course before now NoMemory = ⊥
 
 -- All of it was written, unless the connection was cut.
 abbrev pub IsWhole : List ℕ → Serving → Type 0
@@ -88,20 +89,21 @@ pub record IsWritten (kept : Kept) (interim text written : List ℕ) (serving : 
   pub whole : IsWhole rest serving
   pub count : kept.response ≡ min (length front) (2 ^ 64 - 1)
 
--- What became of a connection from its beginning to its end: by its bytes that were read, what came of it; what was done behind the door, from what was done before to what was done then; and what was written on it. What was read and how much was written is kept.
+-- What became of a connection from its beginning to its end: by its bytes that were read, what came of it; what was done behind the door, from what was done before to what was done then; and what was written on it. What was read and how much was written is kept; nothing was read once the bytes were settled.
 pub record Attends {S : Type 0} (handles : S → Asked → Outcome → Replied → S → Type 0) (starves : S → S → Type 0) (begun ended : ConnWire) (J now : S) (kept : Kept) (reply : Replied) (serving : Serving) : Type 0 where
   pub course : Course
   pub interim : List ℕ
   pub method : List ℕ
   pub written : List ℕ
   pub taken : Consumes begun.left ended.left kept.bytes.items
+  pub prompt : IsReadPromptly kept.bytes.items
   pub given : Appends begun.given ended.given written
   pub is : IsRead kept.bytes.items ended.left course
   pub handled : IsHandled handles starves J course reply now
   pub interim_is : IsInterim kept.bytes.items interim
   pub method_is : IsMethod kept.bytes.items method
   pub written_is : IsWritten kept interim (due_response course reply method) written serving
-  pub told : IsTold course (Rose begun.faults ended.faults) serving
+  pub told : IsTold course begun.faults ended.faults serving
 
 -- One connection was accepted and is finished, whose faults the door's count takes in; and nothing else happened at the door.
 pub record Finishes {C : Type 0} (wire : C → ConnWire) (old new : Entrance) (begun ended : ConnWire) : Type 0 where

@@ -56,6 +56,7 @@ module _ (C : Config) (n w : ℕ) {X : Type 0} (wire : X → ConnWire) where
         → IsFinished wire (record { came = h.begun.left; left = h.ended.left; given = h.ended.given; faults = h.ended.faults }) (record { read = head.bytes.items; written = h.attends.written })
     finished_is what h = record {
       read = h.attends.taken;
+      prompt = h.attends.prompt;
       written = λ tells. told_given h.begun.given h.ended.given h.attends.written (subst (λ (x : ConnWire). IsSome x.given) (sym h.finishes.conn_is) (tells h.finishes.conn)) h.finishes.accepted.given h.attends.given;
     }
 
@@ -70,7 +71,7 @@ module _ (C : Config) (n w : ℕ) {X : Type 0} (wire : X → ConnWire) where
         serves_more wire C w e g f I M K _ (record { read = head.bytes.items; written = h.attends.written }) false it.visit_is before
         (ap (λ (x : Entrance). x.finished) h.finishes.finished)
         (finished_is (serving.Served a) h)
-        (served_whole h.attends.course (record { read = head.bytes.items; written = h.attends.written }) it.visit_is a all h.attends.told
+        (served_whole h.attends.course (record { read = head.bytes.items; written = h.attends.written }) it.visit_is a all h.attends.told.0
         (it.due h.attends.interim h.attends.method h.attends.interim_is h.attends.method_is) whole)
         it.lives
         (subst (λ (x : ℕ). counted e.faults (0 + count_by (λ (share : Share). share.is_cut) before.shares) ≤ x) (sym (ap (λ (x : Entrance). x.faults) h.finishes.finished))

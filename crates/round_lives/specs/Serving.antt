@@ -6,6 +6,7 @@ use Rattle.okws_outer.specs.Doors.{Entrance}
 use Rattle.okws_outer.specs.Streams.{counted}
 use Rattle.okws_outer.specs.declared.door.Served.{Served}
 use Rattle.okws_plan.specs.declared.configuration.Config.{Config}
+use Rattle.http_front.specs.Pulling.{IsReadPromptly}
 use Rattle.monitor_model.specs.declared.record.Connection.{Connection}
 use Rattle.monitor_model.specs.Connections.{Share, Visit, AllServed, AreVisits}
 use Rattle.monitor_model.specs.Tied.{piece_visits}
@@ -20,9 +21,10 @@ pub record LivesFor (C : Config) (w : ℕ) (visits : List Visit) (J K : Life) : 
   pub lives : LivesOn C w is_order J K
   pub had : AreVisits visits (piece_visits lives.pieces)
 
--- A connection of a door is the one that was finished there: where its client's bytes are told, those that were read are the first of them, up to those that are left; and where each connection of its kind tells what was given to it, that is what was written.
+-- A connection of a door is the one that was finished there: where its client's bytes are told, those that were read are the first of them, up to those that are left; none was read once they were settled; and where each connection of its kind tells what was given to it, that is what was written.
 pub record IsFinished {X : Type 0} (wire : X → ConnWire) (finished : Served) (c : Connection) : Type 0 where
   pub read : Consumes finished.came finished.left c.read
+  pub prompt : IsReadPromptly c.read
   pub written : ((conn : X) → IsSome (wire conn).given) → finished.given ≡ Some c.written
 
 -- The same of each, in order.

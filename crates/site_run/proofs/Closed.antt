@@ -1,5 +1,5 @@
 -- The locks of a run, as they are closed.
-use Rattle.std.proofs.Common.{◌≡◌, inl, inr, ℕ, suc, ◌+◌, ◌<◌, ◌≤◌, Bool, true, List, [], ◌∷◌, ◌++◌, length, reverse, Option, refl, sym, ap, ◌∙◌, subst, arith, append-nil}
+use Rattle.std.proofs.Common.{◌≡◌, inl, inr, ℕ, suc, ◌+◌, ◌<◌, ◌≤◌, Bool, true, false, List, [], ◌∷◌, ◌++◌, length, reverse, Option, refl, sym, ap, ◌∙◌, subst, arith, append-nil}
 use Rattle.std.specs.Prelude.{IfSome, MatchOption, Some, None}
 use Rattle.std.proofs.lemmas.Bool.{true≢false, false≢true}
 use Rattle.std.proofs.lemmas.List.{reverse-append, reverse-reverse}
@@ -34,10 +34,10 @@ use Rattle.site_run.proofs.Seating.{chairs_many}
 -- what a log that was written out leaves
 pub writes : (C : Config) (J : List (Entry LogEvent)) (given : Option (List ℕ)) (before after : ℕ) (written : WriteOut) (stopped failed : Bool)
     → (written ≡ Written → IfSome given (λ text. text ≡ log_text C J)) → IfSome given (λ text. IsFront text (log_text C J))
-    → stopped ≡ is_stopped written → (stopped ≡ true → Rose before after) → before ≤ after → failed ≡ is_stopped written → WritesLog C J given before after failed
-writes C J given before after Written stopped failed w p s r l f = record { front = p; whole = λ _. w refl; cause = λ e. absurd (false≢true (sym f ∙ e)); later = l }
-writes C J given before after LogFault stopped failed w p s r l f = record { front = p; whole = λ e. absurd (true≢false (sym f ∙ e)); cause = λ _. r s; later = l }
-writes C J given before after Stopped stopped failed w p s r l f = record { front = p; whole = λ e. absurd (true≢false (sym f ∙ e)); cause = λ _. r s; later = l }
+    → stopped ≡ is_stopped written → (stopped ≡ true → Rose before after) → (stopped ≡ false → after ≡ before) → before ≤ after → failed ≡ is_stopped written → WritesLog C J given before after failed
+writes C J given before after Written stopped failed w p s r q l f = record { front = p; whole = λ _. w refl; cause = λ e. absurd (false≢true (sym f ∙ e)); still = λ _. q s; later = l }
+writes C J given before after LogFault stopped failed w p s r q l f = record { front = p; whole = λ e. absurd (true≢false (sym f ∙ e)); cause = λ _. r s; still = λ e. absurd (true≢false (sym f ∙ e)); later = l }
+writes C J given before after Stopped stopped failed w p s r q l f = record { front = p; whole = λ e. absurd (true≢false (sym f ∙ e)); cause = λ _. r s; still = λ e. absurd (true≢false (sym f ∙ e)); later = l }
 
 module _ (z : TableId) where
   pub at_push : (as' : List Place) (a : Place) → AllAt z as' → a.board ≡ z → AllAt z (as' ++ a ∷ [])

@@ -13,11 +13,12 @@ use Rattle.monitor_model.specs.Proxy.{rows}
 use Rattle.log_daemon.specs.Seen.{IsFront}
 use Rattle.site_making.specs.Keepers.{KeeperIs}
 
--- The log's sink was given the text of oklogd's journal; or a front of it, where its count of faults rose.
+-- The log's sink was given the text of oklogd's journal; or a front of it, exactly where its count of faults rose.
 pub record WritesLog (C : Config) (J : List (Entry LogEvent)) (given : Option (List ℕ)) (before after : ℕ) (failed : Bool) : Type 0 where
   pub front : IfSome given (λ text. IsFront text (log_text C J))
   pub whole : failed ≡ false → IfSome given (λ text. text ≡ log_text C J)
   pub cause : failed ≡ true → Rose before after
+  pub still : failed ≡ false → after ≡ before
   pub later : before ≤ after
 
 -- A keeper of proxy p, whose journal this is, in a run in which keepers tell their rows where `tells` says so, in which no call of a keeper fails where `steady` says so, and which began when the keeper's count was `first`: it has the proxy's tables, and its rows are those of the journal; at most as many Calls were marked Fault as its count rose.

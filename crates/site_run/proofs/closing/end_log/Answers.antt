@@ -21,5 +21,6 @@ returns-clause-written g c =
     (subst (λ K. IfSome (g.S.Sink.given sink) (λ text. IsFront text (log_text C K))) past (subst (λ o. IfSome o (λ text. IsFront text (log_text C c.args.log.past))) (sym closed.ensures.given) out.ensures.part))
     out.ensures.stopped
     (λ e. subst (Rose first) (sym closed.ensures.faults) (closed.ensures.stopped e))
+    (λ e. closed.ensures.faults ∙ closed.ensures.still e)
     (subst (λ m. first ≤ m) (sym closed.ensures.faults) closed.ensures.later)
     c.lacks-failed.ensures

@@ -1,6 +1,6 @@
 -- What a statement answers on tables, and the tables that it leaves. A table is a list of rows in the order of insertion.
-use Rattle.std.specs.Prelude.{ℕ, ◌-◌, Bool, true, false, List, [], ◌∷◌, ◌++◌, Option, Some, None, not, if◌then◌else◌, slice_index_or, slice_set, length, filter, map, take, fold, insert, pos, slice_get, position}
-use Rattle.std.specs.List.{list_any, list_all, position_or_len}
+use Rattle.std.specs.Prelude.{ℕ, ◌-◌, Bool, true, false, List, [], ◌∷◌, ◌++◌, Option, Some, None, not, if◌then◌else◌, slice_index_or, slice_set, length, filter, map, flat_map, take, fold, insert, pos, slice_get, position}
+use Rattle.std.specs.List.{list_any, list_all, position_or_len, range_with_len}
 use Rattle.std.specs.Ordering.{is_lt}
 use Rattle.okws_base.specs.Value.{value_cmp, value_eq}
 use Rattle.okws_base.specs.declared.value.Value.{Value}
@@ -12,6 +12,7 @@ use Rattle.okws_plan.specs.declared.statement.Operand.{Operand}
 use Rattle.okws_plan.specs.declared.statement.Operand.TheVariants.{Parameter, Literal}
 use Rattle.okws_plan.specs.declared.statement.Condition.{Condition}
 use Rattle.okws_plan.specs.declared.statement.Assignment.{Assignment}
+use Rattle.okws_plan.specs.declared.statement.Join.{Join}
 use Rattle.okws_plan.specs.declared.statement.Selection.{Selection}
 use Rattle.okws_plan.specs.declared.statement.Action.{Action}
 use Rattle.okws_plan.specs.declared.statement.Action.TheVariants.{Select, Insert, Update, Delete}
@@ -78,6 +79,27 @@ cut columns row = map (λ (c : ℕ). at_column row c) columns
 abbrev pub cut_all : List ℕ → List (List Value) → List (List Value)
 cut_all columns rows = map (λ (row : List Value). cut columns row) rows
 
+-- A row of one table before a row of another: so many values of the first, then those of the second.
+abbrev pub laid : ℕ → List Value → List Value → List Value
+laid n first second = cut (range_with_len 0 n) first ++ second
+
+-- A joined row is equal in the two columns of the join.
+abbrev pub is_joined : Join → List Value → Bool
+is_joined join row = value_eq (at_column row join.left) (at_column row join.right)
+
+-- What a row of the first table is joined to: it before each row of the second that is equal to it, in the order of these.
+abbrev pub joined_to : ℕ → Join → List (List Value) → List Value → List (List Value)
+joined_to n join second row = filter (is_joined join) (map (laid n row) second)
+
+-- The joined rows of two tables, by the order of the first and then of the second. The first has n columns.
+abbrev pub joined_rows : ℕ → Join → List (List Value) → List (List Value) → List (List Value)
+joined_rows n join first second = flat_map (joined_to n join second) first
+
+-- The rows that a SELECT reads: those of its table, of n columns, or what they are joined to of the rows T of all tables.
+abbrev pub read_rows : ℕ → Option Join → List (List (List Value)) → List (List Value) → List (List Value)
+read_rows n None T rows = rows
+read_rows n (Some join) T rows = joined_rows n join rows (slice_index_or T join.table [])
+
 -- The column that is marked as KEY, if there is one.
 abbrev pub key_place : List Column → Option ℕ
 key_place columns = position (λ (c : Column). c.key) columns
@@ -117,22 +139,22 @@ columns_of tables t = columns_in (slice_get tables t)
 abbrev pub row_of : List Value → List Operand → List Value
 row_of args values = map (λ (v : Operand). operand args v) values
 
--- What a SELECT answers: the hits, stably ordered, the first n, cut to the listed columns.
+-- What a SELECT answers on the rows that it reads: the hits, stably ordered, the first n, cut to the listed columns.
 abbrev pub selection_answer : List Value → Selection → List (List Value) → Answer
 selection_answer args selection rows =
     Rows (length selection.columns) (cut_all selection.columns (limited selection.limit (ordered selection.order (hits args selection.conditions rows))))
 
--- What an action answers on the rows of its table, and the rows that it leaves.
--- SELECT: its answer, and the rows stay.
+-- What an action answers on the rows of its table, and the rows that it leaves. T are the rows of all tables.
+-- SELECT: its answer on the rows that it reads, and the rows stay.
 -- INSERT: Duplicate, and the rows stay, where the KEY value is there; else Changed(1) and the row appended.
 -- UPDATE: the hits replaced in place. DELETE: the hits taken out. Both answer the number of hits.
-abbrev pub mean_on : List Column → Action → List Value → List (List Value) → Answer × List (List Value)
-mean_on columns (Select selection) args rows = (selection_answer args selection rows, rows)
-mean_on columns (Insert values) args rows =
+abbrev pub mean_on : List Column → List (List (List Value)) → Action → List Value → List (List Value) → Answer × List (List Value)
+mean_on columns T (Select selection) args rows = (selection_answer args selection (read_rows (length columns) selection.join T rows), rows)
+mean_on columns T (Insert values) args rows =
     inserted (is_taken columns rows (row_of args values)) rows (row_of args values)
-mean_on columns (Update assignments conditions) args rows =
+mean_on columns T (Update assignments conditions) args rows =
     (Changed (length (hits args conditions rows)), updated args assignments conditions rows)
-mean_on columns (Delete conditions) args rows =
+mean_on columns T (Delete conditions) args rows =
     (Changed (length (hits args conditions rows)), misses args conditions rows)
 
 -- What was done on one table's rows, done on all tables: the others stay.
@@ -141,4 +163,4 @@ on_table T t done = (done.0, slice_set T t done.1)
 
 -- What a statement answers on the rows of all tables, and the rows that it leaves: those of its own table, and the others as they were.
 abbrev pub mean : List Table → Statement → List Value → List (List (List Value)) → Answer × List (List (List Value))
-mean tables st args T = on_table T st.table (mean_on (columns_of tables st.table) st.action args (slice_index_or T st.table []))
+mean tables st args T = on_table T st.table (mean_on (columns_of tables st.table) T st.action args (slice_index_or T st.table []))

@@ -1,5 +1,5 @@
 -- The rules of the query language that a compiled statement keeps for the tables that it was compiled for.
-use Rattle.std.specs.Prelude.{◌≡◌, ℕ, ◌-◌, Bool, true, false, not, ◌&&◌, ◌||◌, ◌==◌, nat_lt, nat_le, List, [], ◌∷◌, length, Option, Some, None, slice_get}
+use Rattle.std.specs.Prelude.{◌≡◌, ℕ, ◌-◌, Bool, true, false, not, ◌&&◌, ◌||◌, ◌==◌, nat_lt, nat_le, if◌then◌else◌, List, [], ◌∷◌, ◌++◌, length, Option, Some, None, slice_get}
 use Rattle.std.specs.List.{list_all, list_any}
 use Rattle.okws_base.specs.Value.{same_kind, kind_of}
 use Rattle.okws_base.specs.declared.limit.TheConstants.{MOST_COLUMNS, MOST_CONDITIONS, MOST_PARAMETERS, GREATEST_LIMIT}
@@ -14,6 +14,7 @@ use Rattle.okws_plan.specs.declared.statement.Operand.{Operand}
 use Rattle.okws_plan.specs.declared.statement.Operand.TheVariants.{Parameter, Literal}
 use Rattle.okws_plan.specs.declared.statement.Condition.{Condition}
 use Rattle.okws_plan.specs.declared.statement.Assignment.{Assignment}
+use Rattle.okws_plan.specs.declared.statement.Join.{Join}
 use Rattle.okws_plan.specs.declared.statement.Selection.{Selection}
 use Rattle.okws_plan.specs.declared.statement.Action.{Action}
 use Rattle.okws_plan.specs.declared.statement.Action.TheVariants.{Select, Insert, Update, Delete}
@@ -78,13 +79,13 @@ abbrev pub limit_fits : Option ℕ → Bool
 limit_fits None = true
 limit_fits (Some n) = nat_le n GREATEST_LIMIT
 
--- A SELECT lists 1 to 16 columns of its table, orders by one of them if at all, and its limit is at most 1,000,000,000.
+-- A SELECT lists 1 to 16 columns of the rows that it reads, orders by one of them if at all, and its limit is at most 1,000,000,000.
 abbrev pub selection_fits : List Column → List Kind → Selection → Bool
 selection_fits columns parameters s =
     nat_le 1 (length s.columns) && (nat_le (length s.columns) MOST_COLUMNS && (list_all (λ (c : ℕ). is_column columns c) s.columns
     && (conditions_fit columns parameters s.conditions && (order_fits columns s.order && limit_fits s.limit))))
 
--- What an action may do on a table of these columns, with parameters of these kinds. An UPDATE sets at least one column.
+-- What an action may do on rows of these columns, with parameters of these kinds. An UPDATE sets at least one column.
 abbrev pub action_fits : List Column → List Kind → Action → Bool
 action_fits columns parameters (Select s) = selection_fits columns parameters s
 action_fits columns parameters (Insert values) = operands_fit columns parameters values
@@ -92,6 +93,35 @@ action_fits columns parameters (Update assignments conditions) =
     nat_le 1 (length assignments) && (list_all (λ (a : Assignment). assignment_fits columns parameters a) assignments
     && (sets_each_once assignments && conditions_fit columns parameters conditions))
 action_fits columns parameters (Delete conditions) = conditions_fit columns parameters conditions
+
+-- What an action joins its table's rows to, if it does.
+abbrev pub join_of : Action → Option Join
+join_of (Select s) = s.join
+join_of (Insert values) = None
+join_of (Update assignments conditions) = None
+join_of (Delete conditions) = None
+
+-- The columns of the rows that an action at table t reads: those of the table, and behind them those of the table that it joins.
+abbrev pub read_columns : List Table → ℕ → Option Join → List Column
+read_columns tables t None = columns_of tables t
+read_columns tables t (Some join) = columns_of tables t ++ columns_of tables join.table
+
+-- One of two numbers is below n, and the other isn't.
+abbrev pub are_apart : ℕ → ℕ → ℕ → Bool
+are_apart n a b = if nat_lt a n then not (nat_lt b n) else nat_lt b n
+
+-- Two columns are there, and are of one kind.
+abbrev pub are_of_kind : Option Column → Option Column → Bool
+are_of_kind None other = false
+are_of_kind (Some column) None = false
+are_of_kind (Some column) (Some other) = same_kind column.kind other.kind
+
+-- A join's table is declared and another than table t; its two columns are of one kind, and one is of each table.
+abbrev pub join_fits : List Table → ℕ → Option Join → Bool
+join_fits tables t None = true
+join_fits tables t (Some join) =
+    nat_lt join.table (length tables) && (not (join.table == t) && (are_apart (length (columns_of tables t)) join.left join.right
+    && are_of_kind (slice_get (read_columns tables t (Some join)) join.left) (slice_get (read_columns tables t (Some join)) join.right)))
 
 -- An operand is this parameter.
 abbrev pub is_parameter : ℕ → Operand → Bool
@@ -109,11 +139,12 @@ stands_in n (Insert values) = list_any (λ (v : Operand). is_parameter n v) valu
 stands_in n (Update assignments conditions) = list_any (λ (a : Assignment). is_parameter n a.operand) assignments || stands_in_conditions n conditions
 stands_in n (Delete conditions) = stands_in_conditions n conditions
 
--- The statement keeps the rules of the query language for these tables: its table is declared; its columns are the table's, and what meets them is of their kinds; its parameters are 1 to m, at most 16, and each stands in it.
+-- The statement keeps the rules of the query language for these tables: its table is declared, and what it joins is lawful; its columns are those of the rows that it reads, and what meets them is of their kinds; its parameters are 1 to m, at most 16, and each stands in it.
 abbrev pub keeps_rules : List Table → Statement → Bool
 keeps_rules tables st =
     nat_lt st.table (length tables) && (nat_le (length st.parameters) MOST_PARAMETERS
-    && (action_fits (columns_of tables st.table) st.parameters st.action && list_all (λ (n : ℕ). stands_in n st.action) (numbered_from 1 (length st.parameters))))
+    && (join_fits tables st.table (join_of st.action) && (action_fits (read_columns tables st.table (join_of st.action)) st.parameters st.action
+    && list_all (λ (n : ℕ). stands_in n st.action) (numbered_from 1 (length st.parameters)))))
 
 -- Each query of proxy p keeps the rules of the query language for the proxy's tables.
 abbrev pub QueriesKeepRules : Config → ℕ → Type 0

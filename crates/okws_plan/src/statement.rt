@@ -60,9 +60,21 @@ impl Drop for Assignment {
     }
 }
 
+/// A second table, and the two columns in which a row of the first table and one of the second are
+/// equal where they are joined to one row. The columns of such a row are numbered on: those of the
+/// first table, then those of the second. `left` and `right` stand in the order in which ON names them.
+#[derive(Clone, Copy, PartialEq, Eq)]
+pub struct Join {
+    pub table: u8,
+    pub left: u8,
+    pub right: u8,
+}
+
 /// What a SELECT lists of the rows that meet all its conditions, by which column they are ordered,
-/// if by any, and how many come at the most.
+/// if by any, and how many come at the most. The rows are those of its table, or those that its
+/// table's rows are joined to with the rows of a second one.
 pub struct Selection {
+    pub join: Option<Join>,
     pub columns: Items<u8>,
     pub conditions: Items<Condition>,
     pub order: Option<u8>,
@@ -72,6 +84,7 @@ pub struct Selection {
 impl Drop for Selection {
     fn drop(self) {
         let Selection {
+            join: _,
             columns,
             conditions,
             order: _,
@@ -82,7 +95,7 @@ impl Drop for Selection {
     }
 }
 
-/// What a statement does at its table.
+/// What a statement does at its table. A SELECT may read a second one.
 pub enum Action {
     Select(Selection),
     Insert {
@@ -118,7 +131,7 @@ impl Drop for Action {
     }
 }
 
-/// A statement over one table, and the kinds of its parameters.
+/// A statement over a table, and the kinds of its parameters.
 pub struct Statement {
     pub table: u8,
     pub parameters: Items<Kind>,

@@ -1,6 +1,6 @@
 -- The tokens of a form are read as that form.
 use Rattle.std.proofs.Common.{◌≡◌, ℕ, true, false, List, [], ◌∷◌, ◌++◌, map, Option, Some, None, option_map, Ok, refl, ap, ◌∙◌, append_assoc}
-use Rattle.std.proofs.lemmas.Bool.{and_parts}
+use Rattle.std.proofs.lemmas.Bool.{false≢true, and_parts}
 use Rattle.query_syntax.specs.declared.token.Fixed.TheVariants as fixed
 use Rattle.query_syntax.specs.declared.token.Token.{Token}
 use Rattle.query_syntax.specs.declared.token.Token.TheVariants as token
@@ -9,12 +9,17 @@ use Rattle.query_syntax.specs.declared.syntax.Named.{Named}
 use Rattle.query_syntax.specs.declared.syntax.Given.{Given}
 use Rattle.query_syntax.specs.declared.syntax.Setting.{Setting}
 use Rattle.query_syntax.specs.declared.syntax.Test.{Test}
+use Rattle.query_syntax.specs.declared.syntax.Qualified.{Qualified}
+use Rattle.query_syntax.specs.declared.syntax.JoinTest.{JoinTest}
+use Rattle.query_syntax.specs.declared.syntax.Joined.{Joined}
+use Rattle.query_syntax.specs.declared.syntax.JoinSelect.{JoinSelect}
 use Rattle.query_syntax.specs.declared.syntax.Form.{Form}
 use Rattle.query_syntax.specs.declared.syntax.Form.TheVariants as form
+use Rattle.query_syntax.specs.declared.syntax.Query.TheVariants as query
 use Rattle.query_syntax.specs.Spelling.{limit_tokens}
-use Rattle.query_syntax.specs.Grammar.{begins, rest_of, fixed_at, name_at, value_at, setting_at, names_at, values_at, select_at, insert_at, update_at, delete_at, form_at, parsed}
-use Rattle.query_syntax.specs.Forms.{tokens_in, named_tokens, given_tokens, setting_tokens, separated, where_tokens, order_by_tokens, form_tokens, has_items, may_limit, is_grammatical, bare_name, bare_value, bare_setting, bare_test, bare, FormsAreReadAgain}
-use Rattle.query_syntax.proofs.ReadForms.{fixed_read, starts, begins_as, rest_as, name_read, items_read, names, givens, settings, where_read, order_read, limit_read}
+use Rattle.query_syntax.specs.Grammar.{begins, rest_of, fixed_at, name_at, value_at, setting_at, names_at, values_at, select_at, qualified_at, join_at, insert_at, update_at, delete_at, form_at, begins_join, query_at, parsed}
+use Rattle.query_syntax.specs.Forms.{tokens_in, named_tokens, given_tokens, setting_tokens, behind_separators, separated, where_tokens, order_by_tokens, qualified_tokens, joined_tokens, join_where_tokens, join_order_tokens, form_tokens, join_tokens, has_items, may_limit, is_grammatical, bare_name, bare_value, bare_setting, bare_test, bare_qualified, bare_joined, bare_join_test, bare_join, bare, FormsAreReadAgain}
+use Rattle.query_syntax.proofs.ReadForms.{fixed_read, starts, begins_as, rest_as, name_read, items_read, names, givens, settings, qualifieds, joined_read, where_read, order_read, join_where_read, join_order_read, limit_read}
 
 -- forms
 
@@ -54,7 +59,8 @@ select_read columns table ts order limit text some low e =
     let list : List Token = token.Fixed fixed.From ∷ token.Word table.name ∷ clauses in
     let whole : List Token = (separated fixed.Comma named_tokens columns ++ list) ++ end in
     let front : begins fixed.Select text ≡ true = begins_as fixed.Select text (token.Fixed fixed.Select ∷ whole) e in
-    let cs = items_read fixed.Comma name_at bare_name named_tokens names columns (rest_of text) (list ++ end) some refl (rest_as text (token.Fixed fixed.Select) whole e ∙ append_assoc (separated fixed.Comma named_tokens columns) list end) in
+    let inside : tokens_in (rest_of text) ≡ separated fixed.Comma named_tokens columns ++ (list ++ end) = rest_as text (token.Fixed fixed.Select) whole e ∙ append_assoc (separated fixed.Comma named_tokens columns) list end in
+    let cs = items_read fixed.Comma name_at bare_name named_tokens names columns (rest_of text) (list ++ end) some refl inside in
     let from = fixed_read fixed.From cs.rest (token.Word table.name ∷ (clauses ++ end)) cs.left in
     let t = name_read table from.rest (clauses ++ end) from.left in
     let conditions = where_read ts t.rest (behind ++ end) (order_ends order limit).0 (order_ends order limit).1 (t.left ∙ append_assoc (where_tokens ts) behind end) in
@@ -171,9 +177,87 @@ form_read (form.Insert table at columns values) text h e =
 form_read (form.Update table ss ts) text h e = update_read table ss ts text h e
 form_read (form.Delete table ts) text h e = delete_read table ts text e
 
+-- a SELECT from two tables
+
+join_order_ends : (order : Option Qualified) (limit : Option ℕ) → (starts fixed.Where ((join_order_tokens order ++ limit_tokens limit) ++ end) ≡ false) × (starts fixed.And ((join_order_tokens order ++ limit_tokens limit) ++ end) ≡ false)
+join_order_ends None limit = ((limit_ends limit).1, (limit_ends limit).2)
+join_order_ends (Some q) limit = (refl, refl)
+
+join_same : (cs ds : List Qualified) (t u : Joined) (xs ys : List JoinTest) (a b : Option Qualified) (m n : Option ℕ) → map bare_qualified cs ≡ map bare_qualified ds → bare_joined t ≡ bare_joined u → map bare_join_test xs ≡ map bare_join_test ys
+    → option_map bare_qualified a ≡ option_map bare_qualified b → m ≡ n
+    → bare_join (record { columns = cs; joined = t; tests = xs; order = a; limit = m }) ≡ bare_join (record { columns = ds; joined = u; tests = ys; order = b; limit = n })
+join_same cs ds t u xs ys a b m n h i j k l = rw (h, i, j, k, l) refl
+
+-- a `.` stands behind the first word
+some_dot : (columns : List Qualified) (rest : List Token) (ps : List Placed) → has_items columns ≡ true → tokens_in ps ≡ separated fixed.Comma qualified_tokens columns ++ rest → begins fixed.Dot (rest_of ps) ≡ true
+some_dot [] rest ps some e = absurd (false≢true some)
+some_dot (c ∷ more) rest ps some e =
+    let behind : List Token = (token.Fixed fixed.Dot ∷ token.Word c.column.name ∷ behind_separators fixed.Comma qualified_tokens more) ++ rest in
+    begins_as fixed.Dot (rest_of ps) behind (rest_as ps (token.Word c.table.name) behind e)
+
+record ReadJoin (text : List Placed) (j : JoinSelect) (after : List Token) : Type 0 where
+  it : JoinSelect
+  rest : List Placed
+  is : query_at text ≡ Ok (query.Two it, rest)
+  same : bare_join it ≡ bare_join j
+  left : tokens_in rest ≡ after
+
+join_read : (j : JoinSelect) (text : List Placed) → has_items j.columns ≡ true → may_limit j.limit ≡ true → tokens_in text ≡ join_tokens j ++ end → ReadJoin text j end
+unfolding join_at
+join_read j text some low e =
+    let columns : List Qualified = j.columns in
+    let joined : Joined = j.joined in
+    let ts : List JoinTest = j.tests in
+    let order : Option Qualified = j.order in
+    let limit : Option ℕ = j.limit in
+    let behind : List Token = join_order_tokens order ++ limit_tokens limit in
+    let clauses : List Token = join_where_tokens ts ++ behind in
+    let list : List Token = joined_tokens joined ++ clauses in
+    let whole : List Token = (separated fixed.Comma qualified_tokens columns ++ list) ++ end in
+    let front : begins fixed.Select text ≡ true = begins_as fixed.Select text (token.Fixed fixed.Select ∷ whole) e in
+    let inside : tokens_in (rest_of text) ≡ separated fixed.Comma qualified_tokens columns ++ (list ++ end) = rest_as text (token.Fixed fixed.Select) whole e ∙ append_assoc (separated fixed.Comma qualified_tokens columns) list end in
+    let dot : begins fixed.Dot (rest_of (rest_of text)) ≡ true = some_dot columns (list ++ end) (rest_of text) some inside in
+    let cs = items_read fixed.Comma qualified_at bare_qualified qualified_tokens qualifieds columns (rest_of text) (list ++ end) some refl inside in
+    let tables = joined_read joined cs.rest (clauses ++ end) (cs.left ∙ append_assoc (joined_tokens joined) clauses end) in
+    let conditions = join_where_read ts tables.rest (behind ++ end) (join_order_ends order limit).0 (join_order_ends order limit).1 (tables.left ∙ append_assoc (join_where_tokens ts) behind end) in
+    let by = join_order_read order conditions.rest (limit_tokens limit ++ end) (limit_ends limit).0 (conditions.left ∙ append_assoc (join_order_tokens order) (limit_tokens limit) end) in
+    let most = limit_read limit by.rest end low refl by.left in
+    record {
+      it = record { columns = cs.it; joined = tables.it; tests = conditions.it; order = by.it; limit = most.it };
+      rest = most.rest;
+      is = rw (front, dot, cs.is, tables.is, conditions.is, by.is, most.is) refl;
+      same = join_same cs.it columns tables.it joined conditions.it ts by.it order most.it limit cs.same tables.same conditions.same by.same most.same;
+      left = most.left;
+    }
+
+-- no `.` stands behind the first word
+no_dot : (columns : List Named) (rest : List Token) (ps : List Placed) → has_items columns ≡ true → starts fixed.Dot rest ≡ false → tokens_in ps ≡ separated fixed.Comma named_tokens columns ++ rest → begins fixed.Dot (rest_of ps) ≡ false
+no_dot [] rest ps some other e = absurd (false≢true some)
+no_dot (c ∷ []) rest ps some other e = begins_as fixed.Dot (rest_of ps) rest (rest_as ps (token.Word c.name) rest e) ∙ other
+no_dot (c ∷ d ∷ more) rest ps some other e =
+    let behind : List Token = behind_separators fixed.Comma named_tokens (d ∷ more) ++ rest in
+    begins_as fixed.Dot (rest_of ps) behind (rest_as ps (token.Word c.name) behind e)
+
+-- a statement at one table begins no join
+no_join : (f : Form) (text : List Placed) → is_grammatical f ≡ true → tokens_in text ≡ form_tokens f ++ end → begins_join text ≡ false
+no_join (form.Select columns table ts order limit) text h e =
+    let list : List Token = token.Fixed fixed.From ∷ token.Word table.name ∷ (where_tokens ts ++ (order_by_tokens order ++ limit_tokens limit)) in
+    let whole : List Token = (separated fixed.Comma named_tokens columns ++ list) ++ end in
+    let front : begins fixed.Select text ≡ true = begins_as fixed.Select text (token.Fixed fixed.Select ∷ whole) e in
+    let inside : tokens_in (rest_of text) ≡ separated fixed.Comma named_tokens columns ++ (list ++ end) = rest_as text (token.Fixed fixed.Select) whole e ∙ append_assoc (separated fixed.Comma named_tokens columns) list end in
+    rw front (no_dot columns (list ++ end) (rest_of text) (and_parts (has_items columns) (may_limit limit) h).0 refl inside)
+no_join (form.Insert table at columns values) text h e = rw (begins_as fixed.Select text (form_tokens (form.Insert table at columns values) ++ end) e) refl
+no_join (form.Update table ss ts) text h e = rw (begins_as fixed.Select text (form_tokens (form.Update table ss ts) ++ end) e) refl
+no_join (form.Delete table ts) text h e = rw (begins_as fixed.Select text (form_tokens (form.Delete table ts) ++ end) e) refl
+
 pub forms_again : FormsAreReadAgain
 unfolding parsed
-forms_again f h text e =
+forms_again (query.One f) h text e =
     let form' = form_read f text h e in
     let last = fixed_read fixed.End form'.rest [] form'.left in
-    rw (form'.is, last.is) (ap (λ (g : Form). Ok g) form'.same)
+    rw (no_join f text h e, form'.is, last.is) (ap (λ (g : Form). Ok (query.One g)) form'.same)
+forms_again (query.Two j) h text e =
+    let both = and_parts (has_items j.columns) (may_limit j.limit) h in
+    let join' = join_read j text both.0 both.1 e in
+    let last = fixed_read fixed.End join'.rest [] join'.left in
+    rw (join'.is, last.is) (ap (λ (g : JoinSelect). Ok (query.Two g)) join'.same)

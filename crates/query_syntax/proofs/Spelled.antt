@@ -22,30 +22,34 @@ use Rattle.query_syntax.specs.Tokens.{same_fixed, keyword, clause_keyword, actio
 use Rattle.query_syntax.specs.Spelling.{fixed_text, doubled, value_text}
 use Rattle.query_syntax.specs.ReadAgain.{is_byte}
 
--- what stands behind a token in a canonical text: nothing, a blank, a `)` or a `,`
+-- what stands behind a token in a canonical text: nothing, a blank, a `)`, a `,` or a `.`
 pub data Stop : List ℕ → Type 0 where
   end : Stop []
   blank : (more : List ℕ) → Stop (32 ∷ more)
   close : (more : List ℕ) → Stop (41 ∷ more)
   comma : (more : List ℕ) → Stop (44 ∷ more)
+  dot : (more : List ℕ) → Stop (46 ∷ more)
 
 no_word_byte : (rest : List ℕ) → Stop rest → prefix_len is_word_byte rest ≡ 0
 no_word_byte rest end = refl
 no_word_byte rest (blank more) = refl
 no_word_byte rest (close more) = refl
 no_word_byte rest (comma more) = refl
+no_word_byte rest (dot more) = refl
 
 no_digit : (rest : List ℕ) → Stop rest → prefix_len is_ascii_digit rest ≡ 0
 no_digit rest end = refl
 no_digit rest (blank more) = refl
 no_digit rest (close more) = refl
 no_digit rest (comma more) = refl
+no_digit rest (dot more) = refl
 
 no_quote : (rest : List ℕ) → Stop rest → (get_or rest 0 0 == 39) ≡ false
 no_quote rest end = refl
 no_quote rest (blank more) = refl
 no_quote rest (close more) = refl
 no_quote rest (comma more) = refl
+no_quote rest (dot more) = refl
 
 prefix_all : (p : ℕ → Bool) (xs rest : List ℕ) → list_all p xs ≡ true → prefix_len p rest ≡ 0 → prefix_len p (xs ++ rest) ≡ length xs
 prefix_all p [] rest h e = e
@@ -202,6 +206,7 @@ quoted_end rest end = refl
 quoted_end rest (blank more) = refl
 quoted_end rest (close more) = refl
 quoted_end rest (comma more) = refl
+quoted_end rest (dot more) = refl
 
 quoted_more : (b : ℕ) (more rest : List ℕ) (is_quote : Bool) → (b == 39) ≡ is_quote → quoted_from false (doubled more ++ (39 ∷ rest)) ≡ Some (more, length (doubled more) + 1)
     → quoted_from false (doubled (b ∷ more) ++ (39 ∷ rest)) ≡ Some (b ∷ more, length (doubled (b ∷ more)) + 1)
@@ -276,6 +281,7 @@ below_again rest end = refl
 below_again rest (blank more) = refl
 below_again rest (close more) = refl
 below_again rest (comma more) = refl
+below_again rest (dot more) = refl
 
 above_again : (rest : List ℕ) → Stop rest → token_at (62 ∷ rest) ≡ Some (token.Fixed fixed.Above, 1)
 unfolding token_at
@@ -283,6 +289,7 @@ above_again rest end = refl
 above_again rest (blank more) = refl
 above_again rest (close more) = refl
 above_again rest (comma more) = refl
+above_again rest (dot more) = refl
 
 pub fixed_again : (f : Fixed) (rest : List ℕ) → not (same_fixed f fixed.End) ≡ true → Stop rest → token_at (fixed_text f ++ rest) ≡ Some (token.Fixed f, length (fixed_text f))
 unfolding fixed_text token_at keyword
@@ -306,6 +313,7 @@ fixed_again fixed.Key rest h s = keyword_again (codes "KEY") fixed.Key rest refl
 fixed_again fixed.Open rest h s = refl
 fixed_again fixed.Close rest h s = refl
 fixed_again fixed.Comma rest h s = refl
+fixed_again fixed.Dot rest h s = refl
 fixed_again fixed.Equal rest h s = refl
 fixed_again fixed.Differs rest h s = refl
 fixed_again fixed.Below rest h s = below_again rest s

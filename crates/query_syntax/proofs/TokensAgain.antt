@@ -19,7 +19,7 @@ use Rattle.query_syntax.specs.Tokens.{same_fixed, token_at, placed, with_tokens,
 use Rattle.query_syntax.specs.Spelling.{fixed_text, value_text, token_text, opens, closes, joined}
 use Rattle.query_syntax.specs.Forms.{tokens_in}
 use Rattle.query_syntax.specs.ReadAgain.{is_spelled, is_held, has_64_bits, found_barely, TokensAreReadAgain}
-use Rattle.query_syntax.proofs.Spelled.{Stop, end, blank, close, comma, word_again, plain_word, written, positive_again, negative_again, parameter_again, text_again, bytes_again, fixed_again}
+use Rattle.query_syntax.proofs.Spelled.{Stop, end, blank, close, comma, dot, word_again, plain_word, written, positive_again, negative_again, parameter_again, text_again, bytes_again, fixed_again}
 
 -- each token
 
@@ -46,10 +46,11 @@ token_again (token.Parameter n) rest h s =
     parameter_again (fmt.decimal n) rest n (written n below) below s
 token_again (token.Literal v) rest h s = value_again v rest h s
 
--- behind a `(` anything may stand
-sign_open_again : (f : Fixed) (rest : List ℕ) → same_fixed f fixed.Open ≡ true → token_at (fixed_text f ++ rest) ≡ Some (token.Fixed f, length (fixed_text f))
+-- behind a `(` or a `.` anything may stand
+sign_open_again : (f : Fixed) (rest : List ℕ) → (same_fixed f fixed.Open || same_fixed f fixed.Dot) ≡ true → token_at (fixed_text f ++ rest) ≡ Some (token.Fixed f, length (fixed_text f))
 unfolding fixed_text token_at
 sign_open_again fixed.Open rest h = refl
+sign_open_again fixed.Dot rest h = refl
 sign_open_again _ rest h = absurd (false≢true h)
 
 open_again : (t : Token) (rest : List ℕ) → opens t ≡ true → token_at (token_text t ++ rest) ≡ Some (t, length (token_text t))
@@ -58,11 +59,12 @@ open_again (token.Word w) rest h = absurd (false≢true h)
 open_again (token.Parameter n) rest h = absurd (false≢true h)
 open_again (token.Literal v) rest h = absurd (false≢true h)
 
--- a `)` and a `,` end the token before them
-sign_close_stops : (f : Fixed) (rest : List ℕ) → (same_fixed f fixed.Close || same_fixed f fixed.Comma) ≡ true → Stop (fixed_text f ++ rest)
+-- a `)`, a `,` and a `.` end the token before them
+sign_close_stops : (f : Fixed) (rest : List ℕ) → (same_fixed f fixed.Close || (same_fixed f fixed.Comma || same_fixed f fixed.Dot)) ≡ true → Stop (fixed_text f ++ rest)
 unfolding fixed_text
 sign_close_stops fixed.Close rest h = close rest
 sign_close_stops fixed.Comma rest h = comma rest
+sign_close_stops fixed.Dot rest h = dot rest
 sign_close_stops _ rest h = absurd (false≢true h)
 
 close_stops : (t : Token) (rest : List ℕ) → closes t ≡ true → Stop (token_text t ++ rest)

@@ -1,5 +1,5 @@
 -- The tokens that spell a form, and what is left of a form without its places.
-use Rattle.std.specs.Prelude.{◌≡◌, ℕ, Bool, true, false, ◌&&◌, nat_le, IsTrue, List, [], ◌∷◌, ◌++◌, map, Option, Some, None, option_map, Result, Ok, Err}
+use Rattle.std.specs.Prelude.{◌≡◌, ℕ, Bool, true, false, ◌&&◌, nat_le, IsTrue, List, [], ◌∷◌, ◌++◌, map, Option, Some, None, option_map, Result, Ok, Err, codes}
 use Rattle.okws_base.specs.declared.limit.TheConstants.{GREATEST_LIMIT}
 use Rattle.query_syntax.specs.declared.error.Refusal.{Refusal}
 use Rattle.query_syntax.specs.declared.token.Fixed.{Fixed}
@@ -13,8 +13,14 @@ use Rattle.query_syntax.specs.declared.syntax.Written.TheVariants as written
 use Rattle.query_syntax.specs.declared.syntax.Given.{Given}
 use Rattle.query_syntax.specs.declared.syntax.Setting.{Setting}
 use Rattle.query_syntax.specs.declared.syntax.Test.{Test}
+use Rattle.query_syntax.specs.declared.syntax.Qualified.{Qualified}
+use Rattle.query_syntax.specs.declared.syntax.JoinTest.{JoinTest}
+use Rattle.query_syntax.specs.declared.syntax.Joined.{Joined}
+use Rattle.query_syntax.specs.declared.syntax.JoinSelect.{JoinSelect}
 use Rattle.query_syntax.specs.declared.syntax.Form.{Form}
 use Rattle.query_syntax.specs.declared.syntax.Form.TheVariants as form
+use Rattle.query_syntax.specs.declared.syntax.Query.{Query}
+use Rattle.query_syntax.specs.declared.syntax.Query.TheVariants as query
 use Rattle.query_syntax.specs.Spelling.{comparison_sign, limit_tokens}
 use Rattle.query_syntax.specs.Grammar.{parsed}
 
@@ -43,6 +49,14 @@ setting_tokens s = token.Word s.column.name ∷ token.Fixed fixed.Equal ∷ writ
 abbrev pub test_tokens : Test → List Token
 test_tokens t = token.Word t.column.name ∷ token.Fixed (comparison_sign t.comparison) ∷ written_token t.value.value ∷ []
 
+-- t.c
+abbrev pub qualified_tokens : Qualified → List Token
+qualified_tokens q = token.Word q.table.name ∷ token.Fixed fixed.Dot ∷ token.Word q.column.name ∷ []
+
+-- t.c op v
+abbrev pub join_test_tokens : JoinTest → List Token
+join_test_tokens t = qualified_tokens t.column ++ (token.Fixed (comparison_sign t.comparison) ∷ written_token t.value.value ∷ [])
+
 -- Items, each of them behind the separator.
 abbrev pub behind_separators : {A : Type 0} → Fixed → (A → List Token) → List A → List Token
 behind_separators separator item [] = []
@@ -63,6 +77,21 @@ abbrev pub order_by_tokens : Option Named → List Token
 order_by_tokens None = []
 order_by_tokens (Some w) = token.Fixed fixed.Order ∷ token.Fixed fixed.By ∷ token.Word w.name ∷ []
 
+-- WHERE t.c op v {AND t.c op v}, and nothing without a condition.
+abbrev pub join_where_tokens : List JoinTest → List Token
+join_where_tokens [] = []
+join_where_tokens (t ∷ more) = token.Fixed fixed.Where ∷ separated fixed.And join_test_tokens (t ∷ more)
+
+-- ORDER BY t.c, and nothing without an order.
+abbrev pub join_order_tokens : Option Qualified → List Token
+join_order_tokens None = []
+join_order_tokens (Some q) = token.Fixed fixed.Order ∷ token.Fixed fixed.By ∷ qualified_tokens q
+
+-- FROM t JOIN u ON t.c = u.d
+abbrev pub joined_tokens : Joined → List Token
+joined_tokens j =
+    token.Fixed fixed.From ∷ token.Word j.table.name ∷ token.Word (codes "JOIN") ∷ token.Word j.second.name ∷ token.Word (codes "ON") ∷ (qualified_tokens j.left ++ (token.Fixed fixed.Equal ∷ qualified_tokens j.right))
+
 -- The tokens of a form, in the order of the grammar.
 abbrev pub form_tokens : Form → List Token
 form_tokens (form.Select columns table tests order limit) =
@@ -73,6 +102,16 @@ form_tokens (form.Insert table list columns values) =
 form_tokens (form.Update table settings tests) =
     token.Fixed fixed.Update ∷ token.Word table.name ∷ token.Fixed fixed.Set ∷ (separated fixed.Comma setting_tokens settings ++ where_tokens tests)
 form_tokens (form.Delete table tests) = token.Fixed fixed.Delete ∷ token.Fixed fixed.From ∷ token.Word table.name ∷ where_tokens tests
+
+-- The tokens of a SELECT from two tables.
+abbrev pub join_tokens : JoinSelect → List Token
+join_tokens j =
+    token.Fixed fixed.Select ∷ (separated fixed.Comma qualified_tokens j.columns ++ (joined_tokens j.joined ++ (join_where_tokens j.tests ++ (join_order_tokens j.order ++ limit_tokens j.limit))))
+
+-- The tokens of a query.
+abbrev pub query_tokens : Query → List Token
+query_tokens (query.One f) = form_tokens f
+query_tokens (query.Two j) = join_tokens j
 
 -- A list has an item.
 abbrev pub has_items : {A : Type 0} → List A → Bool
@@ -91,6 +130,11 @@ is_grammatical (form.Insert table list columns values) = has_items columns && ha
 is_grammatical (form.Update table settings tests) = has_items settings
 is_grammatical (form.Delete table tests) = true
 
+-- A query that the grammar allows.
+abbrev pub is_allowed : Query → Bool
+is_allowed (query.One f) = is_grammatical f
+is_allowed (query.Two j) = has_items j.columns && may_limit j.limit
+
 -- A name without its place.
 abbrev pub bare_name : Named → Named
 bare_name w = record { at = 0; name = w.name }
@@ -107,6 +151,22 @@ bare_setting s = record { column = bare_name s.column; value = bare_value s.valu
 abbrev pub bare_test : Test → Test
 bare_test t = record { column = bare_name t.column; comparison = t.comparison; value = bare_value t.value }
 
+-- A qualified column without its places.
+abbrev pub bare_qualified : Qualified → Qualified
+bare_qualified q = record { table = bare_name q.table; column = bare_name q.column }
+
+-- A condition on joined rows without its places.
+abbrev pub bare_join_test : JoinTest → JoinTest
+bare_join_test t = record { column = bare_qualified t.column; comparison = t.comparison; value = bare_value t.value }
+
+-- Joined tables without their places.
+abbrev pub bare_joined : Joined → Joined
+bare_joined j = record { table = bare_name j.table; second = bare_name j.second; left = bare_qualified j.left; right = bare_qualified j.right }
+
+-- A SELECT from two tables without its places.
+abbrev pub bare_join : JoinSelect → JoinSelect
+bare_join j = record { columns = map bare_qualified j.columns; joined = bare_joined j.joined; tests = map bare_join_test j.tests; order = option_map bare_qualified j.order; limit = j.limit }
+
 -- A form without its places.
 abbrev pub bare : Form → Form
 bare (form.Select columns table tests order limit) = form.Select (map bare_name columns) (bare_name table) (map bare_test tests) (option_map bare_name order) limit
@@ -114,15 +174,20 @@ bare (form.Insert table list columns values) = form.Insert (bare_name table) 0 (
 bare (form.Update table settings tests) = form.Update (bare_name table) (map bare_setting settings) (map bare_test tests)
 bare (form.Delete table tests) = form.Delete (bare_name table) (map bare_test tests)
 
+-- A query without its places.
+abbrev pub bare_query : Query → Query
+bare_query (query.One f) = query.One (bare f)
+bare_query (query.Two j) = query.Two (bare_join j)
+
 -- What was read, without its places.
-abbrev pub read_barely : Result Form Refusal → Result Form Refusal
-read_barely (Ok f) = Ok (bare f)
+abbrev pub read_barely : Result Query Refusal → Result Query Refusal
+read_barely (Ok q) = Ok (bare_query q)
 read_barely (Err e) = Err e
 
--- The tokens that spell a form, at whatever places they stand, are read as that form.
-abbrev pub IsReadAgain : Form → Type 0
-IsReadAgain f = (text : List Placed) → tokens_in text ≡ form_tokens f ++ token.Fixed fixed.End ∷ [] → read_barely (parsed text) ≡ Ok (bare f)
+-- The tokens that spell a query, at whatever places they stand, are read as that query.
+abbrev pub IsReadAgain : Query → Type 0
+IsReadAgain q = (text : List Placed) → tokens_in text ≡ query_tokens q ++ token.Fixed fixed.End ∷ [] → read_barely (parsed text) ≡ Ok (bare_query q)
 
--- Each form that the grammar allows is read from its tokens.
+-- Each query that the grammar allows is read from its tokens.
 abbrev pub FormsAreReadAgain : Type 0
-FormsAreReadAgain = (f : Form) → IsTrue (is_grammatical f) → IsReadAgain f
+FormsAreReadAgain = (q : Query) → IsTrue (is_allowed q) → IsReadAgain q

@@ -1,5 +1,6 @@
 -- The grammar of statements, over tokens.
-use Rattle.std.specs.Prelude.{ℕ, zero, suc, pos, negsuc, Bool, false, List, [], ◌∷◌, ◌++◌, length, nat_le, Option, Some, None, Result, Ok, Err, if◌then◌else◌}
+use Rattle.std.specs.Prelude.{ℕ, zero, suc, pos, negsuc, Bool, false, ◌&&◌, List, [], ◌∷◌, ◌++◌, length, nat_le, Option, Some, None, Result, Ok, Err, if◌then◌else◌, codes}
+use Rattle.okws_base.specs.Names.{same_word}
 use Rattle.okws_base.specs.declared.value.Value.{Value}
 use Rattle.okws_base.specs.declared.value.Value.TheVariants as value
 use Rattle.okws_base.specs.declared.limit.TheConstants.{GREATEST_LIMIT}
@@ -19,8 +20,14 @@ use Rattle.query_syntax.specs.declared.syntax.Written.TheVariants as written
 use Rattle.query_syntax.specs.declared.syntax.Given.{Given}
 use Rattle.query_syntax.specs.declared.syntax.Setting.{Setting}
 use Rattle.query_syntax.specs.declared.syntax.Test.{Test}
+use Rattle.query_syntax.specs.declared.syntax.Qualified.{Qualified}
+use Rattle.query_syntax.specs.declared.syntax.JoinTest.{JoinTest}
+use Rattle.query_syntax.specs.declared.syntax.Joined.{Joined}
+use Rattle.query_syntax.specs.declared.syntax.JoinSelect.{JoinSelect}
 use Rattle.query_syntax.specs.declared.syntax.Form.{Form}
 use Rattle.query_syntax.specs.declared.syntax.Form.TheVariants as form
+use Rattle.query_syntax.specs.declared.syntax.Query.{Query}
+use Rattle.query_syntax.specs.declared.syntax.Query.TheVariants as query
 
 -- What stands at the front, and the tokens after it; or the refusal at the first token that can't stand there.
 abbrev pub Reader : Type 0 → Type 0
@@ -55,6 +62,22 @@ rest_of (t ∷ more) = more
 -- This token must stand; its place.
 abbrev pub fixed_at : Fixed → Reader ℕ
 fixed_at f tokens = if begins f tokens then Ok (place_of tokens, rest_of tokens) else Err (unexpected (place_of tokens))
+
+-- A token is this word, in any ASCII case.
+abbrev pub is_word_of : List ℕ → Token → Bool
+is_word_of word (token.Word w) = same_word w word
+is_word_of word (token.Fixed f) = false
+is_word_of word (token.Parameter n) = false
+is_word_of word (token.Literal v) = false
+
+-- The first token is this word.
+abbrev pub says : List ℕ → List Placed → Bool
+says word [] = false
+says word (t ∷ more) = is_word_of word t.token
+
+-- This word must stand; its place.
+abbrev pub said_at : List ℕ → Reader ℕ
+said_at word tokens = if says word tokens then Ok (place_of tokens, rest_of tokens) else Err (unexpected (place_of tokens))
 
 -- A word is a name; no other token is.
 abbrev pub word_or : ℕ → List Placed → Token → Result (Named × List Placed) Refusal
@@ -142,6 +165,22 @@ test_at tokens = do
   value ← value_at op.1
   Ok (record { column = column.0; comparison = op.0; value = value.0 }, value.1)
 
+-- t.c
+unfoldable pub qualified_at : Reader Qualified
+qualified_at tokens = do
+  table ← name_at tokens
+  dot ← fixed_at fixed.Dot table.1
+  column ← name_at dot.1
+  Ok (record { table = table.0; column = column.0 }, column.1)
+
+-- t.c op v
+unfoldable pub join_test_at : Reader JoinTest
+join_test_at tokens = do
+  column ← qualified_at tokens
+  op ← comparison_at column.1
+  value ← value_at op.1
+  Ok (record { column = column.0; comparison = op.0; value = value.0 }, value.1)
+
 -- Items before those that were read.
 abbrev pub with_front : {A : Type 0} → List A → Result (List A × List Placed) Refusal → Result (List A × List Placed) Refusal
 with_front front read = read >>= λ x. Ok (front ++ x.0, x.1)
@@ -203,6 +242,48 @@ select_at tokens = do
   limit ← limit_at order.1
   Ok (form.Select columns.0 table.0 tests.0 order.0 limit.0, limit.1)
 
+-- t.c {, t.c}
+abbrev pub qualifieds_at : Reader (List Qualified)
+qualifieds_at tokens = items_at fixed.Comma qualified_at tokens
+
+-- t.c op v {AND t.c op v}
+abbrev pub join_tests_at : Reader (List JoinTest)
+join_tests_at tokens = items_at fixed.And join_test_at tokens
+
+-- [WHERE t.c op v {AND t.c op v}]
+unfoldable pub join_where_at : Reader (List JoinTest)
+join_where_at tokens = if begins fixed.Where tokens then join_tests_at (rest_of tokens) else Ok ([], tokens)
+
+-- [ORDER BY t.c]
+unfoldable pub join_order_at : Reader (Option Qualified)
+join_order_at tokens =
+    if begins fixed.Order tokens
+    then (fixed_at fixed.By (rest_of tokens) >>= λ by. qualified_at by.1 >>= λ column. Ok (Some column.0, column.1))
+    else Ok (None, tokens)
+
+-- FROM t JOIN u ON t.c = u.d, where JOIN and ON are words that have their meaning in these places alone
+unfoldable pub joined_at : Reader Joined
+joined_at tokens = do
+  from ← fixed_at fixed.From tokens
+  table ← name_at from.1
+  join ← said_at (codes "JOIN") table.1
+  second ← name_at join.1
+  on ← said_at (codes "ON") second.1
+  left ← qualified_at on.1
+  equal ← fixed_at fixed.Equal left.1
+  right ← qualified_at equal.1
+  Ok (record { table = table.0; second = second.0; left = left.0; right = right.0 }, right.1)
+
+-- Behind SELECT: t.c {, t.c} FROM t JOIN u ON t.c = u.d [WHERE t.c op v {AND t.c op v}] [ORDER BY t.c] [LIMIT n]
+unfoldable pub join_at : Reader JoinSelect
+join_at tokens = do
+  columns ← qualifieds_at tokens
+  joined ← joined_at columns.1
+  tests ← join_where_at joined.1
+  order ← join_order_at tests.1
+  limit ← limit_at order.1
+  Ok (record { columns = columns.0; joined = joined.0; tests = tests.0; order = order.0; limit = limit.0 }, limit.1)
+
 -- Behind INSERT: INTO t ( c {, c} ) VALUES ( v {, v} )
 unfoldable pub insert_at : Reader Form
 insert_at tokens = do
@@ -234,7 +315,7 @@ delete_at tokens = do
   tests ← where_at table.1
   Ok (form.Delete table.0 tests.0, tests.1)
 
--- A statement begins with SELECT, INSERT, UPDATE or DELETE.
+-- A statement at one table begins with SELECT, INSERT, UPDATE or DELETE.
 unfoldable pub form_at : Reader Form
 form_at tokens =
     if begins fixed.Select tokens then select_at (rest_of tokens)
@@ -243,6 +324,17 @@ form_at tokens =
     else if begins fixed.Delete tokens then delete_at (rest_of tokens)
     else Err (unexpected (place_of tokens))
 
--- A whole text: a statement, and then its end.
-unfoldable pub parsed : List Placed → Result Form Refusal
-parsed tokens = form_at tokens >>= λ found. fixed_at fixed.End found.1 >>= λ end. Ok found.0
+-- A `.` behind the first word of a SELECT makes it a join.
+abbrev pub begins_join : List Placed → Bool
+begins_join tokens = begins fixed.Select tokens && begins fixed.Dot (rest_of (rest_of tokens))
+
+-- A SELECT from two tables, or a statement at one.
+abbrev pub query_at : Reader Query
+query_at tokens =
+    if begins_join tokens
+    then (join_at (rest_of tokens) >>= λ join. Ok (query.Two join.0, join.1))
+    else (form_at tokens >>= λ form. Ok (query.One form.0, form.1))
+
+-- A whole text: a query, and then its end.
+unfoldable pub parsed : List Placed → Result Query Refusal
+parsed tokens = query_at tokens >>= λ found. fixed_at fixed.End found.1 >>= λ end. Ok found.0

@@ -16,3 +16,6 @@ rule_number rule.KeySet = 8
 rule_number rule.ColumnTwice = 9
 rule_number rule.TooManyParts = 10
 rule_number rule.InsertColumns = 11
+rule_number rule.JoinKinds = 12
+rule_number rule.SelfJoin = 13
+rule_number rule.JoinSides = 14

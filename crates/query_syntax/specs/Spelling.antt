@@ -34,6 +34,7 @@ fixed_text fixed.Key = codes "KEY"
 fixed_text fixed.Open = codes "("
 fixed_text fixed.Close = codes ")"
 fixed_text fixed.Comma = codes ","
+fixed_text fixed.Dot = codes "."
 fixed_text fixed.Equal = codes "="
 fixed_text fixed.Differs = codes "<>"
 fixed_text fixed.Below = codes "<"
@@ -60,21 +61,21 @@ token_text (token.Word w) = w
 token_text (token.Parameter n) = (63 ∷ []) ++ decimal n
 token_text (token.Literal v) = value_text v
 
--- a `(`
+-- a `(` or a `.`
 abbrev pub opens : Token → Bool
-opens (token.Fixed f) = same_fixed f fixed.Open
+opens (token.Fixed f) = same_fixed f fixed.Open || same_fixed f fixed.Dot
 opens (token.Word w) = false
 opens (token.Parameter n) = false
 opens (token.Literal v) = false
 
--- a `)` or a `,`
+-- a `)`, a `,` or a `.`
 abbrev pub closes : Token → Bool
-closes (token.Fixed f) = same_fixed f fixed.Close || same_fixed f fixed.Comma
+closes (token.Fixed f) = same_fixed f fixed.Close || (same_fixed f fixed.Comma || same_fixed f fixed.Dot)
 closes (token.Word w) = false
 closes (token.Parameter n) = false
 closes (token.Literal v) = false
 
--- One space between two tokens, but none behind `(`, and none before `)` and `,`. `tight` tells that none is wanted before the first.
+-- One space between two tokens, but none behind `(` and `.`, and none before `)`, `,` and `.`. `tight` tells that none is wanted before the first.
 abbrev pub joined : Bool → List Token → List ℕ
 joined tight [] = []
 joined tight (t ∷ more) = ((if tight || closes t then [] else 32 ∷ []) ++ token_text t) ++ joined (opens t) more

@@ -38,13 +38,14 @@ fixed_number fixed.Key = 16
 fixed_number fixed.Open = 17
 fixed_number fixed.Close = 18
 fixed_number fixed.Comma = 19
-fixed_number fixed.Equal = 20
-fixed_number fixed.Differs = 21
-fixed_number fixed.Below = 22
-fixed_number fixed.AtMost = 23
-fixed_number fixed.Above = 24
-fixed_number fixed.AtLeast = 25
-fixed_number fixed.End = 26
+fixed_number fixed.Dot = 20
+fixed_number fixed.Equal = 21
+fixed_number fixed.Differs = 22
+fixed_number fixed.Below = 23
+fixed_number fixed.AtMost = 24
+fixed_number fixed.Above = 25
+fixed_number fixed.AtLeast = 26
+fixed_number fixed.End = 27
 
 -- Two tokens of one spelling are the same.
 abbrev pub same_fixed : Fixed → Fixed → Bool
@@ -204,12 +205,13 @@ abbrev pub above_at : List ℕ → Option (Token × ℕ)
 above_at [] = sign fixed.Above 1
 above_at (c ∷ more) = if c == 61 then sign fixed.AtLeast 2 else sign fixed.Above 1
 
--- A sign by its first byte: `(`, `)`, `,`, `=`, or what `<` or `>` begins.
+-- A sign by its first byte: `(`, `)`, `,`, `.`, `=`, or what `<` or `>` begins.
 abbrev pub sign_at : ℕ → List ℕ → Option (Token × ℕ)
 sign_at b more =
     if b == 40 then sign fixed.Open 1
     else if b == 41 then sign fixed.Close 1
     else if b == 44 then sign fixed.Comma 1
+    else if b == 46 then sign fixed.Dot 1
     else if b == 61 then sign fixed.Equal 1
     else if b == 60 then below_at more
     else if b == 62 then above_at more

@@ -13,7 +13,7 @@ pub enum TextRule {
     BadToken,
     /// The grammar allows no such token here, a LIMIT is out of range, or the text ends too early.
     Expected,
-    /// The table isn't declared.
+    /// The table isn't declared, or a column's is neither of the two that are joined.
     NoSuchTable,
     /// The table has no such column.
     NoSuchColumn,
@@ -31,10 +31,16 @@ pub enum TextRule {
     TooManyParts,
     /// An INSERT's columns aren't the table's in their order, or its values are more or fewer.
     InsertColumns,
+    /// The two columns of ON are of different kinds.
+    JoinKinds,
+    /// A table is joined to itself.
+    SelfJoin,
+    /// The two columns of ON are of one table.
+    JoinSides,
 }
 
 impl TextRule {
-    /// The rule's number, 1 to 11.
+    /// The rule's number, 1 to 14.
     pub fn number(self) -> u8
         ensures { result ≡ rule_number self }
     {
@@ -50,6 +56,9 @@ impl TextRule {
             TextRule::ColumnTwice => 9,
             TextRule::TooManyParts => 10,
             TextRule::InsertColumns => 11,
+            TextRule::JoinKinds => 12,
+            TextRule::SelfJoin => 13,
+            TextRule::JoinSides => 14,
         }
     }
 }

@@ -2,13 +2,14 @@
 
 ghost use Rattle.std.specs.Prelude.{◌≡◌, Option, Some, None};
 ghost use Rattle.query_syntax.specs.Answers.{Gives};
-ghost use Rattle.query_syntax.specs.Grammar.{is_token, begins, rest_of, unexpected, place_of, fixed_at, name_at, value_at, comparison_of, comparison_in, comparison_at, limit_of, limit_in, number_at};
+ghost use Rattle.query_syntax.specs.Grammar.{is_token, begins, rest_of, unexpected, place_of, fixed_at, is_word_of, says, said_at, name_at, value_at, comparison_of, comparison_in, comparison_at, limit_of, limit_in, number_at};
 
 use crate::error::{CompileError, Refusal, TextRule};
 use crate::syntax::{Given, Named, Written};
 use crate::token::{Fixed, Placed, Token};
 use okws_base::items::Exact;
 use okws_base::limit::GREATEST_LIMIT;
+use okws_base::name::are_same_word;
 use okws_base::value::Value;
 use okws_plan::statement::Comparison;
 use std::alloc::Global;
@@ -67,6 +68,36 @@ pub fn fixed_of<'a>(fixed: Fixed, tokens: &'a [Placed]) -> Read<'a, usize>
     ensures { Gives (λ x. (x.0, x.1.now)) result (fixed_at fixed tokens.now) }
 {
     if starts(fixed, tokens) {
+        Ok((first_place(tokens), after_first(tokens)))
+    } else {
+        Err(refuse(first_place(tokens)))
+    }
+}
+
+fn is_said(word: &[u8], token: &Token) -> bool
+    ensures { result ≡ is_word_of word.now token.now }
+{
+    match token {
+        Token::Word(found) => are_same_word(found.as_slice(), word),
+        Token::Fixed(_) => false,
+        Token::Parameter(_) => false,
+        Token::Literal(_) => false,
+    }
+}
+
+fn first_says(word: &[u8], tokens: &[Placed]) -> bool
+    ensures { result ≡ says word.now tokens.now }
+{
+    match tokens {
+        [] => false,
+        [first, ..] => is_said(word, &first.token),
+    }
+}
+
+pub fn said_of<'a>(word: &[u8], tokens: &'a [Placed]) -> Read<'a, usize>
+    ensures { Gives (λ x. (x.0, x.1.now)) result (said_at word.now tokens.now) }
+{
+    if first_says(word, tokens) {
         Ok((first_place(tokens), after_first(tokens)))
     } else {
         Err(refuse(first_place(tokens)))

@@ -1,4 +1,4 @@
-//! What holds of all texts and forms.
+//! What holds of all texts and queries.
 
 ghost use Rattle.query_syntax.specs.Forms.{FormsAreReadAgain};
 ghost use Rattle.query_syntax.specs.ReadAgain.{TokensAreReadAgain};
@@ -8,7 +8,7 @@ pub fn tokens_are_read_again()
     ensures { TokensAreReadAgain }
 {}
 
-/// Each form that the grammar allows is read from its tokens.
+/// Each query that the grammar allows is read from its tokens.
 pub fn forms_are_read_again()
     ensures { FormsAreReadAgain }
 {}

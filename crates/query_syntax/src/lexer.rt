@@ -299,6 +299,7 @@ fn sign_of(first: u8, more: &[u8]) -> Found
         b'(' => sign(Fixed::Open, 1),
         b')' => sign(Fixed::Close, 1),
         b',' => sign(Fixed::Comma, 1),
+        b'.' => sign(Fixed::Dot, 1),
         b'=' => sign(Fixed::Equal, 1),
         b'<' => below_of(more),
         b'>' => above_of(more),

@@ -33,6 +33,7 @@ fn fixed_bytes(fixed: Fixed) -> &'static [u8]
         Fixed::Open => b"(",
         Fixed::Close => b")",
         Fixed::Comma => b",",
+        Fixed::Dot => b".",
         Fixed::Equal => b"=",
         Fixed::Differs => b"<>",
         Fixed::Below => b"<",
@@ -97,7 +98,7 @@ fn is_open(token: &Token) -> bool
     ensures { result ≡ opens token.now }
 {
     match token {
-        Token::Fixed(fixed) => fixed.is(Fixed::Open),
+        Token::Fixed(fixed) => fixed.is(Fixed::Open) || fixed.is(Fixed::Dot),
         Token::Word(_) => false,
         Token::Parameter(_) => false,
         Token::Literal(_) => false,
@@ -108,7 +109,9 @@ fn is_close(token: &Token) -> bool
     ensures { result ≡ closes token.now }
 {
     match token {
-        Token::Fixed(fixed) => fixed.is(Fixed::Close) || fixed.is(Fixed::Comma),
+        Token::Fixed(fixed) => {
+            fixed.is(Fixed::Close) || (fixed.is(Fixed::Comma) || fixed.is(Fixed::Dot))
+        }
         Token::Word(_) => false,
         Token::Parameter(_) => false,
         Token::Literal(_) => false,

@@ -40,7 +40,41 @@ pub struct Test {
     pub value: Given,
 }
 
-/// A statement as it is written. `list` is the place of the `(` before an INSERT's columns.
+/// A column behind the word of its table.
+#[derive(Drop)]
+pub struct Qualified {
+    pub table: Named,
+    pub column: Named,
+}
+
+/// A condition on joined rows.
+#[derive(Drop)]
+pub struct JoinTest {
+    pub column: Qualified,
+    pub comparison: Comparison,
+    pub value: Given,
+}
+
+/// Two tables, and the columns that ON names, in the order in which they are written.
+#[derive(Drop)]
+pub struct Joined {
+    pub table: Named,
+    pub second: Named,
+    pub left: Qualified,
+    pub right: Qualified,
+}
+
+/// A SELECT from two tables.
+#[derive(Drop)]
+pub struct JoinSelect {
+    pub columns: Items<Qualified>,
+    pub joined: Joined,
+    pub tests: Items<JoinTest>,
+    pub order: Option<Qualified>,
+    pub limit: Option<u32>,
+}
+
+/// A statement at one table, as it is written. `list` is the place of the `(` before an INSERT's columns.
 #[derive(Drop)]
 pub enum Form {
     Select {
@@ -65,4 +99,11 @@ pub enum Form {
         table: Named,
         tests: Items<Test>,
     },
+}
+
+/// A query as it is written: a statement at one table, or a SELECT from two.
+#[derive(Drop)]
+pub enum Query {
+    One(Form),
+    Two(JoinSelect),
 }

@@ -29,6 +29,7 @@ pub enum Fixed {
     Open,
     Close,
     Comma,
+    Dot,
     Equal,
     Differs,
     Below,

@@ -1,14 +1,14 @@
 -- The canonical text of a statement compiles to it again.
-use Rattle.std.proofs.Common.{◌≡◌, ℕ, suc, zero, ◌-◌, ◌+◌, ◌≤◌, ◌<◌, Bool, true, false, ◌&&◌, List, [], ◌∷◌, ◌++◌, map, replicate, Option, Some, None, option_map, zero-add, Result, Ok, Err, refl, ap, subst, ◌∙◌, arith, length}
+use Rattle.std.proofs.Common.{◌≡◌, ℕ, zero, ◌-◌, ◌+◌, ◌≤◌, ◌<◌, Bool, true, false, ◌&&◌, List, [], ◌∷◌, ◌++◌, map, replicate, Option, Some, None, option_map, zero-add, Result, Ok, Err, refl, sym, ap, subst, ◌∙◌, arith, length}
 use Rattle.std.specs.Prelude.{nat_le, nat_lt, slice_get}
 use Rattle.std.specs.List.{list_all}
-use Rattle.std.proofs.lemmas.Bool.{false≢true, and_parts, and_from, leb-true, ltb-true}
-use Rattle.okws_base.specs.Names.{is_identifier}
+use Rattle.std.proofs.lemmas.Bool.{and_parts, and_from, leb-true, ltb-true}
 use Rattle.okws_base.specs.declared.limit.TheConstants.{MOST_PARAMETERS}
 use Rattle.okws_base.specs.declared.value.Kind.{Kind}
 use Rattle.okws_plan.specs.Configuration.{numbered_from}
 use Rattle.okws_plan.specs.Meaning.{columns_in, columns_of}
-use Rattle.okws_plan.specs.Rules.{operands_fit, conditions_fit, limit_fits, action_fits, stands_in}
+use Rattle.okws_plan.specs.Rules.{operands_fit, conditions_fit, action_fits, stands_in, join_of, join_fits, read_columns}
+use Rattle.okws_plan.specs.declared.statement.Join.{Join}
 use Rattle.okws_plan.specs.declared.configuration.Column.{Column}
 use Rattle.okws_plan.specs.declared.configuration.Table.{Table}
 use Rattle.okws_plan.specs.declared.statement.Operand.{Operand}
@@ -29,53 +29,40 @@ use Rattle.query_syntax.specs.declared.syntax.Setting.{Setting}
 use Rattle.query_syntax.specs.declared.syntax.Test.{Test}
 use Rattle.query_syntax.specs.declared.syntax.Form.{Form}
 use Rattle.query_syntax.specs.declared.syntax.Form.TheVariants as form
+use Rattle.query_syntax.specs.declared.syntax.Query.{Query}
+use Rattle.query_syntax.specs.declared.syntax.Query.TheVariants as query
 use Rattle.query_syntax.specs.Answers.{◌>>=◌}
 use Rattle.query_syntax.specs.Tokens.{tokens}
 use Rattle.query_syntax.specs.Grammar.{parsed}
-use Rattle.statement_core.specs.Canonical.{statement_tokens, canonical}
+use Rattle.statement_core.specs.Canonical.{table_token, action_tokens, select_tokens, tokens_at, statement_tokens, canonical}
 use Rattle.query_syntax.specs.Forms.{tokens_in, form_tokens, is_grammatical, has_items, may_limit, bare_name, bare_value, bare_setting, bare_test, bare, read_barely}
-use Rattle.statement_core.specs.Resolving.{Judged, table_number, nothing_found, judged_on, on_table, resolved, parts_judged, order_judged, words_judged, tests_judged, settings_judged, values_judged, list_judged, parts_excess}
+use Rattle.statement_core.specs.Resolving.{Judged, table_number, judged_on, on_table, parts_judged, words_judged, tests_judged, settings_judged, values_judged, list_judged, parts_excess}
+use Rattle.statement_core.specs.Joining.{resolved}
 use Rattle.statement_core.specs.Compiled.{compiled}
-use Rattle.query_syntax.specs.ReadAgain.{is_spelled, found_barely}
-use Rattle.statement_core.specs.Recompiled.{names_differ, is_declarable, holds_literals, StatementsCompileAgain}
+use Rattle.query_syntax.specs.ReadAgain.{is_spelled}
+use Rattle.statement_core.specs.Recompiled.{names_differ, is_declarable, are_numbered, holds_literals, StatementsCompileAgain}
 use Rattle.query_syntax.proofs.TokensAgain.{tokens_again}
 use Rattle.query_syntax.proofs.FormsAgain.{forms_again}
-use Rattle.statement_core.proofs.Stated.{bare_word, name_at, given_of, test_of, setting_of, names_of, form_on, tokens_same, all_named, form_spelled, Selects, selects, Updates, updates}
-use Rattle.statement_core.proofs.Judged.{Sound, number_is, shown, state, words_kept, tests_kept, settings_kept, values_kept, all_words_kept, as_many, list_kept, list_within, tests_within, parts_kept, taken_behind, after_conditions, after_settings, after_values}
-use Rattle.statement_core.proofs.Recompiles.{all_met, at_first, at_last, no_gap, their_kinds, numbers_again, conditions_again, assignments_again, operands_again, order_again, order_kept, IsFine, all_free, same_length, few_conditions}
-
--- at the start
-start : (columns : List Column) (kinds : List Kind) → length kinds ≤ 16 → nothing_found (length columns) ≡ state (shown (λ (k : ℕ). false) 1 (all_met kinds)) (replicate (length columns) false)
-start columns kinds few = ap (λ (met : List (Option Kind)). state met (replicate (length columns) false)) (at_first kinds few)
+use Rattle.statement_core.proofs.Stated.{bare_word, name_at, given_of, test_of, setting_of, names_of, form_on, tokens_same, form_spelled, Selects, selects, Updates, updates}
+use Rattle.statement_core.proofs.Judged.{Sound, number_is, shown, state, tests_kept, settings_kept, values_kept, all_words_kept, as_many, list_kept, list_within, tests_within, parts_kept, taken_behind, after_conditions, after_settings, after_values}
+use Rattle.statement_core.proofs.Recompiles.{all_met, at_last, no_gap, their_kinds, conditions_again, assignments_again, operands_again, IsFine, all_free, same_length, few_conditions}
+use Rattle.statement_core.proofs.SelectsAgain.{start, select_again}
+use Rattle.statement_core.proofs.Found.{found_tokens, at_place, Declared, declared, has_some, limit_low}
+use Rattle.statement_core.proofs.JoinsAgain.{joins_again}
 
 select_fine : (columns : List Column) (kinds : List Kind) (table : List ℕ) (s : Selection) (cs : List Named) (t : Named) (ts : List Test) (order : Option Named) (limit : Option ℕ) → Sound columns → length kinds ≤ 16 → Selects columns kinds s
     → list_all (λ (n : ℕ). stands_in n (action.Select s)) (numbered_from 1 (length kinds)) ≡ true → map bare_name cs ≡ map (name_at columns) s.columns → bare_name t ≡ bare_word table → map bare_test ts ≡ map (test_of columns) s.conditions
-    → option_map bare_name order ≡ option_map (name_at columns) s.order → limit ≡ s.limit → IsFine columns kinds table (action.Select s) (form.Select cs t ts order limit)
+    → option_map bare_name order ≡ option_map (name_at columns) s.order → limit ≡ s.limit → s.join ≡ None → IsFine columns kinds table (action.Select s) (form.Select cs t ts order limit)
 unfolding judged_on
-select_fine columns kinds table s cs t ts order limit sound few fits all hc ht hts ho hl =
+select_fine columns kinds table s cs t ts order limit sound few fits all hc ht hts ho hl hj =
     let taken : List Bool = replicate (length columns) false in
-    let S : ℕ → Bool = λ (k : ℕ). false in
-    let first : List (Option Kind) = shown S 1 (all_met kinds) in
-    let part = few_conditions columns kinds s.conditions fits.conditions in
-    let last : shown (after_conditions S s.conditions) 1 (all_met kinds) ≡ all_met kinds = at_last (λ (n : ℕ). stands_in n (action.Select s)) 1 kinds (16 - length kinds) all in
-    let one : words_judged columns (state first taken) cs ≡ state first taken = words_kept columns first taken s.columns cs sound fits.list hc in
-    let two : tests_judged columns (state first taken) ts ≡ state (all_met kinds) taken =
-    tests_kept columns kinds (16 - length kinds) S taken s.conditions ts sound few part.1 hts ∙ ap (λ (met : List (Option Kind)). state met taken) last in
-    let three : order_judged columns (state (all_met kinds) taken) order ≡ state (all_met kinds) taken = order_kept columns (all_met kinds) taken s.order order sound fits.order ho in
-    let columns_few : length cs ≤ 16 = omega (arith, same_length bare_name (name_at columns) cs s.columns hc, leb-true (length s.columns) 16 fits.few) in
-    let tests_few : length ts ≤ 16 = omega (arith, same_length bare_test (test_of columns) ts s.conditions hts) in
+    let again = select_again columns kinds s cs ts order sound few fits all (record { list = hc; tests = hts; order = ho }) in
     let g : Form = form.Select cs t ts order limit in
-    let four : parts_excess g ≡ None = rw (list_within cs columns_few, tests_within ts tests_few) refl in
+    let four : parts_excess g ≡ None = rw (list_within cs again.few_columns, tests_within ts again.few_tests) refl in
     record {
       taken = taken;
-      judged =
-          ap (λ (j : Judged). parts_judged (order_judged columns (tests_judged columns (words_judged columns j cs) ts) order) g) (start columns kinds few)
-          ∙ ap (λ (j : Judged). parts_judged (order_judged columns (tests_judged columns j ts) order) g) one
-          ∙ ap (λ (j : Judged). parts_judged (order_judged columns j order) g) two
-          ∙ ap (λ (j : Judged). parts_judged j g) three
-          ∙ parts_kept (all_met kinds) taken g four;
-      action =
-          rw (numbers_again columns s.columns cs sound fits.list hc, conditions_again columns kinds s.conditions ts sound few part.1 hts, order_again columns s.order order sound fits.order ho, hl) refl;
+      judged = ap (λ (j : Judged). parts_judged j g) again.judged ∙ parts_kept (all_met kinds) taken g four;
+      action = λ i. action.Select (record { join = sym hj i; columns = again.list i; conditions = again.conditions i; order = again.order i; limit = hl i });
       word = ap (λ (n : Named). n.name) ht;
     }
 
@@ -157,26 +144,26 @@ delete_fine columns kinds table cs t ts sound few fits all ht hts =
       word = ap (λ (n : Named). n.name) ht;
     }
 
-form_fine : (columns : List Column) (kinds : List Kind) (table : List ℕ) (a : Action) (g : Form) → Sound columns → length kinds ≤ 16 → action_fits columns kinds a ≡ true
+form_fine : (columns : List Column) (kinds : List Kind) (table : List ℕ) (a : Action) (g : Form) → Sound columns → length kinds ≤ 16 → join_of a ≡ None → action_fits columns kinds a ≡ true
     → list_all (λ (n : ℕ). stands_in n a) (numbered_from 1 (length kinds)) ≡ true → bare g ≡ form_on columns table a → IsFine columns kinds table a g
-form_fine columns kinds table (action.Select s) (form.Select cs t ts order limit) sound few h all e =
-    select_fine columns kinds table s cs t ts order limit sound few (selects columns kinds s h) all (cc) (cc) (cc) (cc) (cc)
-form_fine columns kinds table (action.Select s) (form.Insert t at ws vs) sound few h all e = absurd (cc)
-form_fine columns kinds table (action.Select s) (form.Update t ss ts) sound few h all e = absurd (cc)
-form_fine columns kinds table (action.Select s) (form.Delete t ts) sound few h all e = absurd (cc)
-form_fine columns kinds table (action.Insert os) (form.Select cs t ts order limit) sound few h all e = absurd (cc)
-form_fine columns kinds table (action.Insert os) (form.Insert t at ws vs) sound few h all e = insert_fine columns kinds table os t at ws vs sound few h all (cc) (cc) (cc)
-form_fine columns kinds table (action.Insert os) (form.Update t ss ts) sound few h all e = absurd (cc)
-form_fine columns kinds table (action.Insert os) (form.Delete t ts) sound few h all e = absurd (cc)
-form_fine columns kinds table (action.Update xs cs) (form.Select ws t ts order limit) sound few h all e = absurd (cc)
-form_fine columns kinds table (action.Update xs cs) (form.Insert t at ws vs) sound few h all e = absurd (cc)
-form_fine columns kinds table (action.Update xs cs) (form.Update t ss ts) sound few h all e =
+form_fine columns kinds table (action.Select s) (form.Select cs t ts order limit) sound few plain h all e =
+    select_fine columns kinds table s cs t ts order limit sound few (selects columns kinds s h) all (cc) (cc) (cc) (cc) (cc) plain
+form_fine columns kinds table (action.Select s) (form.Insert t at ws vs) sound few plain h all e = absurd (cc)
+form_fine columns kinds table (action.Select s) (form.Update t ss ts) sound few plain h all e = absurd (cc)
+form_fine columns kinds table (action.Select s) (form.Delete t ts) sound few plain h all e = absurd (cc)
+form_fine columns kinds table (action.Insert os) (form.Select cs t ts order limit) sound few plain h all e = absurd (cc)
+form_fine columns kinds table (action.Insert os) (form.Insert t at ws vs) sound few plain h all e = insert_fine columns kinds table os t at ws vs sound few h all (cc) (cc) (cc)
+form_fine columns kinds table (action.Insert os) (form.Update t ss ts) sound few plain h all e = absurd (cc)
+form_fine columns kinds table (action.Insert os) (form.Delete t ts) sound few plain h all e = absurd (cc)
+form_fine columns kinds table (action.Update xs cs) (form.Select ws t ts order limit) sound few plain h all e = absurd (cc)
+form_fine columns kinds table (action.Update xs cs) (form.Insert t at ws vs) sound few plain h all e = absurd (cc)
+form_fine columns kinds table (action.Update xs cs) (form.Update t ss ts) sound few plain h all e =
     update_fine columns kinds table xs cs t ss ts sound few (updates columns kinds xs cs h) all (cc) (cc) (cc)
-form_fine columns kinds table (action.Update xs cs) (form.Delete t ts) sound few h all e = absurd (cc)
-form_fine columns kinds table (action.Delete cs) (form.Select ws t ts order limit) sound few h all e = absurd (cc)
-form_fine columns kinds table (action.Delete cs) (form.Insert t at ws vs) sound few h all e = absurd (cc)
-form_fine columns kinds table (action.Delete cs) (form.Update t ss ts) sound few h all e = absurd (cc)
-form_fine columns kinds table (action.Delete cs) (form.Delete t ts) sound few h all e = delete_fine columns kinds table cs t ts sound few h all (cc) (cc)
+form_fine columns kinds table (action.Update xs cs) (form.Delete t ts) sound few plain h all e = absurd (cc)
+form_fine columns kinds table (action.Delete cs) (form.Select ws t ts order limit) sound few plain h all e = absurd (cc)
+form_fine columns kinds table (action.Delete cs) (form.Insert t at ws vs) sound few plain h all e = absurd (cc)
+form_fine columns kinds table (action.Delete cs) (form.Update t ss ts) sound few plain h all e = absurd (cc)
+form_fine columns kinds table (action.Delete cs) (form.Delete t ts) sound few plain h all e = delete_fine columns kinds table cs t ts sound few h all (cc) (cc)
 
 -- a form of a statement is one that the grammar allows, and has no places
 
@@ -196,14 +183,6 @@ bare_form columns table (action.Insert os) =
 bare_form columns table (action.Update xs cs) = rw (bare_again bare_setting (setting_of columns) (λ a. refl) xs, bare_again bare_test (test_of columns) (λ a. refl) cs) refl
 bare_form columns table (action.Delete cs) = rw (bare_again bare_test (test_of columns) (λ a. refl) cs) refl
 
-has_some : {A B : Type 0} (f : A → B) (xs : List A) → nat_le 1 (length xs) ≡ true → has_items (map f xs) ≡ true
-has_some f [] h = absurd (false≢true h)
-has_some f (x ∷ more) h = refl
-
-limit_low : (limit : Option ℕ) → limit_fits limit ≡ true → may_limit limit ≡ true
-limit_low None h = refl
-limit_low (Some n) h = h
-
 grammatical : (columns : List Column) (kinds : List Kind) (table : List ℕ) (a : Action) → nat_le 1 (length columns) ≡ true → action_fits columns kinds a ≡ true → is_grammatical (form_on columns table a) ≡ true
 grammatical columns kinds table (action.Select s) some h =
     let fits = selects columns kinds s h in
@@ -214,48 +193,17 @@ grammatical columns kinds table (action.Insert os) some h =
 grammatical columns kinds table (action.Update xs cs) some h = has_some (setting_of columns) xs (updates columns kinds xs cs h).some
 grammatical columns kinds table (action.Delete cs) some h = refl
 
--- what is found and read
+-- what is read
 
-record Found (ts : List Token) (found : Result (List Placed) Refusal) : Type 0 where
-  them : List Placed
-  is : found ≡ Ok them
-  are : tokens_in them ≡ ts
-
-found_tokens : (ts : List Token) (found : Result (List Placed) Refusal) → found_barely found ≡ Ok ts → Found ts found
-found_tokens ts (Ok them) e = record { them = them; is = refl; are = cc }
-found_tokens ts (Err f) e = absurd (let none : Err f ≡ Ok ts = e in cc)
-
-record ReadForm (f : Form) (read : Result Form Refusal) : Type 0 where
+record ReadForm (f : Form) (read : Result Query Refusal) : Type 0 where
   it : Form
-  is : read ≡ Ok it
+  is : read ≡ Ok (query.One it)
   same : bare it ≡ f
 
-read_form : (f : Form) (read : Result Form Refusal) → read_barely read ≡ Ok f → ReadForm f read
-read_form f (Ok it) e = record { it = it; is = refl; same = cc }
-read_form f (Err r) e = absurd (let none : Err r ≡ Ok f = e in cc)
-
--- what is known of the table
-
-at_place : {A : Type 0} (p : A → Bool) (xs : List A) (i : ℕ) → list_all p xs ≡ true → i < length xs → (x : A) × (slice_get xs i ≡ Some x) × (p x ≡ true)
-at_place p [] i h below = absurd (omega arith)
-at_place p (x ∷ more) zero h below = (x, refl, (and_parts (p x) (list_all p more) h).0)
-at_place p (x ∷ more) (suc i) h below = at_place p more i (and_parts (p x) (list_all p more) h).1 (omega arith)
-
-record Declared (t : Table) : Type 0 where
-  word : is_identifier t.name ≡ true
-  some : nat_le 1 (length t.columns) ≡ true
-  named : all_named t.columns ≡ true
-  sound : Sound t.columns
-
-declared : (t : Table) → is_declarable t ≡ true → Declared t
-declared t h =
-    let three : Bool = all_named t.columns && names_differ (λ (c : Column). c.name) t.columns in
-    let two : Bool = nat_le (length t.columns) 256 && three in
-    let a = and_parts (is_identifier t.name) (nat_le 1 (length t.columns) && two) h in
-    let b = and_parts (nat_le 1 (length t.columns)) two a.1 in
-    let c = and_parts (nat_le (length t.columns) 256) three b.1 in
-    let d = and_parts (all_named t.columns) (names_differ (λ (c : Column). c.name) t.columns) c.1 in
-    record { word = a.0; some = b.0; named = d.0; sound = record { differ = d.1; few = leb-true (length t.columns) 256 c.0 } }
+read_form : (f : Form) (read : Result Query Refusal) → read_barely read ≡ Ok (query.One f) → ReadForm f read
+read_form f (Ok (query.One it)) e = record { it = it; is = refl; same = cc }
+read_form f (Ok (query.Two it)) e = absurd (cc)
+read_form f (Err r) e = absurd (let none : Err r ≡ Ok (query.One f) = e in cc)
 
 on_its_table : (end : ℕ) (columns : List Column) (table : List ℕ) (st : Statement) (g : Form) → IsFine columns st.parameters table st.action g → on_table end columns st.table g ≡ Ok st
 unfolding on_table
@@ -264,41 +212,54 @@ on_its_table end columns table st g fine =
 
 -- the statement of a form on these tables
 resolved_again : (tables : List Table) (end : ℕ) (st : Statement) (t : Table) (g : Form) → names_differ (λ (x : Table). x.name) tables ≡ true → length tables ≤ 256 → slice_get tables st.table ≡ Some t
-    → IsFine t.columns st.parameters t.name st.action g → resolved tables end g ≡ Ok st
+    → IsFine t.columns st.parameters t.name st.action g → resolved tables end (query.One g) ≡ Ok st
 resolved_again tables end st t g differ few e fine =
     let number : table_number tables t.name ≡ Some st.table = number_is (λ (x : Table). x.name) tables st.table t differ few e in
     rw (fine.word, number, e) (on_its_table end t.columns t.name st g fine)
 
-statement_spelled : (tables : List Table) (st : Statement) (t : Table) → slice_get tables st.table ≡ Some t → statement_tokens tables st ≡ form_tokens (form_on t.columns t.name st.action)
-statement_spelled tables st t e = rw e (tokens_same t.columns t.name st.action)
+tokens_plain : (tables : List Table) (t : ℕ) (a : Action) → join_of a ≡ None → tokens_at tables t a ≡ action_tokens (columns_of tables t) (table_token tables t) a
+tokens_plain tables t (action.Select s) plain = ap (select_tokens tables t s) plain
+tokens_plain tables t (action.Insert os) plain = refl
+tokens_plain tables t (action.Update xs cs) plain = refl
+tokens_plain tables t (action.Delete cs) plain = refl
+
+statement_spelled : (tables : List Table) (st : Statement) (t : Table) → join_of st.action ≡ None → slice_get tables st.table ≡ Some t → statement_tokens tables st ≡ form_tokens (form_on t.columns t.name st.action)
+statement_spelled tables st t plain e = tokens_plain tables st.table st.action plain ∙ rw e (tokens_same t.columns t.name st.action)
 
 compiled_again : (tables : List Table) (st : Statement) (t : Table) → Declared t → length tables ≤ 256 → names_differ (λ (x : Table). x.name) tables ≡ true → slice_get tables st.table ≡ Some t → length st.parameters ≤ 16
-    → action_fits t.columns st.parameters st.action ≡ true → list_all (λ (n : ℕ). stands_in n st.action) (numbered_from 1 (length st.parameters)) ≡ true → holds_literals st.action ≡ true
+    → join_of st.action ≡ None → action_fits t.columns st.parameters st.action ≡ true → list_all (λ (n : ℕ). stands_in n st.action) (numbered_from 1 (length st.parameters)) ≡ true → holds_literals st.action ≡ true
     → compiled tables (canonical tables st) ≡ Ok st
-compiled_again tables st t known many differ e few fits all held =
+compiled_again tables st t known many differ e few plain fits all held =
     let f : Form = form_on t.columns t.name st.action in
-    let same : statement_tokens tables st ≡ form_tokens f = statement_spelled tables st t e in
+    let same : statement_tokens tables st ≡ form_tokens f = statement_spelled tables st t plain e in
     let good : list_all is_spelled (statement_tokens tables st) ≡ true = ap (list_all is_spelled) same ∙ form_spelled t.columns st.parameters t.name st.action known.named known.word few fits held in
     let found = found_tokens (statement_tokens tables st ++ token.Fixed fixed.End ∷ []) (tokens (canonical tables st)) (tokens_again (statement_tokens tables st) good) in
     let theirs : tokens_in found.them ≡ form_tokens f ++ token.Fixed fixed.End ∷ [] = found.are ∙ ap (λ (ts : List Token). ts ++ token.Fixed fixed.End ∷ []) same in
-    let read = read_form (bare f) (parsed found.them) (forms_again f (grammatical t.columns st.parameters t.name st.action known.some fits) found.them theirs) in
-    let fine = form_fine t.columns st.parameters t.name st.action read.it known.sound few fits all (read.same ∙ bare_form t.columns t.name st.action) in
+    let read = read_form (bare f) (parsed found.them) (forms_again (query.One f) (grammatical t.columns st.parameters t.name st.action known.some fits) found.them theirs) in
+    let fine = form_fine t.columns st.parameters t.name st.action read.it known.sound few plain fits all (read.same ∙ bare_form t.columns t.name st.action) in
     let last = resolved_again tables (length (canonical tables st)) st t read.it differ many e fine in
-    ap (λ (r : Result (List Placed) Refusal). r >>= λ found. parsed found >>= λ form. resolved tables (length (canonical tables st)) form) found.is
-    ∙ ap (λ (r : Result Form Refusal). r >>= λ form. resolved tables (length (canonical tables st)) form) read.is
+    ap (λ (r : Result (List Placed) Refusal). r >>= λ found. parsed found >>= λ query. resolved tables (length (canonical tables st)) query) found.is
+    ∙ ap (λ (r : Result Query Refusal). r >>= λ query. resolved tables (length (canonical tables st)) query) read.is
     ∙ last
 
 pub statements_again : StatementsCompileAgain
-statements_again tables st h held kept =
-    let b = and_parts (nat_le (length tables) 256) (list_all is_declarable tables && names_differ (λ (x : Table). x.name) tables) h in
-    let c = and_parts (list_all is_declarable tables) (names_differ (λ (x : Table). x.name) tables) b.1 in
-    let fit : Bool = action_fits (columns_of tables st.table) st.parameters st.action && list_all (λ (n : ℕ). stands_in n st.action) (numbered_from 1 (length st.parameters)) in
-    let e = and_parts (nat_lt st.table (length tables)) (nat_le (length st.parameters) MOST_PARAMETERS && fit) kept in
-    let f = and_parts (nat_le (length st.parameters) MOST_PARAMETERS) fit e.1 in
-    let place = at_place is_declarable tables st.table c.0 (ltb-true st.table (length tables) e.0) in
-    let t : Table = place.0 in
-    let columns : columns_of tables st.table ≡ t.columns = ap columns_in place.1 in
-    let few : length st.parameters ≤ 16 = leb-true (length st.parameters) 16 f.0 in
-    let P : List Column → Type 0 = λ (cs : List Column). (action_fits cs st.parameters st.action && list_all (λ (n : ℕ). stands_in n st.action) (numbered_from 1 (length st.parameters))) ≡ true in
-    let i = and_parts (action_fits t.columns st.parameters st.action) (list_all (λ (n : ℕ). stands_in n st.action) (numbered_from 1 (length st.parameters))) (subst P columns f.1) in
-    compiled_again tables st t (declared t place.2) (leb-true (length tables) 256 b.0) c.1 place.1 few i.0 i.1 held
+statements_again tables st h numbered held kept = by (join_of st.action) refl
+  where
+    by : (o : Option Join) → join_of st.action ≡ o → compiled tables (canonical tables st) ≡ Ok st
+    by None is =
+        let b = and_parts (nat_le (length tables) 256) (list_all is_declarable tables && names_differ (λ (x : Table). x.name) tables) h in
+        let c = and_parts (list_all is_declarable tables) (names_differ (λ (x : Table). x.name) tables) b.1 in
+        let all : Bool = list_all (λ (n : ℕ). stands_in n st.action) (numbered_from 1 (length st.parameters)) in
+        let P : Option Join → Type 0 = λ (o : Option Join). (nat_lt st.table (length tables) && (nat_le (length st.parameters) MOST_PARAMETERS && (join_fits tables st.table o && (action_fits (read_columns tables st.table o) st.parameters st.action && all)))) ≡ true in
+        let rules : P None = subst P is kept in
+        let fit : Bool = action_fits (columns_of tables st.table) st.parameters st.action && all in
+        let e = and_parts (nat_lt st.table (length tables)) (nat_le (length st.parameters) MOST_PARAMETERS && fit) rules in
+        let f = and_parts (nat_le (length st.parameters) MOST_PARAMETERS) fit e.1 in
+        let place = at_place is_declarable tables st.table c.0 (ltb-true st.table (length tables) e.0) in
+        let t : Table = place.0 in
+        let columns : columns_of tables st.table ≡ t.columns = ap columns_in place.1 in
+        let few : length st.parameters ≤ 16 = leb-true (length st.parameters) 16 f.0 in
+        let Q : List Column → Type 0 = λ (cs : List Column). (action_fits cs st.parameters st.action && all) ≡ true in
+        let i = and_parts (action_fits t.columns st.parameters st.action) all (subst Q columns f.1) in
+        compiled_again tables st t (declared t place.2) (leb-true (length tables) 256 b.0) c.1 place.1 few is i.0 i.1 held
+    by (Some join) is = joins_again tables st join is h (subst (λ (o : Option Join). are_numbered tables st.table o ≡ true) is numbered) held kept

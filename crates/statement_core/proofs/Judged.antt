@@ -190,7 +190,7 @@ word_kept columns i c w met taken s e h = rw (h, column_number_is columns i c s 
 column_is : (columns : List Column) (i : ℕ) (c : Column) → Sound columns → slice_get columns i ≡ Some c → column_in columns c.name ≡ Some c
 column_is columns i c s e = rw (column_number_is columns i c s e) e
 
-kind_is : (columns : List Column) (i : ℕ) (c : Column) → Sound columns → slice_get columns i ≡ Some c → kind_in columns c.name ≡ Some c.kind
+pub kind_is : (columns : List Column) (i : ℕ) (c : Column) → Sound columns → slice_get columns i ≡ Some c → kind_in columns c.name ≡ Some c.kind
 kind_is columns i c s e = ap (option_map (λ (x : Column). x.kind)) (column_is columns i c s e)
 
 -- a word that stands for a column has its name

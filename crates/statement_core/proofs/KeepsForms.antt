@@ -44,7 +44,7 @@ pub sooner_none : (a b : Option Refusal) → sooner a b ≡ None → (a ≡ None
 sooner_none a None h = (h, refl)
 sooner_none a (Some f) h = absurd (earlier_some a f h)
 
-few_from : {A : Type 0} (xs : List A) (f : A → Refusal) → option_map f (slice_get xs 16) ≡ None → length xs ≤ 16
+pub few_from : {A : Type 0} (xs : List A) (f : A → Refusal) → option_map f (slice_get xs 16) ≡ None → length xs ≤ 16
 few_from xs f h = ⊎_elim many (λ le. le) (cases_lt 16 (length xs))
   where
     many : 16 < length xs → length xs ≤ 16
@@ -113,7 +113,7 @@ limit_low (Some n) h = h
 
 selection_kept : (columns : List Column) (ks : List Kind) (cs : List ℕ) (conditions : List Condition) (order limit : Option ℕ) → nat_le 1 (length cs) ≡ true → length cs ≤ 16 → list_all (λ (c : ℕ). is_column columns c) cs ≡ true
     → conditions_fit columns ks conditions ≡ true → order_fits columns order ≡ true → limit_fits limit ≡ true
-    → selection_fits columns ks (record { columns = cs; conditions = conditions; order = order; limit = limit }) ≡ true
+    → selection_fits columns ks (record { join = None; columns = cs; conditions = conditions; order = order; limit = limit }) ≡ true
 selection_kept columns ks cs conditions order limit a b c d e f =
     let last : Bool = order_fits columns order && limit_fits limit in
     let four : Bool = conditions_fit columns ks conditions && last in

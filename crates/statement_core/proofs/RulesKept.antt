@@ -1,5 +1,5 @@
 -- A form that breaks no rule is compiled to a statement that keeps them.
-use Rattle.std.proofs.Common.{◌≡◌, ℕ, ◌<◌, Bool, true, false, ◌&&◌, cond, List, [], ◌∷◌, ◌++◌, Option, Some, None, is_none, Result, Ok, Err, refl, sym, ap, ◌∙◌, length, pos, negsuc}
+use Rattle.std.proofs.Common.{◌≡◌, ℕ, ◌<◌, Bool, true, false, ◌&&◌, cond, List, [], ◌∷◌, ◌++◌, Option, Some, None, is_none, Result, Ok, Err, refl, sym, ap, subst, ◌∙◌, length, pos, negsuc}
 use Rattle.std.specs.Prelude.{nat_le, nat_lt, if◌then◌else◌, IfOk, IsTrue}
 use Rattle.std.specs.List.{list_all, position_or_len}
 use Rattle.std.proofs.lemmas.Bool.{and_parts, and_from, lt-ltb, le-leb}
@@ -8,7 +8,7 @@ use Rattle.okws_base.specs.declared.limit.TheConstants.{MOST_PARAMETERS, GREATES
 use Rattle.okws_base.specs.declared.value.Kind.{Kind}
 use Rattle.okws_plan.specs.Configuration.{numbered_from}
 use Rattle.okws_plan.specs.Meaning.{columns_of}
-use Rattle.okws_plan.specs.Rules.{action_fits, stands_in, keeps_rules}
+use Rattle.okws_plan.specs.Rules.{action_fits, stands_in, keeps_rules, join_of, join_fits, read_columns}
 use Rattle.okws_plan.specs.declared.configuration.Column.{Column}
 use Rattle.okws_plan.specs.declared.configuration.Table.{Table}
 use Rattle.okws_plan.specs.declared.statement.Action.{Action}
@@ -22,6 +22,13 @@ use Rattle.query_syntax.specs.declared.syntax.Setting.{Setting}
 use Rattle.query_syntax.specs.declared.syntax.Test.{Test}
 use Rattle.query_syntax.specs.declared.syntax.Form.{Form}
 use Rattle.query_syntax.specs.declared.syntax.Form.TheVariants as form
+use Rattle.query_syntax.specs.declared.syntax.Qualified.{Qualified}
+use Rattle.query_syntax.specs.declared.syntax.JoinTest.{JoinTest}
+use Rattle.query_syntax.specs.declared.syntax.Joined.{Joined}
+use Rattle.query_syntax.specs.declared.syntax.JoinSelect.{JoinSelect}
+use Rattle.query_syntax.specs.declared.syntax.Query.{Query}
+use Rattle.query_syntax.specs.declared.syntax.Query.TheVariants as query
+use Rattle.okws_plan.specs.declared.statement.Join.{Join}
 use Rattle.query_syntax.specs.declared.token.Placed.{Placed}
 use Rattle.query_syntax.specs.Answers.{◌>>=◌, Gives}
 use Rattle.query_syntax.specs.Tokens.{tokens}
@@ -30,10 +37,12 @@ use Rattle.query_syntax.specs.declared.token.Fixed.TheVariants as fixed
 use Rattle.query_syntax.specs.declared.token.Token.{Token}
 use Rattle.query_syntax.specs.declared.token.Token.TheVariants as token
 use Rattle.okws_base.specs.declared.value.Value.TheVariants as value
-use Rattle.query_syntax.specs.Grammar.{Reader, begins, rest_of, place_of, unexpected, fixed_at, name_at, value_at, given_or, limit_in, number_at, with_front, more_at, items_at, names_at, values_at, setting_at, settings_at, where_at, order_at, limit_at, select_at, insert_at, update_at, delete_at, form_at, parsed}
-use Rattle.query_syntax.specs.Forms.{is_grammatical, has_items, may_limit}
+use Rattle.query_syntax.specs.Grammar.{Reader, begins, rest_of, place_of, unexpected, fixed_at, name_at, value_at, given_or, limit_in, number_at, with_front, more_at, items_at, names_at, values_at, setting_at, settings_at, where_at, order_at, limit_at, select_at, qualified_at, qualifieds_at, join_where_at, join_order_at, joined_at, join_at, begins_join, query_at, insert_at, update_at, delete_at, form_at, parsed}
+use Rattle.query_syntax.specs.Forms.{is_grammatical, is_allowed, has_items, may_limit}
 use Rattle.statement_core.specs.Compiled.{compiled}
-use Rattle.statement_core.specs.Resolving.{Judged, table_number, columns_judged, tests_excess, parts_excess, table_word, nothing_found, has_gap, parameters, action_of, fault_of, unless, judged_on, statement_of, on_table, undeclared, resolved_at, resolved}
+use Rattle.statement_core.specs.Resolving.{Judged, table_number, columns_judged, tests_excess, parts_excess, table_word, nothing_found, has_gap, parameters, action_of, fault_of, unless, judged_on, statement_of, on_table, undeclared, resolved_at}
+use Rattle.statement_core.specs.Joining.{join_undeclared, join_resolved_at, resolved}
+use Rattle.statement_core.proofs.JoinsKept.{tables_keep}
 use Rattle.statement_core.specs.Recompiled.{CompiledKeepsRules}
 use Rattle.statement_core.proofs.Keeps.{found_inside}
 use Rattle.statement_core.proofs.KeepsForms.{sooner_none, FitsAll, select_keeps, insert_keeps, update_keeps, delete_keeps}
@@ -78,6 +87,12 @@ given_unless : (o : Option Refusal) (a b : Statement) → unless o a ≡ Ok b �
 given_unless None a b h = (refl, cc)
 given_unless (Some f) a b h = absurd (let none : Err f ≡ Ok b = h in cc)
 
+no_join : (columns : List Column) (f : Form) → join_of (action_of columns f) ≡ None
+no_join columns (form.Select cs t ts order limit) = refl
+no_join columns (form.Insert t at ws vs) = refl
+no_join columns (form.Update t ss ts) = refl
+no_join columns (form.Delete t ts) = refl
+
 kept_on : (tables : List Table) (t : ℕ) (columns : List Column) (f : Form) → columns_of tables t ≡ columns → t < length tables → FitsAll columns f (judged_on columns f).met
     → keeps_rules tables (statement_of columns t f (judged_on columns f)) ≡ true
 kept_on tables t columns f same below lawful' =
@@ -85,8 +100,11 @@ kept_on tables t columns f same below lawful' =
     let a : Action = action_of columns f in
     let fits : action_fits (columns_of tables t) ks a ≡ true = ap (λ (cs : List Column). action_fits cs ks a) same ∙ lawful'.fits in
     let all : Bool = list_all (λ (n : ℕ). stands_in n a) (numbered_from 1 (length ks)) in
+    let P : Option Join → Type 0 = λ (o : Option Join). (nat_lt t (length tables) && (nat_le (length ks) MOST_PARAMETERS && (join_fits tables t o && (action_fits (read_columns tables t o) ks a && all)))) ≡ true in
+    let plain : P None =
     and_from (nat_lt t (length tables)) (nat_le (length ks) MOST_PARAMETERS && (action_fits (columns_of tables t) ks a && all)) (lt-ltb t (length tables) below)
-    (and_from (nat_le (length ks) MOST_PARAMETERS) (action_fits (columns_of tables t) ks a && all) (le-leb (length ks) 16 lawful'.few) (and_from (action_fits (columns_of tables t) ks a) all fits lawful'.all))
+    (and_from (nat_le (length ks) MOST_PARAMETERS) (action_fits (columns_of tables t) ks a && all) (le-leb (length ks) 16 lawful'.few) (and_from (action_fits (columns_of tables t) ks a) all fits lawful'.all)) in
+    subst P (sym (no_join columns f)) plain
 
 on_table_keeps : (tables : List Table) (end t : ℕ) (f : Form) (st : Statement) → is_grammatical f ≡ true → t < length tables → on_table end (columns_of tables t) t f ≡ Ok st → keeps_rules tables st ≡ true
 unfolding on_table
@@ -97,15 +115,32 @@ on_table_keeps tables end t f st g below h =
     let clean = no_fault end j given.0 in
     ap (keeps_rules tables) (sym given.1) ∙ kept_on tables t columns f refl below (form_keeps columns f g clean.0 clean.1)
 
-resolved_keeps : (tables : List Table) (end : ℕ) (f : Form) (st : Statement) → is_grammatical f ≡ true → resolved tables end f ≡ Ok st → keeps_rules tables st ≡ true
-resolved_keeps tables end f st g h = by_number (table_number tables (table_word f).name) refl h
+form_resolved : (tables : List Table) (end : ℕ) (f : Form) (st : Statement) → is_grammatical f ≡ true → resolved tables end (query.One f) ≡ Ok st → keeps_rules tables st ≡ true
+form_resolved tables end f st g h = by_number (table_number tables (table_word f).name) refl h
   where
     by_number : (o : Option ℕ) → table_number tables (table_word f).name ≡ o → resolved_at tables end f o ≡ Ok st → keeps_rules tables st ≡ true
     by_number None e h = absurd (let none : Err (undeclared f) ≡ Ok st = h in cc)
     by_number (Some t) e h =
         on_table_keeps tables end t f st g (found_inside (position_or_len (λ (x : Table). same_bytes x.name (table_word f).name) tables) (length tables) t e) h
 
--- what is read is a form that the grammar allows
+table_there : (tables : List Table) (name : List ℕ) (t : ℕ) → table_number tables name ≡ Some t → t < length tables
+table_there tables name t e = found_inside (position_or_len (λ (x : Table). same_bytes x.name name) tables) (length tables) t e
+
+join_resolved : (tables : List Table) (end : ℕ) (s : JoinSelect) (st : Statement) → has_items s.columns ≡ true → may_limit s.limit ≡ true → resolved tables end (query.Two s) ≡ Ok st → keeps_rules tables st ≡ true
+join_resolved tables end s st some low h = by_numbers (table_number tables s.joined.table.name) refl (table_number tables s.joined.second.name) refl h
+  where
+    by_numbers : (o : Option ℕ) → table_number tables s.joined.table.name ≡ o → (p : Option ℕ) → table_number tables s.joined.second.name ≡ p → join_resolved_at tables end s o p ≡ Ok st → keeps_rules tables st ≡ true
+    by_numbers None e p f h = absurd (let none : Err (join_undeclared tables None s) ≡ Ok st = h in cc)
+    by_numbers (Some t) e None f h = absurd (let none : Err (join_undeclared tables (Some t) s) ≡ Ok st = h in cc)
+    by_numbers (Some t) e (Some u) f h = tables_keep tables end t u s st some low (table_there tables s.joined.table.name t e) (table_there tables s.joined.second.name u f) no_fault h
+
+resolved_keeps : (tables : List Table) (end : ℕ) (q : Query) (st : Statement) → is_allowed q ≡ true → resolved tables end q ≡ Ok st → keeps_rules tables st ≡ true
+resolved_keeps tables end (query.One f) st g h = form_resolved tables end f st g h
+resolved_keeps tables end (query.Two s) st g h =
+    let both = and_parts (has_items s.columns) (may_limit s.limit) g in
+    join_resolved tables end s st both.0 both.1 h
+
+-- what is read is a query that the grammar allows
 
 abbrev done : {A : Type 0} → A → Result A Refusal
 done x = Ok x
@@ -229,18 +264,48 @@ form_allowed ps f rest h = by_tests (begins fixed.Select ps) (begins fixed.Inser
     by_tests false false false true h = delete_allowed (rest_of ps) f rest h
     by_tests false false false false h = absurd (let none : Err (unexpected (place_of ps)) ≡ Ok (f, rest) = h in cc)
 
-parsed_allowed : (ps : List Placed) (f : Form) → parsed ps ≡ Ok f → is_grammatical f ≡ true
+-- the parts of a SELECT from two tables
+abbrev join_of_parts : List Qualified → Joined → List JoinTest → Option Qualified → Option ℕ → JoinSelect
+join_of_parts columns joined tests order limit = record { columns = columns; joined = joined; tests = tests; order = order; limit = limit }
+
+join_allowed : (ps : List Placed) (s : JoinSelect) (rest : List Placed) → join_at ps ≡ Ok (s, rest) → (has_items s.columns && may_limit s.limit) ≡ true
+unfolding join_at
+join_allowed ps s rest h =
+    let s_columns = bound (qualifieds_at ps) (λ (columns : List Qualified × List Placed). joined_at columns.1 >>= λ joined. join_where_at joined.1 >>= λ tests. join_order_at tests.1 >>= λ order. limit_at order.1 >>= λ limit. Ok (join_of_parts columns.0 joined.0 tests.0 order.0 limit.0, limit.1)) (s, rest) h in
+    let s_joined = bound (joined_at s_columns.0.1) (λ (joined : Joined × List Placed). join_where_at joined.1 >>= λ tests. join_order_at tests.1 >>= λ order. limit_at order.1 >>= λ limit. Ok (join_of_parts s_columns.0.0 joined.0 tests.0 order.0 limit.0, limit.1)) (s, rest) s_columns.2 in
+    let s_tests = bound (join_where_at s_joined.0.1) (λ (tests : List JoinTest × List Placed). join_order_at tests.1 >>= λ order. limit_at order.1 >>= λ limit. Ok (join_of_parts s_columns.0.0 s_joined.0.0 tests.0 order.0 limit.0, limit.1)) (s, rest) s_joined.2 in
+    let s_order = bound (join_order_at s_tests.0.1) (λ (order : Option Qualified × List Placed). limit_at order.1 >>= λ limit. Ok (join_of_parts s_columns.0.0 s_joined.0.0 s_tests.0.0 order.0 limit.0, limit.1)) (s, rest) s_tests.2 in
+    let s_limit = bound (limit_at s_order.0.1) (λ (limit : Option ℕ × List Placed). Ok (join_of_parts s_columns.0.0 s_joined.0.0 s_tests.0.0 s_order.0.0 limit.0, limit.1)) (s, rest) s_order.2 in
+    let it : JoinSelect = join_of_parts s_columns.0.0 s_joined.0.0 s_tests.0.0 s_order.0.0 s_limit.0.0 in
+    let same : it ≡ s = is_read it s s_limit.0.1 rest s_limit.2 in
+    ap (λ (j : JoinSelect). has_items j.columns && may_limit j.limit) (sym same)
+    ∙ and_from (has_items s_columns.0.0) (may_limit s_limit.0.0) (items_some fixed.Comma qualified_at ps s_columns.0.0 s_columns.0.1 s_columns.1) (limit_may s_order.0.1 s_limit.0.0 s_limit.0.1 s_limit.1)
+
+query_allowed : (ps : List Placed) (q : Query) (rest : List Placed) → query_at ps ≡ Ok (q, rest) → is_allowed q ≡ true
+query_allowed ps q rest h = by_test (begins_join ps) h
+  where
+    by_test : (b : Bool) → cond b (join_at (rest_of ps) >>= λ join. read_with (query.Two join.0) join.1) (form_at ps >>= λ form. read_with (query.One form.0) form.1) ≡ Ok (q, rest) → is_allowed q ≡ true
+    by_test true h =
+        let found = bound (join_at (rest_of ps)) (λ (join : JoinSelect × List Placed). read_with (query.Two join.0) join.1) (q, rest) h in
+        let same : query.Two found.0.0 ≡ q = is_read (query.Two found.0.0) q found.0.1 rest found.2 in
+        ap is_allowed (sym same) ∙ join_allowed (rest_of ps) found.0.0 found.0.1 found.1
+    by_test false h =
+        let found = bound (form_at ps) (λ (form : Form × List Placed). read_with (query.One form.0) form.1) (q, rest) h in
+        let same : query.One found.0.0 ≡ q = is_read (query.One found.0.0) q found.0.1 rest found.2 in
+        ap is_allowed (sym same) ∙ form_allowed ps found.0.0 found.0.1 found.1
+
+parsed_allowed : (ps : List Placed) (q : Query) → parsed ps ≡ Ok q → is_allowed q ≡ true
 unfolding parsed
-parsed_allowed ps f h =
-    let found = bound (form_at ps) (λ (found : Form × List Placed). fixed_at fixed.End found.1 >>= λ end. Ok found.0) f h in
-    let last = bound (fixed_at fixed.End found.0.1) (λ (end : ℕ × List Placed). Ok found.0.0) f found.2 in
-    let same : found.0.0 ≡ f = is_done found.0.0 f last.2 in
-    ap is_grammatical (sym same) ∙ form_allowed ps found.0.0 found.0.1 found.1
+parsed_allowed ps q h =
+    let found = bound (query_at ps) (λ (found : Query × List Placed). fixed_at fixed.End found.1 >>= λ end. Ok found.0) q h in
+    let last = bound (fixed_at fixed.End found.0.1) (λ (end : ℕ × List Placed). Ok found.0.0) q found.2 in
+    let same : found.0.0 ≡ q = is_done found.0.0 q last.2 in
+    ap is_allowed (sym same) ∙ query_allowed ps found.0.0 found.0.1 found.1
 
 pub compiled_keeps : CompiledKeepsRules
 compiled_keeps tables text st h =
-    let found = bound (tokens text) (λ (found : List Placed). parsed found >>= λ form. resolved tables (length text) form) st h in
-    let read = bound (parsed found.0) (λ (form : Form). resolved tables (length text) form) st found.2 in
+    let found = bound (tokens text) (λ (found : List Placed). parsed found >>= λ query. resolved tables (length text) query) st h in
+    let read = bound (parsed found.0) (λ (query : Query). resolved tables (length text) query) st found.2 in
     resolved_keeps tables (length text) read.0 st (parsed_allowed found.0 read.0 read.1) read.2
 
 -- what a call answers

@@ -68,7 +68,7 @@ form_on columns table (action.Delete conditions) = form.Delete (bare_word table)
 
 -- its tokens are the statement's
 
-operand_same : (o : Operand) → operand_token o ≡ written_token (written_of o)
+pub operand_same : (o : Operand) → operand_token o ≡ written_token (written_of o)
 operand_same (operand.Parameter n) = refl
 operand_same (operand.Literal v) = refl
 
@@ -116,7 +116,7 @@ order_same : (columns : List Column) (order : Option ℕ) → order_tokens colum
 order_same columns None = refl
 order_same columns (Some c) = refl
 
-regroup_five : (a b c d e : List Token) → (((a ++ b) ++ c) ++ d) ++ e ≡ a ++ (b ++ (c ++ (d ++ e)))
+pub regroup_five : (a b c d e : List Token) → (((a ++ b) ++ c) ++ d) ++ e ≡ a ++ (b ++ (c ++ (d ++ e)))
 regroup_five a b c d e = simp append_assoc
 
 regroup_four : (a b c d : List Token) → ((a ++ b) ++ c) ++ d ≡ a ++ (b ++ (c ++ d))
@@ -141,13 +141,13 @@ tokens_same columns table (action.Delete conditions) = rw (tests_same columns co
 abbrev pub spelled : List Token → Type 0
 spelled ts = list_all is_spelled ts ≡ true
 
-spelled_both : (xs ys : List Token) → spelled xs → spelled ys → spelled (xs ++ ys)
+pub spelled_both : (xs ys : List Token) → spelled xs → spelled ys → spelled (xs ++ ys)
 spelled_both [] ys h k = k
 spelled_both (x ∷ xs) ys h k =
     let both = and_parts (is_spelled x) (list_all is_spelled xs) h in
     rw (both.0, spelled_both xs ys both.1 k) refl
 
-spelled_cons : (x : Token) (xs : List Token) → is_spelled x ≡ true → spelled xs → spelled (x ∷ xs)
+pub spelled_cons : (x : Token) (xs : List Token) → is_spelled x ≡ true → spelled xs → spelled (x ∷ xs)
 spelled_cons x xs h k = rw (h, k) refl
 
 spelled_behind : {A B : Type 0} (s : Fixed) (good : A → Bool) (f : A → B) (spell : B → List Token) → not (same_fixed s fixed.End) ≡ true → ((a : A) → good a ≡ true → spelled (spell (f a)))
@@ -158,14 +158,14 @@ spelled_behind s good f spell sign each (x ∷ more) h =
     spelled_cons (token.Fixed s) (spell (f x) ++ behind_separators s spell (map f more)) sign
     (spelled_both (spell (f x)) (behind_separators s spell (map f more)) (each x both.0) (spelled_behind s good f spell sign each more both.1))
 
-spelled_separated : {A B : Type 0} (s : Fixed) (good : A → Bool) (f : A → B) (spell : B → List Token) → not (same_fixed s fixed.End) ≡ true → ((a : A) → good a ≡ true → spelled (spell (f a)))
+pub spelled_separated : {A B : Type 0} (s : Fixed) (good : A → Bool) (f : A → B) (spell : B → List Token) → not (same_fixed s fixed.End) ≡ true → ((a : A) → good a ≡ true → spelled (spell (f a)))
     → (xs : List A) → list_all good xs ≡ true → spelled (separated s spell (map f xs))
 spelled_separated s good f spell sign each [] h = refl
 spelled_separated s good f spell sign each (x ∷ more) h =
     let both = and_parts (good x) (list_all good more) h in
     spelled_both (spell (f x)) (behind_separators s spell (map f more)) (each x both.0) (spelled_behind s good f spell sign each more both.1)
 
-spelled_name : (w : List ℕ) → is_identifier w ≡ true → is_spelled (token.Word w) ≡ true
+pub spelled_name : (w : List ℕ) → is_identifier w ≡ true → is_spelled (token.Word w) ≡ true
 spelled_name w h = (and_parts (nat_le (length w) 64) (is_word w && not (is_keyword w)) h).1
 
 -- the columns have identifiers
@@ -188,7 +188,7 @@ column_there (x ∷ more) (suc c) h =
     let below : suc c < suc (length more) = ltb-true (suc c) (suc (length more)) h in
     column_there more c (lt-ltb c (length more) (omega arith))
 
-spelled_column : (columns : List Column) → all_named columns ≡ true → (c : ℕ) → is_column columns c ≡ true → is_spelled (token.Word (name_at columns c).name) ≡ true
+pub spelled_column : (columns : List Column) → all_named columns ≡ true → (c : ℕ) → is_column columns c ≡ true → is_spelled (token.Word (name_at columns c).name) ≡ true
 spelled_column columns named c h =
     let there = column_there columns c h in
     rw there.1 (spelled_name there.0.name (named_at columns c there.0 named there.1))
@@ -199,7 +199,7 @@ parameter_within [] i kind h = absurd (false≢true h)
 parameter_within (k ∷ more) zero kind h = omega arith
 parameter_within (k ∷ more) (suc i) kind h = let below = parameter_within more i kind h in omega arith
 
-spelled_operand : (parameters : List Kind) (kind : Kind) (o : Operand) → length parameters ≤ 16 → operand_fits parameters kind o ≡ true → holds_literal o ≡ true → is_spelled (written_token (written_of o)) ≡ true
+pub spelled_operand : (parameters : List Kind) (kind : Kind) (o : Operand) → length parameters ≤ 16 → operand_fits parameters kind o ≡ true → holds_literal o ≡ true → is_spelled (written_token (written_of o)) ≡ true
 spelled_operand parameters kind (operand.Literal v) few h k = k
 spelled_operand parameters kind (operand.Parameter n) few h k =
     let both = and_parts (nat_le 1 n) (is_of_kind kind (slice_get parameters (n - 1))) h in
@@ -222,7 +222,7 @@ spelled_pair columns parameters c o named few h k =
     (rw fits.1 (spelled_name fits.0.name (named_at columns c fits.0 named fits.1)), spelled_operand parameters fits.0.kind o few fits.2 k)
 
 -- two tests of each item
-all_both : {A : Type 0} (p q : A → Bool) (xs : List A) → list_all p xs ≡ true → list_all q xs ≡ true → list_all (λ (x : A). p x && q x) xs ≡ true
+pub all_both : {A : Type 0} (p q : A → Bool) (xs : List A) → list_all p xs ≡ true → list_all q xs ≡ true → list_all (λ (x : A). p x && q x) xs ≡ true
 all_both p q [] h k = refl
 all_both p q (x ∷ more) h k =
     let one = and_parts (p x) (list_all p more) h in
@@ -232,7 +232,7 @@ all_both p q (x ∷ more) h k =
 abbrev good_condition : List Column → List Kind → Condition → Bool
 good_condition columns parameters c = condition_fits columns parameters c && holds_literal c.operand
 
-sign_spelled : (c : Comparison) → is_spelled (token.Fixed (comparison_sign c)) ≡ true
+pub sign_spelled : (c : Comparison) → is_spelled (token.Fixed (comparison_sign c)) ≡ true
 sign_spelled comparison.Equal = refl
 sign_spelled comparison.Differs = refl
 sign_spelled comparison.Below = refl
@@ -268,7 +268,7 @@ spelled_order : (columns : List Column) → all_named columns ≡ true → (orde
 spelled_order columns named None h = refl
 spelled_order columns named (Some c) h = rw (spelled_column columns named c h) refl
 
-spelled_limit : (limit : Option ℕ) → limit_fits limit ≡ true → spelled (limit_tokens limit)
+pub spelled_limit : (limit : Option ℕ) → limit_fits limit ≡ true → spelled (limit_tokens limit)
 spelled_limit None h = refl
 spelled_limit (Some n) h =
     let low : n ≤ GREATEST_LIMIT = leb-true n GREATEST_LIMIT h in

@@ -1,5 +1,5 @@
 -- The canonical text of a statement.
-use Rattle.std.specs.Prelude.{ℕ, Bool, true, false, List, [], ◌∷◌, ◌++◌, Option, Some, None, slice_get, if◌then◌else◌}
+use Rattle.std.specs.Prelude.{ℕ, ◌-◌, nat_lt, length, codes, Bool, true, false, List, [], ◌∷◌, ◌++◌, Option, Some, None, slice_get, if◌then◌else◌}
 use Rattle.okws_plan.specs.Meaning.{columns_of}
 use Rattle.okws_plan.specs.declared.configuration.Column.{Column}
 use Rattle.okws_plan.specs.declared.configuration.Table.{Table}
@@ -7,6 +7,8 @@ use Rattle.okws_plan.specs.declared.statement.Operand.{Operand}
 use Rattle.okws_plan.specs.declared.statement.Operand.TheVariants as operand
 use Rattle.okws_plan.specs.declared.statement.Condition.{Condition}
 use Rattle.okws_plan.specs.declared.statement.Assignment.{Assignment}
+use Rattle.okws_plan.specs.declared.statement.Join.{Join}
+use Rattle.okws_plan.specs.declared.statement.Selection.{Selection}
 use Rattle.okws_plan.specs.declared.statement.Action.{Action}
 use Rattle.okws_plan.specs.declared.statement.Action.TheVariants as action
 use Rattle.okws_plan.specs.declared.statement.Statement.{Statement}
@@ -76,7 +78,7 @@ abbrev pub order_tokens : List Column → Option ℕ → List Token
 order_tokens columns None = []
 order_tokens columns (Some c) = token.Fixed fixed.Order ∷ token.Fixed fixed.By ∷ column_token columns c ∷ []
 
--- The tokens of an action on the table of this name, in the order of the grammar.
+-- The tokens of an action on one table, of this name, in the order of the grammar.
 abbrev pub action_tokens : List Column → Token → Action → List Token
 action_tokens columns table (action.Select s) =
     ((((token.Fixed fixed.Select ∷ []) ++ column_tokens columns true s.columns) ++ token.Fixed fixed.From ∷ table ∷ []) ++ condition_tokens columns true s.conditions ++ order_tokens columns s.order) ++ limit_tokens s.limit
@@ -87,9 +89,54 @@ action_tokens columns table (action.Update assignments conditions) =
 action_tokens columns table (action.Delete conditions) =
     (token.Fixed fixed.Delete ∷ token.Fixed fixed.From ∷ table ∷ []) ++ condition_tokens columns true conditions
 
+-- t.c: a column of joined rows behind the name of its table, where the first table has number t and the second number u.
+abbrev pub side_tokens : List Table → ℕ → ℕ → ℕ → List Token
+side_tokens tables t u c =
+    if nat_lt c (length (columns_of tables t)) then table_token tables t ∷ token.Fixed fixed.Dot ∷ column_token (columns_of tables t) c ∷ []
+    else table_token tables u ∷ token.Fixed fixed.Dot ∷ column_token (columns_of tables u) (c - length (columns_of tables t)) ∷ []
+
+-- t.c {, t.c}, where each column is spelled so
+abbrev pub side_list_tokens : (ℕ → List Token) → Bool → List ℕ → List Token
+side_list_tokens spell is_first [] = []
+side_list_tokens spell is_first (c ∷ more) = (before is_first fixed.Comma ++ spell c) ++ side_list_tokens spell false more
+
+-- WHERE t.c op v {AND t.c op v}, and nothing without a condition
+abbrev pub side_condition_tokens : (ℕ → List Token) → Bool → List Condition → List Token
+side_condition_tokens spell is_first [] = []
+side_condition_tokens spell is_first (c ∷ more) =
+    (((token.Fixed (if is_first then fixed.Where else fixed.And) ∷ []) ++ spell c.column) ++ token.Fixed (comparison_sign c.comparison) ∷ operand_token c.operand ∷ [])
+    ++ side_condition_tokens spell false more
+
+-- ORDER BY t.c, and nothing without an order.
+abbrev pub side_order_tokens : (ℕ → List Token) → Option ℕ → List Token
+side_order_tokens spell None = []
+side_order_tokens spell (Some c) = (token.Fixed fixed.Order ∷ token.Fixed fixed.By ∷ []) ++ spell c
+
+-- FROM t JOIN u ON t.c = u.d
+abbrev pub sides_tokens : (ℕ → List Token) → Token → Token → Join → List Token
+sides_tokens spell table second join =
+    (((token.Fixed fixed.From ∷ table ∷ token.Word (codes "JOIN") ∷ second ∷ token.Word (codes "ON") ∷ []) ++ spell join.left) ++ token.Fixed fixed.Equal ∷ []) ++ spell join.right
+
+-- The tokens of a SELECT from two tables of these names, where each column is spelled so.
+abbrev pub pair_tokens : (ℕ → List Token) → Token → Token → Join → Selection → List Token
+pair_tokens spell table second join s =
+    (((((token.Fixed fixed.Select ∷ []) ++ side_list_tokens spell true s.columns) ++ sides_tokens spell table second join) ++ side_condition_tokens spell true s.conditions) ++ side_order_tokens spell s.order) ++ limit_tokens s.limit
+
+-- The tokens of a SELECT from table t.
+abbrev pub select_tokens : List Table → ℕ → Selection → Option Join → List Token
+select_tokens tables t s None = action_tokens (columns_of tables t) (table_token tables t) (action.Select s)
+select_tokens tables t s (Some join) = pair_tokens (side_tokens tables t join.table) (table_token tables t) (table_token tables join.table) join s
+
+-- The tokens of an action at table t.
+abbrev pub tokens_at : List Table → ℕ → Action → List Token
+tokens_at tables t (action.Select s) = select_tokens tables t s s.join
+tokens_at tables t (action.Insert values) = action_tokens (columns_of tables t) (table_token tables t) (action.Insert values)
+tokens_at tables t (action.Update assignments conditions) = action_tokens (columns_of tables t) (table_token tables t) (action.Update assignments conditions)
+tokens_at tables t (action.Delete conditions) = action_tokens (columns_of tables t) (table_token tables t) (action.Delete conditions)
+
 -- The tokens of a statement.
 abbrev pub statement_tokens : List Table → Statement → List Token
-statement_tokens tables st = action_tokens (columns_of tables st.table) (table_token tables st.table) st.action
+statement_tokens tables st = tokens_at tables st.table st.action
 
 -- The canonical text of a statement on these tables.
 abbrev pub canonical : List Table → Statement → List ℕ

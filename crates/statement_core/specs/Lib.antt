@@ -1,3 +1,4 @@
+pub mod Joining
 pub mod Resolving
 pub mod Compiled
 pub mod Canonical

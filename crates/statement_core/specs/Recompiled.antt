@@ -1,9 +1,10 @@
 -- What canonical texts stand for: which tokens are read from them, and which statements.
-use Rattle.std.specs.Prelude.{◌≡◌, ℕ, Bool, true, not, ◌&&◌, nat_le, IsTrue, List, [], ◌∷◌, length, Ok}
+use Rattle.std.specs.Prelude.{◌≡◌, ℕ, Bool, true, not, ◌&&◌, nat_le, IsTrue, List, [], ◌∷◌, length, Option, Some, None, Ok}
 use Rattle.std.specs.List.{list_all, list_any}
 use Rattle.okws_base.specs.Names.{is_identifier}
 use Rattle.okws_base.specs.Value.{same_bytes}
-use Rattle.okws_plan.specs.Rules.{keeps_rules}
+use Rattle.okws_plan.specs.Rules.{keeps_rules, join_of, read_columns}
+use Rattle.okws_plan.specs.declared.statement.Join.{Join}
 use Rattle.okws_plan.specs.declared.configuration.Column.{Column}
 use Rattle.okws_plan.specs.declared.configuration.Table.{Table}
 use Rattle.okws_plan.specs.declared.statement.Operand.{Operand}
@@ -32,6 +33,11 @@ is_declarable t =
 abbrev pub are_declarable : List Table → Bool
 are_declarable tables = nat_le (length tables) 256 && (list_all is_declarable tables && names_differ (λ (t : Table). t.name) tables)
 
+-- Joined rows have at most 256 columns.
+abbrev pub are_numbered : List Table → ℕ → Option Join → Bool
+are_numbered tables t None = true
+are_numbered tables t (Some join) = nat_le (length (read_columns tables t (Some join))) 256
+
 -- A literal is a value that the program can hold.
 abbrev pub holds_literal : Operand → Bool
 holds_literal (operand.Parameter n) = true
@@ -48,9 +54,9 @@ holds_literals (action.Insert values) = list_all holds_literal values
 holds_literals (action.Update assignments conditions) = list_all (λ (a : Assignment). holds_literal a.operand) assignments && conditions_hold conditions
 holds_literals (action.Delete conditions) = conditions_hold conditions
 
--- The text compiles to the statement, if a configuration can declare the tables, the program can hold the statement's literals, and the statement keeps the rules of the query language for the tables.
+-- The text compiles to the statement, if a configuration can declare the tables, the joined rows that a join reads have no more columns than a byte numbers, the program can hold the statement's literals, and the statement keeps the rules of the query language for the tables.
 abbrev pub CompilesTo : List Table → Statement → List ℕ → Type 0
-CompilesTo tables st text = IsTrue (are_declarable tables) → IsTrue (holds_literals st.action) → IsTrue (keeps_rules tables st) → compiled tables text ≡ Ok st
+CompilesTo tables st text = IsTrue (are_declarable tables) → IsTrue (are_numbered tables st.table (join_of st.action)) → IsTrue (holds_literals st.action) → IsTrue (keeps_rules tables st) → compiled tables text ≡ Ok st
 
 -- Each statement that keeps the rules is compiled from its canonical text.
 abbrev pub StatementsCompileAgain : Type 0

@@ -207,9 +207,13 @@ parts_excess (form.Insert table at list values) = None
 parts_excess (form.Update table settings tests) = tests_excess tests
 parts_excess (form.Delete table tests) = tests_excess tests
 
+-- A broken rule beside what was found so far, where there is one.
+abbrev pub besides : Judged → Option Refusal → Judged
+besides j found = record j { fault = sooner j.fault found }
+
 -- Rule 10 beside what was found so far.
 abbrev pub parts_judged : Judged → Form → Judged
-parts_judged j form = record j { fault = sooner j.fault (parts_excess form) }
+parts_judged j form = besides j (parts_excess form)
 
 -- The word in the place of the table.
 abbrev pub table_word : Form → Named
@@ -259,7 +263,7 @@ assignment_of columns s = record { column = number columns s.column; operand = o
 -- What a SELECT does, with columns by number.
 abbrev pub selection_of : List Column → List Named → List Test → Option Named → Option ℕ → Selection
 selection_of columns list tests order limit =
-    record { columns = map (number columns) list; conditions = map (condition_of columns) tests; order = option_map (number columns) order; limit = limit }
+    record { join = None; columns = map (number columns) list; conditions = map (condition_of columns) tests; order = option_map (number columns) order; limit = limit }
 
 -- What a form does, with columns by number.
 abbrev pub action_of : List Column → Form → Action
@@ -303,7 +307,3 @@ undeclared form = or_sooner (record { at = (table_word form).at; rule = rule.NoS
 abbrev pub resolved_at : List Table → ℕ → Form → Option ℕ → Result Statement Refusal
 resolved_at tables end form None = Err (undeclared form)
 resolved_at tables end form (Some t) = on_table end (columns_of tables t) t form
-
--- The statement that a form is, or the earliest rule that it breaks.
-abbrev pub resolved : List Table → ℕ → Form → Result Statement Refusal
-resolved tables end form = resolved_at tables end form (table_number tables (table_word form).name)

@@ -1,19 +1,21 @@
 //! From the syntax of a statement to what it does, with columns by number.
 
 ghost use Rattle.std.specs.Prelude.{◌≡◌, IfOk, map, option_map};
+ghost use Rattle.statement_core.specs.Joining.{selection_of_words};
 ghost use Rattle.statement_core.specs.Resolving.{short, or_zero, number, operand_of, condition_of, assignment_of, selection_of, action_of};
 
-use crate::lookup::number_in_table;
+use crate::join_words::JoinWords;
+use crate::scope::Scope;
 use okws_base::items::{Exact, Items};
 use okws_plan::configuration::Column;
-use okws_plan::statement::{Action, Assignment, Condition, Operand, Selection};
+use okws_plan::statement::{Action, Assignment, Condition, Join, Operand, Selection};
 use query_syntax::syntax::{Form, Given, Named, Setting, Test, Written};
 use std::alloc::{AllocError, Global};
 
-fn column_byte(columns: &[Column], word: &Named) -> u8
-    ensures { result ≡ number columns.now word.now }
+fn column_byte(scope: &Scope<'_>, word: &Named) -> u8
+    ensures { result ≡ number scope.now word.now }
 {
-    number_in_table(columns, word.name.as_slice()).unwrap_or(0)
+    scope.number(word.name.as_slice()).unwrap_or(0)
 }
 
 fn parameter_byte(number: u64) -> u8
@@ -31,11 +33,11 @@ fn operand(alloc: Global, written: &Written) -> Result<Operand, AllocError>
     })
 }
 
-fn condition(alloc: Global, columns: &[Column], test: &Test) -> Result<Condition, AllocError>
-    ensures { IfOk result (λ condition. condition ≡ condition_of columns.now test.now) }
+fn condition(alloc: Global, scope: &Scope<'_>, test: &Test) -> Result<Condition, AllocError>
+    ensures { IfOk result (λ condition. condition ≡ condition_of scope.now test.now) }
 {
     Ok(Condition {
-        column: column_byte(columns, &test.column),
+        column: column_byte(scope, &test.column),
         comparison: test.comparison,
         operand: operand(alloc, &test.value.value)?,
     })
@@ -49,31 +51,31 @@ fn assignment(
     ensures { IfOk result (λ assignment. assignment ≡ assignment_of columns.now setting.now) }
 {
     Ok(Assignment {
-        column: column_byte(columns, &setting.column),
+        column: column_byte(&Scope::plain(columns), &setting.column),
         operand: operand(alloc, &setting.value.value)?,
     })
 }
 
-fn column_bytes(alloc: Global, columns: &[Column], words: &[Named]) -> Result<Items<u8>, AllocError>
-    ensures { IfOk result (λ numbers. numbers ≡ map (number columns.now) words.now) }
+fn column_bytes(alloc: Global, scope: &Scope<'_>, words: &[Named]) -> Result<Items<u8>, AllocError>
+    ensures { IfOk result (λ numbers. numbers ≡ map (number scope.now) words.now) }
 {
     let mut out = Vec::new(alloc);
     for word in words {
-        out.push(column_byte(columns, word))?;
+        out.push(column_byte(scope, word))?;
     }
     Ok(Items::of(out))
 }
 
 fn conditions(
     alloc: Global,
-    columns: &[Column],
+    scope: &Scope<'_>,
     tests: &[Test],
 ) -> Result<Items<Condition>, AllocError>
-    ensures { IfOk result (λ conditions. conditions ≡ map (condition_of columns.now) tests.now) }
+    ensures { IfOk result (λ conditions. conditions ≡ map (condition_of scope.now) tests.now) }
 {
     let mut out = Vec::new(alloc);
     for test in tests {
-        out.push(condition(alloc, columns, test)?)?;
+        out.push(condition(alloc, scope, test)?)?;
     }
     Ok(Items::of(out))
 }
@@ -102,29 +104,54 @@ fn operands(alloc: Global, values: &[Given]) -> Result<Items<Operand>, AllocErro
     Ok(Items::of(out))
 }
 
-fn order_byte(columns: &[Column], order: &Option<Named>) -> Option<u8>
-    ensures { result ≡ option_map (number columns.now) order.now }
+fn order_byte(scope: &Scope<'_>, order: &Option<Named>) -> Option<u8>
+    ensures { result ≡ option_map (number scope.now) order.now }
 {
     match order {
         None => None,
-        Some(word) => Some(column_byte(columns, word)),
+        Some(word) => Some(column_byte(scope, word)),
     }
 }
 
 fn selection(
     alloc: Global,
-    columns: &[Column],
+    scope: &Scope<'_>,
     list: &Items<Named>,
     tests: &Items<Test>,
     order: &Option<Named>,
     limit: Option<u32>,
 ) -> Result<Selection, AllocError>
-    ensures { IfOk result (λ selection. selection ≡ selection_of columns.now list.now tests.now order.now limit) }
+    ensures { IfOk result (λ selection. selection ≡ selection_of scope.now list.now tests.now order.now limit) }
 {
     Ok(Selection {
-        columns: column_bytes(alloc, columns, list.as_slice())?,
-        conditions: conditions(alloc, columns, tests.as_slice())?,
-        order: order_byte(columns, order),
+        join: None,
+        columns: column_bytes(alloc, scope, list.as_slice())?,
+        conditions: conditions(alloc, scope, tests.as_slice())?,
+        order: order_byte(scope, order),
+        limit,
+    })
+}
+
+/// What these words select of joined rows, where the second table has this number.
+pub fn join_selection(
+    alloc: Global,
+    scope: &Scope<'_>,
+    second: u8,
+    limit: Option<u32>,
+    words: &JoinWords,
+) -> Result<Selection, AllocError>
+    ensures { IfOk result (λ selection. selection ≡ selection_of_words scope.now second limit words.now) }
+{
+    let join = Join {
+        table: second,
+        left: column_byte(scope, &words.left),
+        right: column_byte(scope, &words.right),
+    };
+    Ok(Selection {
+        join: Some(join),
+        columns: column_bytes(alloc, scope, words.list.as_slice())?,
+        conditions: conditions(alloc, scope, words.tests.as_slice())?,
+        order: order_byte(scope, &words.order),
         limit,
     })
 }
@@ -141,7 +168,8 @@ pub fn action_on(alloc: Global, columns: &[Column], form: &Form) -> Result<Actio
             limit,
             ..
         } => {
-            let selection = selection(alloc, columns, list, tests, order, *limit)?;
+            let scope = Scope::plain(columns);
+            let selection = selection(alloc, &scope, list, tests, order, *limit)?;
             Ok(Action::Select(selection))
         }
         Form::Insert { values, .. } => {
@@ -154,14 +182,14 @@ pub fn action_on(alloc: Global, columns: &[Column], form: &Form) -> Result<Actio
             ..
         } => {
             let assignments = assignments(alloc, columns, settings.as_slice())?;
-            let conditions = conditions(alloc, columns, tests.as_slice())?;
+            let conditions = conditions(alloc, &Scope::plain(columns), tests.as_slice())?;
             Ok(Action::Update {
                 assignments,
                 conditions,
             })
         }
         Form::Delete { tests, .. } => {
-            let conditions = conditions(alloc, columns, tests.as_slice())?;
+            let conditions = conditions(alloc, &Scope::plain(columns), tests.as_slice())?;
             Ok(Action::Delete { conditions })
         }
     }

@@ -5,6 +5,7 @@ ghost use Rattle.query_syntax.specs.Spelling.{comparison_sign, limit_tokens};
 ghost use Rattle.statement_core.specs.Canonical.{column_token, table_token, operand_token, before, column_tokens, all_column_tokens, operand_tokens, assignment_tokens, condition_tokens, order_tokens, action_tokens, statement_tokens, canonical};
 ghost use Rattle.statement_core.specs.Recompiled.{CompilesTo};
 
+use crate::join_tokens::join_tokens;
 use crate::lookup::columns_at;
 use okws_base::items::{Exact, Items};
 use okws_base::value::Value;
@@ -16,7 +17,7 @@ use query_syntax::spelling::spelled;
 use query_syntax::token::{Fixed, Token};
 use std::alloc::{AllocError, Global};
 
-fn column_of(alloc: Global, columns: &[Column], number: u8) -> Result<Token, AllocError>
+pub fn column_of(alloc: Global, columns: &[Column], number: u8) -> Result<Token, AllocError>
     ensures { IfOk result (λ token. token ≡ column_token columns.now number) }
 {
     match columns.get(number as usize) {
@@ -25,7 +26,7 @@ fn column_of(alloc: Global, columns: &[Column], number: u8) -> Result<Token, All
     }
 }
 
-fn table_of(alloc: Global, tables: &[Table], number: u8) -> Result<Token, AllocError>
+pub fn table_of(alloc: Global, tables: &[Table], number: u8) -> Result<Token, AllocError>
     ensures { IfOk result (λ token. token ≡ table_token tables.now number) }
 {
     match tables.get(number as usize) {
@@ -34,13 +35,13 @@ fn table_of(alloc: Global, tables: &[Table], number: u8) -> Result<Token, AllocE
     }
 }
 
-fn word_of(alloc: Global, word: &[u8]) -> Result<Token, AllocError>
+pub fn word_of(alloc: Global, word: &[u8]) -> Result<Token, AllocError>
     ensures { IfOk result (λ token. token ≡ Token.Word word.now) }
 {
     Ok(Token::Word(Items::of(Vec::from_slice(alloc, word)?)))
 }
 
-fn operand_of(alloc: Global, operand: &Operand) -> Result<Token, AllocError>
+pub fn operand_of(alloc: Global, operand: &Operand) -> Result<Token, AllocError>
     ensures { IfOk result (λ token. token ≡ operand_token operand.now) }
 {
     Ok(match operand {
@@ -49,7 +50,7 @@ fn operand_of(alloc: Global, operand: &Operand) -> Result<Token, AllocError>
     })
 }
 
-fn sign_of(comparison: Comparison) -> Fixed
+pub fn sign_of(comparison: Comparison) -> Fixed
     ensures { result ≡ comparison_sign comparison }
 {
     match comparison {
@@ -62,7 +63,7 @@ fn sign_of(comparison: Comparison) -> Fixed
     }
 }
 
-fn put_before(out: &mut Vec<Token>, is_first: bool, separator: Fixed) -> Result<(), AllocError>
+pub fn put_before(out: &mut Vec<Token>, is_first: bool, separator: Fixed) -> Result<(), AllocError>
     ensures { OnOk result (out.new.items ≡ out.old.items ++ before is_first separator) }
 {
     if !is_first {
@@ -161,7 +162,7 @@ fn put_order(
     Ok(())
 }
 
-fn put_limit(out: &mut Vec<Token>, limit: Option<u32>) -> Result<(), AllocError>
+pub fn put_limit(out: &mut Vec<Token>, limit: Option<u32>) -> Result<(), AllocError>
     ensures { OnOk result (out.new.items ≡ out.old.items ++ limit_tokens limit) }
 {
     if let Some(n) = limit {
@@ -256,7 +257,10 @@ fn tokens_of_statement(
     let table = table_of(alloc, tables, statement.table)?;
     let columns = columns_at(tables, statement.table as usize);
     match &statement.action {
-        Action::Select(selection) => selection_tokens(alloc, columns, table, selection),
+        Action::Select(selection) => match &selection.join {
+            None => selection_tokens(alloc, columns, table, selection),
+            Some(join) => join_tokens(alloc, tables, statement.table, join, selection),
+        },
         Action::Insert { values } => insertion_tokens(alloc, columns, table, values),
         Action::Update {
             assignments,
@@ -266,9 +270,9 @@ fn tokens_of_statement(
     }
 }
 
-/// The canonical text of a statement on these tables of a proxy, by whose numbers it names its table
-/// and columns: keywords in upper case, one space between tokens but none behind `(` or before `)`
-/// and `,`, integers without leading zeros, and bytes as `x'..'` in lower case. `compile` makes the
+/// The canonical text of a statement on these tables of a proxy, by whose numbers it names its tables
+/// and columns: keywords in upper case, one space between tokens but none behind `(`, before `)` and
+/// `,` or around `.`, integers without leading zeros, and bytes as `x'..'` in lower case. `compile` makes the
 /// statement of it again, where the statement keeps the rules for these tables.
 pub fn text_of(
     alloc: Global,

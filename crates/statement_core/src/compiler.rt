@@ -21,6 +21,6 @@ pub fn compile(alloc: Global, tables: &[Table], text: &[u8]) -> Result<Statement
     ensures kept { IfOk result (λ statement. IsTrue (keeps_rules tables.now statement)) }
 {
     let tokens = tokens_of(alloc, text)?;
-    let form = parse(alloc, &tokens)?;
-    resolve(alloc, tables, text.len(), &form)
+    let query = parse(alloc, &tokens)?;
+    resolve(alloc, tables, text.len(), &query)
 }

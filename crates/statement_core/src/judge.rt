@@ -2,12 +2,14 @@
 
 ghost use Rattle.std.specs.Prelude.{◌≡◌, Option, Some, None, IfOk, map, slice_get, is_some};
 ghost use Rattle.std.specs.List.{list_any};
-ghost use Rattle.statement_core.specs.Resolving.{noted, short, word_judged, words_judged, is_numbered, is_other, first_kind, kind_met, met_by, parameter_judged, written_judged, value_judged, test_judged, tests_judged, is_taken, taken_by, target_judged, setting_judged, settings_judged, are_columns, list_judged, kind_at, values_judged, order_judged, columns_judged, too_many, list_excess, tests_excess, parts_excess, parts_judged, nothing_found, has_gap, parameters, fault_of, judged_on};
+ghost use Rattle.statement_core.specs.Resolving.{noted, short, word_judged, words_judged, is_numbered, is_other, first_kind, kind_met, met_by, parameter_judged, written_judged, value_judged, test_judged, tests_judged, is_taken, taken_by, target_judged, setting_judged, settings_judged, are_columns, list_judged, kind_at, values_judged, order_judged, columns_judged, parts_excess, parts_judged, besides, nothing_found, has_gap, parameters, fault_of, judged_on};
 
 use crate::earliest::{earlier_found, earlier_of_both};
+use crate::excess::excess_of;
 use crate::lookup::{is_key_named, kind_named, kind_of_column, number_in_table};
+use crate::scope::Scope;
 use okws_base::items::Items;
-use okws_base::limit::{MOST_COLUMNS, MOST_CONDITIONS, MOST_PARAMETERS};
+use okws_base::limit::MOST_PARAMETERS;
 use okws_base::value::Kind;
 use okws_plan::configuration::Column;
 use plain_text::parts::is_same;
@@ -42,7 +44,7 @@ fn is_other_kind(kind: Kind, first: Option<Kind>) -> bool
 }
 
 impl Judge {
-    fn new(alloc: Global, columns: usize) -> Result<Judge, AllocError>
+    pub fn new(alloc: Global, columns: usize) -> Result<Judge, AllocError>
         ensures { IfOk result (λ j. j ≡ nothing_found columns) }
     {
         Ok(Judge {
@@ -52,7 +54,7 @@ impl Judge {
         })
     }
 
-    fn note(&mut self, is_broken: bool, at: usize, rule: TextRule)
+    pub fn note(&mut self, is_broken: bool, at: usize, rule: TextRule)
         ensures { self.new ≡ noted self.old is_broken at rule }
     {
         if is_broken {
@@ -106,34 +108,34 @@ impl Judge {
         }
     }
 
-    fn word(&mut self, columns: &[Column], word: &Named)
-        ensures { self.new ≡ word_judged columns.now self.old word.now }
+    pub fn word(&mut self, scope: &Scope<'_>, word: &Named)
+        ensures { self.new ≡ word_judged scope.now self.old word.now }
     {
-        let number = number_in_table(columns, word.name.as_slice());
+        let number = scope.number(word.name.as_slice());
         self.note(number.is_none(), word.at, TextRule::NoSuchColumn);
     }
 
-    fn words(&mut self, columns: &[Column], words: &[Named])
-        ensures { self.new ≡ words_judged columns.now self.old words.now }
+    fn words(&mut self, scope: &Scope<'_>, words: &[Named])
+        ensures { self.new ≡ words_judged scope.now self.old words.now }
     {
         for word in words {
-            self.word(columns, word);
+            self.word(scope, word);
         }
     }
 
-    fn test(&mut self, columns: &[Column], test: &Test)
-        ensures { self.new ≡ test_judged columns.now self.old test.now }
+    fn test(&mut self, scope: &Scope<'_>, test: &Test)
+        ensures { self.new ≡ test_judged scope.now self.old test.now }
     {
-        self.word(columns, &test.column);
-        let kind = kind_named(columns, test.column.name.as_slice());
+        self.word(scope, &test.column);
+        let kind = scope.kind(test.column.name.as_slice());
         self.value(kind, &test.value);
     }
 
-    fn tests(&mut self, columns: &[Column], tests: &[Test])
-        ensures { self.new ≡ tests_judged columns.now self.old tests.now }
+    fn tests(&mut self, scope: &Scope<'_>, tests: &[Test])
+        ensures { self.new ≡ tests_judged scope.now self.old tests.now }
     {
         for test in tests {
-            self.test(columns, test);
+            self.test(scope, test);
         }
     }
 
@@ -166,7 +168,7 @@ impl Judge {
         ensures { self.new ≡ target_judged columns.now self.old word.now }
     {
         let number = number_in_table(columns, word.name.as_slice());
-        self.word(columns, word);
+        self.word(&Scope::plain(columns), word);
         self.note(
             is_key_named(columns, word.name.as_slice()),
             word.at,
@@ -217,9 +219,12 @@ impl Judge {
                 order,
                 ..
             } => {
-                self.words(columns, list.as_slice());
-                self.tests(columns, tests.as_slice());
-                self.order(columns, order);
+                self.selection(
+                    &Scope::plain(columns),
+                    list.as_slice(),
+                    tests.as_slice(),
+                    order,
+                );
             }
             Form::Insert {
                 list,
@@ -228,7 +233,7 @@ impl Judge {
                 ..
             } => {
                 self.list(columns, *list, words.as_slice(), values.as_slice());
-                self.words(columns, words.as_slice());
+                self.words(&Scope::plain(columns), words.as_slice());
                 self.values(columns, values.as_slice());
             }
             Form::Update {
@@ -237,24 +242,46 @@ impl Judge {
                 ..
             } => {
                 self.settings(columns, settings.as_slice());
-                self.tests(columns, tests.as_slice());
+                self.tests(&Scope::plain(columns), tests.as_slice());
             }
-            Form::Delete { tests, .. } => self.tests(columns, tests.as_slice()),
+            Form::Delete { tests, .. } => self.tests(&Scope::plain(columns), tests.as_slice()),
         }
     }
 
-    fn order(&mut self, columns: &[Column], order: &Option<Named>)
-        ensures { self.new ≡ order_judged columns.now self.old order.now }
+    fn order(&mut self, scope: &Scope<'_>, order: &Option<Named>)
+        ensures { self.new ≡ order_judged scope.now self.old order.now }
     {
         if let Some(word) = order {
-            self.word(columns, word);
+            self.word(scope, word);
         }
+    }
+
+    /// The columns and values of a SELECT.
+    pub fn selection(
+        &mut self,
+        scope: &Scope<'_>,
+        list: &[Named],
+        tests: &[Test],
+        order: &Option<Named>,
+    )
+        ensures { self.new ≡ order_judged scope.now (tests_judged scope.now (words_judged scope.now self.old list.now) tests.now) order.now }
+    {
+        self.words(scope, list);
+        self.tests(scope, tests);
+        self.order(scope, order);
     }
 
     fn parts(&mut self, form: &Form)
         ensures { self.new ≡ parts_judged self.old form.now }
     {
-        self.fault = earlier_of_both(self.fault, excess_of(form));
+        self.meet_fault(excess_of(form));
+    }
+
+    /// A broken rule beside what was found so far, where there is one.
+    pub fn meet_fault(&mut self, found: Option<Refusal>)
+        ensures { self.new ≡ besides self.old found }
+    {
+        self.fault = earlier_of_both(self.fault, found);
     }
 
     /// The earliest broken rule, with a gap in the parameters as the last, at the text's end.
@@ -276,48 +303,6 @@ impl Judge {
         ensures { IfOk result (λ kinds. kinds ≡ parameters self.now.met) }
     {
         first_kinds(alloc, &self.met)
-    }
-}
-
-fn too_many_at(at: usize) -> Refusal
-    ensures { result ≡ too_many at }
-{
-    Refusal {
-        at,
-        rule: TextRule::TooManyParts,
-    }
-}
-
-fn excess_of_list(list: &[Named]) -> Option<Refusal>
-    ensures { result ≡ list_excess list.now }
-{
-    match list.get(MOST_COLUMNS) {
-        None => None,
-        Some(word) => Some(too_many_at(word.at)),
-    }
-}
-
-fn excess_of_tests(tests: &[Test]) -> Option<Refusal>
-    ensures { result ≡ tests_excess tests.now }
-{
-    match tests.get(MOST_CONDITIONS) {
-        None => None,
-        Some(test) => Some(too_many_at(test.column.at)),
-    }
-}
-
-/// The first item of a SELECT list, or the first condition, that is one too many.
-pub fn excess_of(form: &Form) -> Option<Refusal>
-    ensures { result ≡ parts_excess form.now }
-{
-    match form {
-        Form::Select { columns, tests, .. } => earlier_of_both(
-            excess_of_list(columns.as_slice()),
-            excess_of_tests(tests.as_slice()),
-        ),
-        Form::Insert { .. } => None,
-        Form::Update { tests, .. } => excess_of_tests(tests.as_slice()),
-        Form::Delete { tests, .. } => excess_of_tests(tests.as_slice()),
     }
 }
 

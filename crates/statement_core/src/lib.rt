@@ -6,10 +6,15 @@ mod action;
 mod canonical;
 mod compiler;
 mod earliest;
+mod excess;
+mod join_judge;
+mod join_tokens;
+mod join_words;
 mod judge;
 mod law;
 mod lookup;
 mod resolver;
+mod scope;
 
 pub use canonical::text_of;
 pub use compiler::compile;

@@ -9,7 +9,7 @@ use okws_base::value::Kind;
 use okws_plan::configuration::{Column, Table};
 use plain_text::parts::is_same;
 
-fn place_in_table(columns: &[Column], name: &[u8]) -> Option<usize>
+pub fn place_in_table(columns: &[Column], name: &[u8]) -> Option<usize>
     ensures { result ≡ position (λ c. same_bytes c.name name.now) columns.now }
 {
     columns
@@ -37,7 +37,7 @@ pub fn number_in_tables(tables: &[Table], name: &[u8]) -> Option<u8>
     short_number(place_in_tables(tables, name))
 }
 
-fn short_number(place: Option<usize>) -> Option<u8>
+pub fn short_number(place: Option<usize>) -> Option<u8>
     ensures { result ≡ option_and_then short place }
 {
     match place {

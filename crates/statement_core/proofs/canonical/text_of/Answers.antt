@@ -7,4 +7,4 @@ use Rattle.statement_core.proofs.canonical.text_of.Goals as goal
 pub returns-clause-again : goal.returns-clause-again
 returns-clause-again c =
     let e : c.of.result ≡ canonical c.args.tables.now c.args.statement.now = search rules in
-    λ h k l. ap (compiled c.args.tables.now) e ∙ statements_again c.args.tables.now c.args.statement.now h k l
+    λ h k l m. ap (compiled c.args.tables.now) e ∙ statements_again c.args.tables.now c.args.statement.now h k l m

@@ -3,4 +3,4 @@ use Rattle.statement_core.specs.Resolving.{tests_judged}
 use Rattle.statement_core.proofs.judge.Judge.tests.Given as goal
 
 abbrev pub invariant-loop-test : goal.invariant-loop-test
-invariant-loop-test l = l.self ≡ tests_judged l.columns l.fn.self (take l.test-index l.tests)
+invariant-loop-test l = l.self ≡ tests_judged l.scope l.fn.self (take l.test-index l.tests)

@@ -1,5 +1,5 @@
 -- Which columns have an index, and what the keeper finds on all its tables.
-use Rattle.std.specs.Prelude.{ℕ, Bool, false, ◌&&◌, ◌||◌, ◌==◌, List, [], Option, Some, None, length, map, filter, slice_get, min}
+use Rattle.std.specs.Prelude.{ℕ, ◌+◌, Bool, false, ◌&&◌, ◌||◌, ◌==◌, List, [], Option, Some, None, length, map, filter, slice_get, min}
 use Rattle.std.specs.List.{list_any, range_with_len}
 use Rattle.okws_base.specs.declared.value.Value.{Value}
 use Rattle.okws_plan.specs.Meaning.{columns_of, meets_all}
@@ -8,6 +8,8 @@ use Rattle.okws_plan.specs.declared.configuration.Query.{Query}
 use Rattle.okws_plan.specs.declared.configuration.Table.{Table}
 use Rattle.okws_plan.specs.declared.statement.Action.{Action}
 use Rattle.okws_plan.specs.declared.statement.Action.TheVariants.{Select, Insert, Update, Delete}
+use Rattle.okws_plan.specs.Rules.{join_of}
+use Rattle.okws_plan.specs.declared.statement.Join.{Join}
 use Rattle.okws_plan.specs.declared.statement.Condition.{Condition}
 use Rattle.index_keeper.specs.Places.{Indexed, is_equality, places_where, rows_of, tests}
 
@@ -27,17 +29,26 @@ abbrev pub is_key : Option Column → Bool
 is_key None = false
 is_key (Some column) = column.key
 
--- Column c of table t has an index: it is the KEY, or some query compares it by `=`.
-abbrev pub is_wanted : List Query → ℕ → List Column → ℕ → Bool
-is_wanted queries t columns c = is_key (slice_get columns c) || list_any (compares t c) queries
+-- A join whose first table has n columns names column c of its second table, which is table t.
+abbrev pub joins_by : ℕ → ℕ → ℕ → Option Join → Bool
+joins_by n t c None = false
+joins_by n t c (Some join) = (join.table == t) && ((join.left == n + c) || (join.right == n + c))
+
+-- A query joins table t, as its second, by column c.
+abbrev pub joins_at : List Table → ℕ → ℕ → Query → Bool
+joins_at tables t c query = joins_by (length (columns_of tables query.statement.table)) t c (join_of query.statement.action)
+
+-- Column c of table t has an index: it is the KEY, or some query compares it by `=` or joins the table by it.
+abbrev pub is_wanted : List Table → List Query → ℕ → List Column → ℕ → Bool
+is_wanted tables queries t columns c = is_key (slice_get columns c) || (list_any (compares t c) queries || list_any (joins_at tables t c) queries)
 
 -- The columns of table t that have an index, ascending. A statement has numbers for 256 columns.
-abbrev pub wanted : List Query → ℕ → List Column → List ℕ
-wanted queries t columns = filter (is_wanted queries t columns) (range_with_len 0 (min 256 (length columns)))
+abbrev pub wanted : List Table → List Query → ℕ → List Column → List ℕ
+wanted tables queries t columns = filter (is_wanted tables queries t columns) (range_with_len 0 (min 256 (length columns)))
 
 -- The columns of each table that have an index.
 abbrev pub wanted_by : List Table → List Query → List (List ℕ)
-wanted_by tables queries = map (λ (t : ℕ). wanted queries t (columns_of tables t)) (range_with_len 0 (length tables))
+wanted_by tables queries = map (λ (t : ℕ). wanted tables queries t (columns_of tables t)) (range_with_len 0 (length tables))
 
 -- The rows of a table that may not be there.
 abbrev pub table_at : Option Indexed → List (ℕ × List Value)

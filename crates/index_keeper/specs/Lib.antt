@@ -2,3 +2,5 @@ pub mod Places
 pub mod Hits
 pub mod Indexed
 pub mod Pinning
+pub mod Pinned
+pub mod Joining

@@ -7,6 +7,8 @@ mod answering;
 mod declared;
 mod editing;
 mod finding;
+mod held;
+mod joining;
 mod keeper;
 mod pinning;
 mod rows;

@@ -1,7 +1,8 @@
 //! Rows of a table that pins may hold.
 
-ghost use Rattle.std.specs.Prelude.{◌≡◌, IfOk, OnErr};
+ghost use Rattle.std.specs.Prelude.{◌≡◌, [], None, IfOk, OnErr};
 ghost use Rattle.okws_plan.specs.Meaning.{mean_on};
+ghost use Rattle.okws_plan.specs.Rules.{join_of};
 ghost use Rattle.index_keeper.specs.Places.{rows_of};
 
 use crate::rows::TableRows;
@@ -56,7 +57,7 @@ impl SharedRows {
         })
     }
 
-    /// Does what the action means, and counts a step for each row that is tested to find its hits;
+    /// Does what an action that joins no table means, and counts a step for each row that is tested to find its hits;
     /// where memory is refused, the rows are as they were.
     pub fn run<L: Ledger>(
         &mut self,
@@ -66,7 +67,8 @@ impl SharedRows {
         args: &[Value],
         steps: &mut Steps<L>,
     ) -> Result<Answer, AllocError>
-        ensures ok { IfOk result (λ answer. (answer, rows_of self.new.entries) ≡ mean_on columns.now action.now args.now (rows_of self.old.entries)) }
+        requires { join_of action.now ≡ None }
+        ensures ok { IfOk result (λ answer. (answer, rows_of self.new.entries) ≡ mean_on columns.now [] action.now args.now (rows_of self.old.entries)) }
         ensures err { OnErr result (self.new ≡ self.old) }
     {
         if let Action::Select(selection) = action {
@@ -83,7 +85,8 @@ impl SharedRows {
         args: &[Value],
         steps: &mut Steps<L>,
     ) -> Result<Answer, AllocError>
-        ensures ok { IfOk result (λ answer. (answer, rows_of self.new.entries) ≡ mean_on columns.now action.now args.now (rows_of self.old.entries)) }
+        requires { join_of action.now ≡ None }
+        ensures ok { IfOk result (λ answer. (answer, rows_of self.new.entries) ≡ mean_on columns.now [] action.now args.now (rows_of self.old.entries)) }
         ensures err { OnErr result (self.new ≡ self.old) }
     {
         if let Some(rows) = Arc::get_mut(&mut self.rows) {
@@ -102,7 +105,8 @@ impl SharedRows {
         args: &[Value],
         steps: &mut Steps<L>,
     ) -> Result<Answer, AllocError>
-        ensures ok { IfOk result (λ answer. (answer, rows_of self.new.entries) ≡ mean_on columns.now action.now args.now (rows_of self.old.entries)) }
+        requires { join_of action.now ≡ None }
+        ensures ok { IfOk result (λ answer. (answer, rows_of self.new.entries) ≡ mean_on columns.now [] action.now args.now (rows_of self.old.entries)) }
         ensures err { OnErr result (self.new ≡ self.old) }
     {
         let mut rows = self.rows.copy(alloc)?;

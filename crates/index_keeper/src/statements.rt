@@ -1,8 +1,9 @@
 //! Statements on the rows of one table.
 
-ghost use Rattle.std.specs.Prelude.{◌≡◌, ◌++◌, ◌∷◌, [], not, IfOk, OnOk, OnErr, length, map, if◌then◌else◌};
+ghost use Rattle.std.specs.Prelude.{◌≡◌, ◌++◌, ◌∷◌, [], None, not, IfOk, OnOk, OnErr, length, map, if◌then◌else◌};
 ghost use Rattle.okws_plan.specs.declared.statement.Answer.TheVariants.{Changed, Duplicate};
 ghost use Rattle.okws_plan.specs.Meaning.{mean_on, selection_answer, is_taken, hits, misses, updated, inserted, row_of};
+ghost use Rattle.okws_plan.specs.Rules.{join_of};
 ghost use Rattle.index_keeper.specs.Places.{rows_of};
 
 use crate::answering::answer;
@@ -17,7 +18,7 @@ use std::alloc::{AllocError, Global};
 use std::sync::ledger::Ledger;
 
 impl TableRows {
-    /// Does what the action means, and counts a step for each row that is tested to find its hits;
+    /// Does what an action that joins no table means, and counts a step for each row that is tested to find its hits;
     /// where memory is refused, the rows are as they were.
     pub fn run<L: Ledger>(
         &mut self,
@@ -27,8 +28,9 @@ impl TableRows {
         args: &[Value],
         steps: &mut Steps<L>,
     ) -> Result<Answer, AllocError>
+        requires { join_of action.now ≡ None }
         ensures columns { self.new.columns ≡ self.old.columns }
-        ensures ok { IfOk result (λ answer. (answer, rows_of self.new.entries) ≡ mean_on columns.now action.now args.now (rows_of self.old.entries)) }
+        ensures ok { IfOk result (λ answer. (answer, rows_of self.new.entries) ≡ mean_on columns.now [] action.now args.now (rows_of self.old.entries)) }
         ensures err { OnErr result (self.new ≡ self.old) }
     {
         match action {

@@ -5,4 +5,4 @@ use Rattle.index_keeper.specs.Indexed.{is_wanted}
 use Rattle.index_keeper.proofs.declared.wanted_columns.Given as goal
 
 abbrev pub invariant-loop-column : goal.invariant-loop-column
-invariant-loop-column l = l.out.items ≡ filter (is_wanted l.queries l.table l.columns) (range_with_len 0 l.column)
+invariant-loop-column l = l.out.items ≡ filter (is_wanted l.tables l.queries l.table l.columns) (range_with_len 0 l.column)

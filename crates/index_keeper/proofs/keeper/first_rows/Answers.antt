@@ -15,7 +15,7 @@ loop-table-preserved c =
     let rows : Indexed → List (List Value) = λ (r : Indexed). rows_of r.entries in
     let columns : Indexed → List ℕ = λ (r : Indexed). r.columns in
     let first : Table → List (List Value) = λ (t : Table). t.first in
-    let due : ℕ → List ℕ = λ (t : ℕ). wanted c.args.queries.now t (columns_of c.args.tables.now t) in
+    let due : ℕ → List ℕ = λ (t : ℕ). wanted c.args.tables.now c.args.queries.now t (columns_of c.args.tables.now t) in
     record {
       rows =
           ap (map rows) c.in_ok-push.ensures.items
@@ -28,6 +28,6 @@ loop-table-preserved c =
           ap (map columns) c.in_ok-push.ensures.items
           ∙ map-append columns c.loop-table.rows.items (c.in_ok-new.field-0 ∷ [])
           ∙ ap (λ (all : List (List ℕ)). all ++ columns c.in_ok-new.field-0 ∷ []) c.loop-table.invariant.columns
-          ∙ ap (λ (new : List ℕ). map due (range_with_len 0 c.loop-table.table) ++ new ∷ []) (ap columns c.in_ok-new.ensures ∙ c.in_ok-first.ensures.columns ∙ c.in_ok-columns.ensures ∙ ap (wanted c.args.queries.now c.loop-table.table) c.columns_at.ensures)
+          ∙ ap (λ (new : List ℕ). map due (range_with_len 0 c.loop-table.table) ++ new ∷ []) (ap columns c.in_ok-new.ensures ∙ c.in_ok-first.ensures.columns ∙ c.in_ok-columns.ensures ∙ ap (wanted c.args.tables.now c.args.queries.now c.loop-table.table) c.columns_at-columns.ensures)
           ∙ sym (map-range_with_len_more due 0 c.loop-table.table c.loop-table.table (omega arith));
     }

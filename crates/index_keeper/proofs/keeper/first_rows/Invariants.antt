@@ -10,5 +10,5 @@ use Rattle.index_keeper.proofs.keeper.first_rows.Given as goal
 abbrev pub invariant-loop-table : goal.invariant-loop-table
 invariant-loop-table l = record {
   rows : map (λ (r : Indexed). rows_of r.entries) l.rows.items ≡ map (λ (t : Table). t.first) (take l.table l.tables);
-  columns : map (λ (r : Indexed). r.columns) l.rows.items ≡ map (λ (t : ℕ). wanted l.queries t (columns_of l.tables t)) (range_with_len 0 l.table);
+  columns : map (λ (r : Indexed). r.columns) l.rows.items ≡ map (λ (t : ℕ). wanted l.tables l.queries t (columns_of l.tables t)) (range_with_len 0 l.table);
 }

@@ -1,6 +1,6 @@
 -- Tables that differ in their first rows alone have the same columns.
-use Rattle.std.proofs.Common.{◌≡◌, ◌∙◌, ℕ, zero, suc, true, false, List, [], ◌∷◌, length, map, refl, sym, ap, subst}
-use Rattle.std.specs.Prelude.{Bool, nat_lt, nat_le, ◌&&◌, Option, Some, None, Ok, Err, Result, IfErr, not, slice_index_or}
+use Rattle.std.proofs.Common.{◌≡◌, ◌∙◌, ℕ, zero, suc, true, false, List, [], ◌∷◌, ◌++◌, length, map, refl, sym, ap}
+use Rattle.std.specs.Prelude.{Bool, nat_lt, nat_le, ◌&&◌, ◌==◌, slice_get, Option, Some, None, Ok, Err, Result, IfErr, not, slice_index_or}
 use Rattle.okws_base.specs.declared.value.Value.{Value}
 use Rattle.std.specs.List.{list_all}
 use Rattle.std.proofs.lemmas.List.{length-map}
@@ -9,7 +9,8 @@ use Rattle.std.proofs.lemmas.Option.{none-some}
 use Rattle.okws_base.specs.declared.limit.TheConstants.{MOST_PARAMETERS}
 use Rattle.okws_plan.specs.Configuration.{numbered_from}
 use Rattle.okws_plan.specs.Meaning.{columns_of, mean, mean_on, on_table}
-use Rattle.okws_plan.specs.Rules.{action_fits, keeps_rules, stands_in}
+use Rattle.okws_plan.specs.Rules.{action_fits, keeps_rules, stands_in, join_of, join_fits, read_columns, are_apart, are_of_kind}
+use Rattle.okws_plan.specs.declared.statement.Join.{Join}
 use Rattle.okws_plan.specs.declared.configuration.Column.{Column}
 use Rattle.okws_plan.specs.declared.configuration.Table.{Table}
 use Rattle.okws_plan.specs.declared.statement.Answer.{Answer}
@@ -37,7 +38,7 @@ columns_alike some others n alike = sym (columns_bare some n) ∙ ap (λ (ts : L
 -- a statement means the same at both
 mean_alike : (some others : List Table) (st : Statement) (args : List Value) (T : List (List (List Value))) → AreAlike some others → mean some st args T ≡ mean others st args T
 mean_alike some others st args T alike =
-    ap (λ (cs : List Column). on_table T st.table (mean_on cs st.action args (slice_index_or T st.table []))) (columns_alike some others st.table alike)
+    ap (λ (cs : List Column). on_table T st.table (mean_on cs T st.action args (slice_index_or T st.table []))) (columns_alike some others st.table alike)
 
 -- where the store and the rows both answered, the store has the rows again
 pub same_after : (some others : List Table) (st : Statement) (args : List Value) (told now : Option (List (List (List Value)))) (R : List (List (List Value))) (left : Option (List (List (List Value)))) (a b : Answer)
@@ -63,15 +64,27 @@ pub still_alike : (store kept rows left : List Table) → kept ≡ store → lef
 still_alike store kept rows left e f h = ap (map bare) e ∙ h ∙ ap (map bare) (sym f)
 
 -- the rules of the query language, by what they ask of the tables
-abbrev rules_at : ℕ → List Column → Statement → Bool
-rules_at many columns st =
+abbrev rules_at : ℕ → (ℕ → List Column) → Statement → Option Join → Bool
+rules_at many columns st None =
     nat_lt st.table many && (nat_le (length st.parameters) MOST_PARAMETERS
-    && (action_fits columns st.parameters st.action && list_all (λ (n : ℕ). stands_in n st.action) (numbered_from 1 (length st.parameters))))
+    && (action_fits (columns st.table) st.parameters st.action && list_all (λ (n : ℕ). stands_in n st.action) (numbered_from 1 (length st.parameters))))
+rules_at many columns st (Some join) =
+    nat_lt st.table many && (nat_le (length st.parameters) MOST_PARAMETERS
+    && ((nat_lt join.table many && (not (join.table == st.table) && (are_apart (length (columns st.table)) join.left join.right
+    && are_of_kind (slice_get (columns st.table ++ columns join.table) join.left) (slice_get (columns st.table ++ columns join.table) join.right))))
+    && (action_fits (columns st.table ++ columns join.table) st.parameters st.action && list_all (λ (n : ℕ). stands_in n st.action) (numbered_from 1 (length st.parameters)))))
+
+rules_are : (tables : List Table) (st : Statement) → keeps_rules tables st ≡ rules_at (length tables) (columns_of tables) st (join_of st.action)
+rules_are tables st = by (join_of st.action)
+  where
+    by : (o : Option Join) → (nat_lt st.table (length tables) && (nat_le (length st.parameters) MOST_PARAMETERS && (join_fits tables st.table o && (action_fits (read_columns tables st.table o) st.parameters st.action
+        && list_all (λ (n : ℕ). stands_in n st.action) (numbered_from 1 (length st.parameters)))))) ≡ rules_at (length tables) (columns_of tables) st o
+    by None = refl
+    by (Some join) = refl
 
 -- a statement that keeps the rules for the one keeps them for the other
 pub rules_alike : (some others : List Table) (st : Statement) → AreAlike some others → keeps_rules others st ≡ true → keeps_rules some st ≡ true
 rules_alike some others st alike h =
     let many : length others ≡ length some = sym (length-map others bare) ∙ ap length (sym alike) ∙ length-map some bare in
-    let same : columns_of others st.table ≡ columns_of some st.table =
-    sym (columns_bare others st.table) ∙ ap (λ (ts : List Table). columns_of ts st.table) (sym alike) ∙ columns_bare some st.table in
-    subst (λ (n : ℕ). rules_at n (columns_of some st.table) st ≡ true) many (subst (λ (cs : List Column). rules_at (length others) cs st ≡ true) same h)
+    let same : (n : ℕ) → columns_of others n ≡ columns_of some n = λ n. sym (columns_alike some others n alike) in
+    rules_are some st ∙ (λ i. rules_at (sym many i) (λ n. sym (same n) i) st (join_of st.action)) ∙ sym (rules_are others st) ∙ h

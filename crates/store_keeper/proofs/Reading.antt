@@ -28,7 +28,7 @@ width_of (answer.Changed n) = 0
 width_of answer.Duplicate = 0
 
 abbrev whole_selection : ℕ → Selection
-whole_selection count = record { columns = numbered_from 0 count; conditions = []; order = None; limit = None }
+whole_selection count = record { join = None; columns = numbered_from 0 count; conditions = []; order = None; limit = None }
 
 leaves : (ts : List Table) (t count : ℕ) (T : List (List (List Value))) → (mean ts (whole_of t count) [] T).1 ≡ T
 leaves ts t count T = set-get_or T t []

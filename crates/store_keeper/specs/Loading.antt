@@ -11,7 +11,7 @@ use Rattle.okws_outer.specs.Keeping.{Runs}
 
 -- The SELECT of all columns and all rows of table t, which has so many columns.
 abbrev pub whole_of : ℕ → ℕ → Statement
-whole_of t columns = record { table = t; parameters = []; action = Select (record { columns = numbered_from 0 columns; conditions = []; order = None; limit = None }) }
+whole_of t columns = record { table = t; parameters = []; action = Select (record { join = None; columns = numbered_from 0 columns; conditions = []; order = None; limit = None }) }
 
 -- The rows that table n begins with.
 abbrev pub first_in : Option Table → List (List Value)

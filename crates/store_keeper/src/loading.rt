@@ -37,6 +37,7 @@ pub fn whole(alloc: Global, table: u8, count: usize) -> Result<Statement, AllocE
     ensures { IfOk result (λ s. s ≡ whole_of table count) }
 {
     let selection = Selection {
+        join: None,
         columns: Items::of(numbers(alloc, count)?),
         conditions: Items::of(Vec::new(alloc)),
         order: None,

@@ -1,5 +1,5 @@
 -- What the database is handed, and what is answered of what it told.
-use Rattle.std.specs.Prelude.{◌≡◌, ◌⊎◌, ⊤, ℕ, Bool, true, false, ◌&&◌, if◌then◌else◌, List, map, length, All, Result, Ok, Err, IsTrue, OnErr, is_some}
+use Rattle.std.specs.Prelude.{◌≡◌, ◌⊎◌, ⊤, ℕ, Bool, true, false, ◌&&◌, if◌then◌else◌, List, [], ◌++◌, map, length, All, Option, Some, None, Result, Ok, Err, IsTrue, OnErr, is_some}
 use Rattle.sqlite.specs.Store.{Ghosts}
 use Rattle.sqlite.specs.Held.{Held, state}
 use Rattle.sqlite.specs.State.{State, Executes, Shown, FailsToQuery}
@@ -18,6 +18,8 @@ use Rattle.okws_plan.specs.declared.statement.Answer.{Answer}
 use Rattle.okws_plan.specs.declared.statement.Answer.TheVariants.{Rows, Changed, Duplicate}
 use Rattle.okws_plan.specs.declared.statement.Statement.{Statement}
 use Rattle.okws_plan.specs.Meaning.{columns_of, key_place}
+use Rattle.okws_plan.specs.Rules.{join_of}
+use Rattle.okws_plan.specs.declared.statement.Join.{Join}
 use Rattle.okws_outer.specs.declared.keeper.RunError.{RunError}
 use Rattle.okws_outer.specs.declared.keeper.RunError.TheVariants.{Failed, NoMemory}
 use Rattle.sqlite_keeper.specs.Texts.{sql_of}
@@ -49,6 +51,11 @@ answer_to columns (Select s) told = Err Failed
 answer_to columns (Insert values) told = insert_answer (is_some (key_place columns)) told
 answer_to columns (Update assignments conditions) told = count_answer told
 answer_to columns (Delete conditions) told = count_answer told
+
+-- The columns of the table that an action joins, if it does.
+abbrev pub others_of : List Table → Option Join → List Column
+others_of tables None = []
+others_of tables (Some join) = columns_of tables join.table
 
 -- Each row of an answer has as many values as it has columns.
 abbrev pub IsWide : Answer → Type 0
@@ -88,14 +95,14 @@ module _ {S : Type 0} (g : Ghosts S) where
       ((why : RunError) × (result ≡ Err why) × IsUnasked old new why)
       ⊎ ((told : Result ℕ Error) × Executes sql values (state g old) (state g new) told × OnErr told (KeepsRows (state g old) (state g new)) × (result ≡ answer_to columns action told))
 
-  -- An action at table t of these columns, with these arguments, is handed to the database as its SQL and its values, and answered by what it told.
-  abbrev pub ActsAs : List Column → ℕ → Action → List Value → Held S → Held S → Result Answer RunError → Type 0
-  ActsAs columns t (Select s) args old new result = ListsAs (sql_of t (Select s)) (values_of args (Select s)) (kinds_of columns s.columns) old new result
-  ActsAs columns t (Insert values) args old new result = WritesAs (sql_of t (Insert values)) (values_of args (Insert values)) columns (Insert values) old new result
-  ActsAs columns t (Update assignments conditions) args old new result =
-      WritesAs (sql_of t (Update assignments conditions)) (values_of args (Update assignments conditions)) columns (Update assignments conditions) old new result
-  ActsAs columns t (Delete conditions) args old new result = WritesAs (sql_of t (Delete conditions)) (values_of args (Delete conditions)) columns (Delete conditions) old new result
+  -- An action at table t of these columns, which may join a table of those others, with these arguments, is handed to the database as its SQL and its values, and answered by what it told.
+  abbrev pub ActsAs : List Column → List Column → ℕ → Action → List Value → Held S → Held S → Result Answer RunError → Type 0
+  ActsAs columns others t (Select s) args old new result = ListsAs (sql_of (length columns) t (Select s)) (values_of args (Select s)) (kinds_of (columns ++ others) s.columns) old new result
+  ActsAs columns others t (Insert values) args old new result = WritesAs (sql_of (length columns) t (Insert values)) (values_of args (Insert values)) columns (Insert values) old new result
+  ActsAs columns others t (Update assignments conditions) args old new result =
+      WritesAs (sql_of (length columns) t (Update assignments conditions)) (values_of args (Update assignments conditions)) columns (Update assignments conditions) old new result
+  ActsAs columns others t (Delete conditions) args old new result = WritesAs (sql_of (length columns) t (Delete conditions)) (values_of args (Delete conditions)) columns (Delete conditions) old new result
 
   -- The same of a statement over these tables.
   abbrev pub RunsAs : List Table → Statement → List Value → Held S → Held S → Result Answer RunError → Type 0
-  RunsAs tables st args old new result = ActsAs (columns_of tables st.table) st.table st.action args old new result
+  RunsAs tables st args old new result = ActsAs (columns_of tables st.table) (others_of tables (join_of st.action)) st.table st.action args old new result

@@ -1,6 +1,6 @@
 //! Statements, handed to the database.
 
-ghost use Rattle.std.specs.Prelude.{◌≡◌, false, true, All, IfOk, IfErr, IsTrue, Ok, Err, List, map, length, string_bytes, ◌⊎◌};
+ghost use Rattle.std.specs.Prelude.{◌≡◌, ◌++◌, false, true, All, IfOk, IfErr, IsTrue, Ok, Err, List, map, length, string_bytes, ◌⊎◌};
 ghost use Rattle.sqlite.specs.State.{HasCleanDisk};
 ghost use Rattle.sqlite.specs.Held.{state};
 ghost use Rattle.sqlite.specs.Values.{bound};
@@ -65,11 +65,12 @@ fn write<S: Alter>(
     answer_to(columns, action, told)
 }
 
-/// The rows of a SELECT at a table of these columns.
+/// The rows of a SELECT at a table of these columns, and a second one of those others, if it joins one.
 pub(crate) fn listed<S: Alter>(
     alloc: Global,
     conn: &mut Connection<S>,
     columns: &[Column],
+    others: &[Column],
     table: u8,
     action: &Action,
     listed: &[u8],
@@ -77,14 +78,14 @@ pub(crate) fn listed<S: Alter>(
 ) -> Result<Items<Row>, RunError>
     requires idle { conn.old.in_transaction ≡ false }
     requires settled { IsTrue (state S.Store conn.old).is_open → (state S.Store conn.old).now ≡ (state S.Store conn.old).committed }
-    ensures ok { HasCleanDisk (state S.Store conn.new) → IfOk result (Lists S.Store (sql_of table action.now) (values_of args.now action.now) conn.old conn.new) }
+    ensures ok { HasCleanDisk (state S.Store conn.new) → IfOk result (Lists S.Store (sql_of (length columns.now) table action.now) (values_of args.now action.now) conn.old conn.new) }
     ensures wide { IfOk result (λ rows. All (λ row. length row ≡ length listed.now) rows) }
-    ensures err { HasCleanDisk (state S.Store conn.new) → IfErr result (λ why. IsUnasked S.Store conn.old conn.new why ⊎ IsUnlisted S.Store (sql_of table action.now) (values_of args.now action.now) (kinds_of columns.now listed.now) conn.old conn.new why) }
+    ensures err { HasCleanDisk (state S.Store conn.new) → IfErr result (λ why. IsUnasked S.Store conn.old conn.new why ⊎ IsUnlisted S.Store (sql_of (length columns.now) table action.now) (values_of args.now action.now) (kinds_of (columns.now ++ others.now) listed.now) conn.old conn.new why) }
     ensures limit { conn.new.step_limit ≡ conn.old.step_limit }
 {
-    let sql = sql_of(alloc, table, action)?;
+    let sql = sql_of(alloc, columns.len(), table, action)?;
     let values = values_of(alloc, args, action)?;
-    let kinds = kinds_of(alloc, columns, listed)?;
+    let kinds = kinds_of(alloc, columns, others, listed)?;
     list(alloc, conn, &sql, &values, &kinds)
 }
 
@@ -100,11 +101,11 @@ fn written<S: Alter>(
     requires idle { conn.old.in_transaction ≡ false }
     requires settled { IsTrue (state S.Store conn.old).is_open → (state S.Store conn.old).now ≡ (state S.Store conn.old).committed }
     requires writes { is_select action.now ≡ false }
-    ensures told { HasCleanDisk (state S.Store conn.new) → WritesAs S.Store (sql_of table action.now) (values_of args.now action.now) columns.now action.now conn.old conn.new result }
+    ensures told { HasCleanDisk (state S.Store conn.new) → WritesAs S.Store (sql_of (length columns.now) table action.now) (values_of args.now action.now) columns.now action.now conn.old conn.new result }
     ensures may { IfOk result (MayAnswer columns.now action.now) }
     ensures limit { conn.new.step_limit ≡ conn.old.step_limit }
 {
-    let sql = sql_of(alloc, table, action)?;
+    let sql = sql_of(alloc, columns.len(), table, action)?;
     let values = values_of(alloc, args, action)?;
     write(conn, &sql, &values, columns, action)
 }
@@ -113,13 +114,14 @@ fn acted<S: Alter>(
     alloc: Global,
     conn: &mut Connection<S>,
     columns: &[Column],
+    others: &[Column],
     table: u8,
     action: &Action,
     args: &[Value],
 ) -> Result<Answer, RunError>
     requires idle { conn.old.in_transaction ≡ false }
     requires settled { IsTrue (state S.Store conn.old).is_open → (state S.Store conn.old).now ≡ (state S.Store conn.old).committed }
-    ensures acts { HasCleanDisk (state S.Store conn.new) → ActsAs S.Store columns.now table action.now args.now conn.old conn.new result }
+    ensures acts { HasCleanDisk (state S.Store conn.new) → ActsAs S.Store columns.now others.now table action.now args.now conn.old conn.new result }
     ensures may { IfOk result (MayAnswer columns.now action.now) }
     ensures wide { IfOk result IsWide }
     ensures limit { conn.new.step_limit ≡ conn.old.step_limit }
@@ -127,7 +129,7 @@ fn acted<S: Alter>(
     match action {
         Action::Select(selection) => {
             let names = selection.columns.as_slice();
-            match listed(alloc, conn, columns, table, action, names, args) {
+            match listed(alloc, conn, columns, others, table, action, names, args) {
                 Ok(rows) => Ok(Answer::Rows {
                     columns: names.len(),
                     rows,
@@ -144,16 +146,17 @@ fn acted<S: Alter>(
     }
 }
 
-/// Hands an action at a table of these columns to the database, and answers by what it tells.
+/// Hands an action at a table of these columns, and a second one of those others, if it joins one, to the database, and answers by what it tells.
 pub(crate) fn act<S: Alter>(
     alloc: Global,
     conn: &mut Connection<S>,
     columns: &[Column],
+    others: &[Column],
     table: u8,
     action: &Action,
     args: &[Value],
 ) -> Result<Answer, RunError>
-    ensures acts { HasCleanDisk (state S.Store conn.new) → ActsAs S.Store columns.now table action.now args.now conn.old conn.new result }
+    ensures acts { HasCleanDisk (state S.Store conn.new) → ActsAs S.Store columns.now others.now table action.now args.now conn.old conn.new result }
     ensures may { IfOk result (MayAnswer columns.now action.now) }
     ensures wide { IfOk result IsWide }
     ensures limit { conn.new.step_limit ≡ conn.old.step_limit }
@@ -161,7 +164,7 @@ pub(crate) fn act<S: Alter>(
     if !conn.is_autocommit() {
         return Err(RunError::Failed);
     }
-    acted(alloc, conn, columns, table, action, args)
+    acted(alloc, conn, columns, others, table, action, args)
 }
 
 /// The same of a SELECT, whose answer is pinned.
@@ -169,17 +172,18 @@ pub(crate) fn pinned<S: Alter>(
     alloc: Global,
     conn: &mut Connection<S>,
     columns: &[Column],
+    others: &[Column],
     table: u8,
     action: &Action,
     args: &[Value],
 ) -> Result<Listed, RunError>
     requires select { is_select action.now ≡ true }
-    ensures pinned { HasCleanDisk (state S.Store conn.new) → IfOk result (λ p. ActsAs S.Store columns.now table action.now args.now conn.old conn.new (Ok (pinned_answer p))) }
-    ensures unpinned { HasCleanDisk (state S.Store conn.new) → IfErr result (λ why. ActsAs S.Store columns.now table action.now args.now conn.old conn.new (Err why)) }
+    ensures pinned { HasCleanDisk (state S.Store conn.new) → IfOk result (λ p. ActsAs S.Store columns.now others.now table action.now args.now conn.old conn.new (Ok (pinned_answer p))) }
+    ensures unpinned { HasCleanDisk (state S.Store conn.new) → IfErr result (λ why. ActsAs S.Store columns.now others.now table action.now args.now conn.old conn.new (Err why)) }
     ensures may { IfOk result (λ p. MayAnswer columns.now action.now (pinned_answer p)) }
     ensures limit { conn.new.step_limit ≡ conn.old.step_limit }
 {
-    match act(alloc, conn, columns, table, action, args) {
+    match act(alloc, conn, columns, others, table, action, args) {
         Ok(Answer::Rows { columns, rows }) => Ok(Listed::new(columns, rows)),
         Ok(Answer::Changed(_)) => Err(RunError::Failed),
         Ok(Answer::Duplicate) => Err(RunError::Failed),

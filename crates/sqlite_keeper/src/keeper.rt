@@ -5,7 +5,8 @@ ghost use Rattle.sqlite.specs.State.{HasCleanDisk};
 ghost use Rattle.sqlite.specs.Held.{state};
 ghost use Rattle.okws_outer.specs.Streams.{Counts};
 ghost use Rattle.okws_outer.specs.Keeping.{Runs, Pins, is_select};
-ghost use Rattle.sqlite_keeper.specs.Asking.{RunsAs, KeepsRows};
+ghost use Rattle.okws_plan.specs.Rules.{join_of};
+ghost use Rattle.sqlite_keeper.specs.Asking.{RunsAs, KeepsRows, others_of};
 ghost use Rattle.sqlite_keeper.specs.Making.{IsMade, IsUnmade};
 ghost use Rattle.sqlite_keeper.specs.Pinning.{untold, pinned_answer};
 
@@ -16,9 +17,9 @@ use okws_base::value::Value;
 use okws_outer::error::MakeError;
 use okws_outer::keeper::{Keeper, RunError};
 use okws_outer::pinned::Listed;
-use okws_plan::configuration::Table;
+use okws_plan::configuration::{Column, Table};
 use okws_plan::meaning::columns_at;
-use okws_plan::statement::{Answer, Statement};
+use okws_plan::statement::{Action, Answer, Statement};
 use sqlite::{Alter, Connection};
 use std::alloc::Global;
 
@@ -94,6 +95,24 @@ impl<S: Alter> SqliteKeeper<S> {
     }
 }
 
+/// The columns of the table that an action joins; none where it joins none.
+fn other_columns<'a>(tables: &'a [Table], action: &Action) -> &'a [Column]
+    ensures { result.now ≡ others_of tables.now (join_of action.now) }
+{
+    match action {
+        Action::Select(selection) => match &selection.join {
+            None => &[],
+            Some(join) => columns_at(tables, join.table as usize),
+        },
+        Action::Insert { values: _ } => &[],
+        Action::Update {
+            assignments: _,
+            conditions: _,
+        } => &[],
+        Action::Delete { conditions: _ } => &[],
+    }
+}
+
 /// The count of faults after a call; it stays at 2^64 - 1.
 fn counted<T>(faults: u64, answer: &Result<T, RunError>) -> u64
     ensures counts { Counts faults result (IsErrOf answer.now RunError.Failed) }
@@ -140,10 +159,12 @@ impl<S: Alter> Keeper for SqliteKeeper<S> {
         ensures limit { self.new.conn.step_limit ≡ self.old.conn.step_limit }
     {
         let columns = columns_at(&self.tables, statement.table as usize);
+        let others = other_columns(&self.tables, &statement.action);
         let answer = act(
             alloc,
             &mut self.conn,
             columns,
+            others,
             statement.table,
             &statement.action,
             args,
@@ -172,10 +193,12 @@ impl<S: Alter> Keeper for SqliteKeeper<S> {
         ensures limit { self.new.conn.step_limit ≡ self.old.conn.step_limit }
     {
         let columns = columns_at(&self.tables, statement.table as usize);
+        let others = other_columns(&self.tables, &statement.action);
         let found = pinned(
             alloc,
             &mut self.conn,
             columns,
+            others,
             statement.table,
             &statement.action,
             args,

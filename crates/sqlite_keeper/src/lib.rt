@@ -3,6 +3,7 @@
 #![tactic(auto)]
 
 mod asking;
+mod joins;
 mod keeper;
 mod making;
 mod refusal;

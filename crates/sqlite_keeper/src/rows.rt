@@ -1,6 +1,6 @@
 //! Rows that the database shows, read as values of the listed columns.
 
-ghost use Rattle.std.specs.Prelude.{◌≡◌, ◌<◌, All, IfOk, IfErr, map, length, slice_get, List};
+ghost use Rattle.std.specs.Prelude.{◌≡◌, ◌<◌, ◌++◌, All, IfOk, IfErr, map, length, slice_get, List};
 ghost use Rattle.sqlite.specs.Order.{column};
 ghost use Rattle.okws_base.specs.declared.value.Value.{Value as Field};
 ghost use Rattle.sqlite_keeper.specs.Values.{stored, kinds_of, kind_in, IsOfKind, AreOfKinds};
@@ -22,17 +22,28 @@ fn kind_at(columns: &[Column], at: usize) -> Kind
     }
 }
 
-/// The kinds of the listed columns.
+fn kind_of_side(columns: &[Column], others: &[Column], at: usize) -> Kind
+    ensures { result ≡ kind_in (slice_get (columns.now ++ others.now) at) }
+{
+    if at < columns.len() {
+        kind_at(columns, at)
+    } else {
+        kind_at(others, at - columns.len())
+    }
+}
+
+/// The kinds of the listed columns, which are numbered on through the others.
 pub(crate) fn kinds_of(
     alloc: Global,
     columns: &[Column],
+    others: &[Column],
     listed: &[u8],
 ) -> Result<Vec<Kind>, AllocError>
-    ensures { IfOk result (λ v. v.items ≡ kinds_of columns.now listed.now) }
+    ensures { IfOk result (λ v. v.items ≡ kinds_of (columns.now ++ others.now) listed.now) }
 {
     let mut kinds = Vec::new(alloc);
     for at in listed {
-        kinds.push(kind_at(columns, *at as usize))?;
+        kinds.push(kind_of_side(columns, others, *at as usize))?;
     }
     Ok(kinds)
 }

@@ -4,8 +4,9 @@
 
 ghost use Rattle.std.specs.Prelude.{◌≡◌, IfOk, string_bytes, length, codes};
 ghost use Rattle.std.specs.List.{join_by};
-ghost use Rattle.sqlite_keeper.specs.Texts.{table_name, column_name, comparison_sql, condition_sql, where_sql, assignment_sql, order_sql, limit_sql, select_sql, insert_sql, update_sql, delete_sql, sql_of, kind_sql, key_sql, label_sql, columns_sql, create_sql};
+ghost use Rattle.sqlite_keeper.specs.Texts.{table_name, column_name, comparison_sql, condition_sql, where_sql, assignment_sql, order_sql, limit_sql, select_sql, selection_sql, insert_sql, update_sql, delete_sql, sql_of, kind_sql, key_sql, label_sql, columns_sql, create_sql};
 
+use crate::joins::join_sql;
 use okws_base::value::Kind;
 use okws_plan::configuration::{Column, Table};
 use okws_plan::statement::{Action, Assignment, Comparison, Condition, Selection};
@@ -19,7 +20,7 @@ pub(crate) fn table_name(alloc: Global, table: usize) -> Result<String, AllocErr
     format!(in alloc; "t{table}")
 }
 
-fn comparison_sql(comparison: Comparison) -> &'static str
+pub(crate) fn comparison_sql(comparison: Comparison) -> &'static str
     ensures { result.now ≡ comparison_sql comparison }
 {
     match comparison {
@@ -103,7 +104,7 @@ fn order_sql(alloc: Global, order: Option<u8>) -> Result<String, AllocError>
     }
 }
 
-fn limit_sql(alloc: Global, limit: Option<u32>) -> Result<String, AllocError>
+pub(crate) fn limit_sql(alloc: Global, limit: Option<u32>) -> Result<String, AllocError>
     ensures { IfOk result (λ t. string_bytes t ≡ limit_sql limit) }
 {
     match limit {
@@ -150,12 +151,31 @@ fn delete_sql(alloc: Global, table: u8, conditions: &[Condition]) -> Result<Stri
     format!(in alloc; "DELETE FROM t{table}{met}")
 }
 
-/// The SQL of an action at a table.
-pub(crate) fn sql_of(alloc: Global, table: u8, action: &Action) -> Result<String, AllocError>
-    ensures { IfOk result (λ t. string_bytes t ≡ sql_of table action.now) }
+fn selection_sql(
+    alloc: Global,
+    width: usize,
+    table: u8,
+    selection: &Selection,
+) -> Result<String, AllocError>
+    ensures { IfOk result (λ t. string_bytes t ≡ selection_sql width table selection.now selection.now.join) }
+{
+    match &selection.join {
+        None => select_sql(alloc, table, selection),
+        Some(join) => join_sql(alloc, width, table, selection, join),
+    }
+}
+
+/// The SQL of an action at a table of so many columns.
+pub(crate) fn sql_of(
+    alloc: Global,
+    width: usize,
+    table: u8,
+    action: &Action,
+) -> Result<String, AllocError>
+    ensures { IfOk result (λ t. string_bytes t ≡ sql_of width table action.now) }
 {
     match action {
-        Action::Select(selection) => select_sql(alloc, table, selection),
+        Action::Select(selection) => selection_sql(alloc, width, table, selection),
         Action::Insert { values } => insert_sql(alloc, table as usize, values.as_slice().len()),
         Action::Update {
             assignments,

@@ -1,13 +1,9 @@
 use Rattle.std.proofs.Common.{◌≡◌, ◌∙◌, ◌++◌, ℕ, List, ap, append_assoc}
-use Rattle.std.specs.Prelude.{Result, Ok, Err, IfOk, codes, decimal, string_bytes}
+use Rattle.std.specs.Prelude.{codes, decimal, string_bytes}
 use Rattle.okws_plan.specs.declared.configuration.Table.{Table}
+use Rattle.sqlite_keeper.proofs.Joined.{ok_then}
 use Rattle.sqlite_keeper.specs.Texts.{create_sql, columns_sql, label_sql}
 use Rattle.sqlite_keeper.proofs.texts.create_sql.Goals as goal
-
--- what holds of a value that was made gives what holds of it too
-ok_then : {A E : Type 0} {P Q : A → Type 0} (r : Result A E) → ((x : A) → P x → Q x) → IfOk r P → IfOk r Q
-ok_then (Ok x) f h = f x h
-ok_then (Err e) f h = tt
 
 -- the text of a table, of its name's and its columns'
 created : (t : ℕ) (table : Table) (x label all : List ℕ) → label ≡ label_sql table.name → all ≡ columns_sql 0 table.columns

@@ -47,6 +47,10 @@ query main 20 SELECT data, name FROM v ORDER BY data
 query main 21 SELECT name FROM v WHERE data < ?1 ORDER BY name LIMIT 0
 query main 22 DELETE FROM v WHERE data = ?1
 query main 23 SELECT id FROM t WHERE n = 0 AND kind = 'a' ORDER BY data
+query main 24 SELECT t.id, u.name FROM t JOIN u ON t.kind = u.name ORDER BY u.name
+query main 25 SELECT u.n, t.n, t.id FROM u JOIN t ON t.n = u.n WHERE t.id > ?1 LIMIT 4
+query main 26 SELECT t.id, v.name FROM t JOIN v ON v.data = t.data WHERE v.name <> ?1 AND t.kind = ?2 ORDER BY t.n
+query main 27 SELECT v.data, u.n FROM v JOIN u ON v.name = u.name
 ";
 
 // Whether both keepers answer so many statements alike, the first of which is drawn by this number.
@@ -67,7 +71,7 @@ fn answer_alike<R: Abort, K: Keeper>(
 {
     for _ in 0..calls {
         number = next(number);
-        let query = (number / 4_294_967_296 % 24) as u16;
+        let query = (number / 4_294_967_296 % 28) as u16;
         let args = arguments(rt, alloc, config, query, Pool::Ends, number);
         let found = call(rt, alloc, one, config, query, &args);
         if found != call(rt, alloc, other, config, query, &args) {

@@ -8,6 +8,10 @@ pub mod Keeps
 pub mod Means
 pub mod Tables
 pub mod Rights
+pub mod Pairs
+pub mod Joining
+pub mod ByTable
+pub mod Known
 pub mod Statements
 pub mod Private
 pub mod SoundJournals

@@ -60,7 +60,7 @@ abbrev pub with_more : Config
 with_more = record A {
   proxies = record main_proxy {
     tables = record { name = codes "aside"; columns = record { name = codes "n"; kind = kind.Int; key = false } ∷ []; first = (int 7 ∷ []) ∷ [] } ∷ msgs ∷ [];
-    queries = reverse (map moved queries) ++ record { number = 9; statement = record { table = 0; parameters = []; action = Select (record { columns = 0 ∷ []; conditions = []; order = None; limit = None }) } } ∷ [];
+    queries = reverse (map moved queries) ++ record { number = 9; statement = record { table = 0; parameters = []; action = Select (record { join = None; columns = 0 ∷ []; conditions = []; order = None; limit = None }) } } ∷ [];
   } ∷ [];
 }
 

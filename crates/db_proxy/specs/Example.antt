@@ -16,7 +16,7 @@ table = record { name = codes "t"; columns = record { name = codes "b"; kind = k
 abbrev pub queries : List Query
 queries =
     record { number = 1; statement = record { table = 0; parameters = kind.Bytes ∷ []; action = Insert (Parameter 1 ∷ []) } }
-    ∷ record { number = 2; statement = record { table = 0; parameters = []; action = Select (record { columns = 0 ∷ []; conditions = []; order = None; limit = None }) } }
+    ∷ record { number = 2; statement = record { table = 0; parameters = []; action = Select (record { join = None; columns = 0 ∷ []; conditions = []; order = None; limit = None }) } }
     ∷ record { number = 4; statement = record { table = 0; parameters = kind.Bytes ∷ []; action = Delete (record { column = 0; comparison = Equal; operand = Parameter 1 } ∷ []) } }
     ∷ []
 

@@ -68,15 +68,15 @@ inserted_none : (taken : Bool) (T : List (List Value)) (new : List Value) → Ar
 inserted_none true T new h = h
 inserted_none false T new h = h
 
-selects : (columns : List Column) (action : Action) (args : List Value) (T : List (List Value)) → AreRows (mean_on columns action args T).0 → IsTrue (is_select_action action)
-selects columns (Select selection) args T h = refl
-selects columns (Insert values) args T h = absurd (inserted_none _ T _ h)
-selects columns (Update assignments conditions) args T h = absurd h
-selects columns (Delete conditions) args T h = absurd h
+selects : (columns : List Column) (all : List (List (List Value))) (action : Action) (args : List Value) (T : List (List Value)) → AreRows (mean_on columns all action args T).0 → IsTrue (is_select_action action)
+selects columns all (Select selection) args T h = refl
+selects columns all (Insert values) args T h = absurd (inserted_none _ T _ h)
+selects columns all (Update assignments conditions) args T h = absurd h
+selects columns all (Delete conditions) args T h = absurd h
 
 query_selects : (C : Config) (p : ℕ) (found : Option Query) (args : List Value) (T : List (List (List Value))) → AreRows (query_mean C p found args T).0 → IsTrue (is_select found)
 query_selects C p None args T h = absurd h
-query_selects C p (Some query) args T h = selects _ query.statement.action args _ h
+query_selects C p (Some query) args T h = selects _ T query.statement.action args _ h
 
 within_rows : (answer : Answer) → HasRows (within_frame answer) → AreRows answer
 within_rows (Rows columns T) h = tt

@@ -9,13 +9,14 @@ use Rattle.okws_base.specs.declared.value.Kind.{Kind}
 use Rattle.okws_base.specs.declared.value.Value.{Value}
 use Rattle.okws_plan.specs.Configuration.{grants, query, tables}
 use Rattle.okws_plan.specs.Meaning.{columns_of, mean_on, inserted, is_taken, row_of}
-use Rattle.okws_plan.specs.Rules.{QueriesKeepRules, keeps_rules, action_fits}
+use Rattle.okws_plan.specs.Rules.{QueriesKeepRules, keeps_rules, action_fits, join_of, read_columns, join_fits}
 use Rattle.okws_plan.specs.declared.configuration.Column.{Column}
 use Rattle.okws_plan.specs.declared.configuration.Config.{Config}
 use Rattle.okws_plan.specs.declared.configuration.Query.{Query}
 use Rattle.okws_plan.specs.declared.event.Call.{Call}
 use Rattle.okws_plan.specs.declared.event.Mark.TheVariants.{Done}
 use Rattle.okws_plan.specs.declared.event.ProxyEvent.{ProxyEvent}
+use Rattle.okws_plan.specs.declared.statement.Join.{Join}
 use Rattle.okws_plan.specs.declared.statement.Action.{Action}
 use Rattle.okws_plan.specs.declared.statement.Action.TheVariants.{Select, Insert, Update, Delete}
 use Rattle.okws_plan.specs.declared.statement.Answer.{Answer}
@@ -40,24 +41,26 @@ insert_narrow : (b : Bool) (T : List (List Value)) (row : List Value) → IsNarr
 insert_narrow true T row = tt
 insert_narrow false T row = tt
 
-action_narrow : (columns : List Column) (kinds : List Kind) (action : Action) (args : List Value) (T : List (List Value)) → action_fits columns kinds action ≡ true
-    → IsNarrowAnswer (mean_on columns action args T).0
-action_narrow columns kinds (Select s) args T h =
+action_narrow : (columns own : List Column) (kinds : List Kind) (all : List (List (List Value))) (action : Action) (args : List Value) (T : List (List Value)) → action_fits columns kinds action ≡ true
+    → IsNarrowAnswer (mean_on own all action args T).0
+action_narrow columns own kinds all (Select s) args T h =
     let low : 1 ≤ length s.columns = leb-true 1 (length s.columns) (and_first _ _ h) in
     let high : length s.columns ≤ MOST_COLUMNS = leb-true (length s.columns) MOST_COLUMNS (and_first _ _ (and_second (nat_le 1 (length s.columns)) _ h)) in
     (omega (arith, low), omega (arith, high))
-action_narrow columns kinds (Insert values) args T h = insert_narrow (is_taken columns T (row_of args values)) T (row_of args values)
-action_narrow columns kinds (Update assignments conditions) args T h = tt
-action_narrow columns kinds (Delete conditions) args T h = tt
+action_narrow columns own kinds all (Insert values) args T h = insert_narrow (is_taken own T (row_of args values)) T (row_of args values)
+action_narrow columns own kinds all (Update assignments conditions) args T h = tt
+action_narrow columns own kinds all (Delete conditions) args T h = tt
 
 query_narrow : (C : Config) (p : ℕ) (o : Option Query) (args : List Value) (T : List (List (List Value)))
     → ((x : Query) → o ≡ Some x → keeps_rules (tables C p) x.statement ≡ true) → IsNarrowAnswer (query_mean C p o args T).0
 query_narrow C p None args T h = tt
 query_narrow C p (Some x) args T h =
     let all : keeps_rules (tables C p) x.statement ≡ true = h x refl in
-    let fits : action_fits (columns_of (tables C p) x.statement.table) x.statement.parameters x.statement.action ≡ true =
-    and_first _ _ (and_second (nat_le (length x.statement.parameters) MOST_PARAMETERS) _ (and_second (nat_lt x.statement.table (length (tables C p))) _ all)) in
-    action_narrow (columns_of (tables C p) x.statement.table) x.statement.parameters x.statement.action args (slice_index_or T x.statement.table []) fits
+    let joined : Option Join = join_of x.statement.action in
+    let read : List Column = read_columns (tables C p) x.statement.table joined in
+    let fits : action_fits read x.statement.parameters x.statement.action ≡ true =
+    and_first _ _ (and_second (join_fits (tables C p) x.statement.table joined) _ (and_second (nat_le (length x.statement.parameters) MOST_PARAMETERS) _ (and_second (nat_lt x.statement.table (length (tables C p))) _ all))) in
+    action_narrow read (columns_of (tables C p) x.statement.table) x.statement.parameters T x.statement.action args (slice_index_or T x.statement.table []) fits
 
 granted_keeps : (C : Config) (p s q : ℕ) (b : Bool) → QueriesKeepRules C p → (x : Query) → (if b then query C p q else None) ≡ Some x → keeps_rules (tables C p) x.statement ≡ true
 granted_keeps C p s q true h x e = h q x e

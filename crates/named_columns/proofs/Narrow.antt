@@ -10,7 +10,7 @@ use Rattle.okws_base.specs.declared.value.Kind.{Kind}
 use Rattle.okws_base.specs.declared.value.Value.{Value}
 use Rattle.okws_plan.specs.Configuration.{grants, query, tables}
 use Rattle.okws_plan.specs.Meaning.{columns_of}
-use Rattle.okws_plan.specs.Rules.{QueriesKeepRules, keeps_rules, action_fits}
+use Rattle.okws_plan.specs.Rules.{QueriesKeepRules, keeps_rules, action_fits, join_of, read_columns, join_fits}
 use Rattle.okws_plan.specs.declared.configuration.Column.{Column}
 use Rattle.okws_plan.specs.declared.configuration.Config.{Config}
 use Rattle.okws_plan.specs.declared.configuration.Query.{Query}
@@ -18,6 +18,7 @@ use Rattle.okws_plan.specs.declared.event.Call.{Call}
 use Rattle.okws_plan.specs.declared.event.Mark.{Mark}
 use Rattle.okws_plan.specs.declared.event.Mark.TheVariants.{Done, Fault}
 use Rattle.okws_plan.specs.declared.event.ProxyEvent.{ProxyEvent}
+use Rattle.okws_plan.specs.declared.statement.Join.{Join}
 use Rattle.okws_plan.specs.declared.statement.Action.{Action}
 use Rattle.okws_plan.specs.declared.statement.Action.TheVariants.{Select, Insert, Update, Delete}
 use Rattle.okws_plan.specs.declared.statement.Answer.{Answer}
@@ -40,22 +41,22 @@ IsNarrowAnswer (answer.Rows columns T) = (0 < columns) × (columns < 256)
 IsNarrowAnswer (answer.Changed n) = Unit {0}
 IsNarrowAnswer answer.Duplicate = Unit {0}
 
-may_narrow : (columns : List Column) (kinds : List Kind) (action : Action) (a : Answer) → action_fits columns kinds action ≡ true → MayAnswer columns action a → IsNarrowAnswer a
-may_narrow columns kinds (Select s) (answer.Rows n T) h is =
+may_narrow : (columns own : List Column) (kinds : List Kind) (action : Action) (a : Answer) → action_fits columns kinds action ≡ true → MayAnswer own action a → IsNarrowAnswer a
+may_narrow columns own kinds (Select s) (answer.Rows n T) h is =
     let low : 1 ≤ length s.columns = leb-true 1 (length s.columns) (and_first _ _ h) in
     let high : length s.columns ≤ MOST_COLUMNS = leb-true (length s.columns) MOST_COLUMNS (and_first _ _ (and_second (nat_le 1 (length s.columns)) _ h)) in
     (omega (arith, low, is), omega (arith, high, is))
-may_narrow columns kinds (Select s) (answer.Changed n) h is = tt
-may_narrow columns kinds (Select s) answer.Duplicate h is = tt
-may_narrow columns kinds (Insert values) (answer.Rows n T) h is = absurd is
-may_narrow columns kinds (Insert values) (answer.Changed n) h is = tt
-may_narrow columns kinds (Insert values) answer.Duplicate h is = tt
-may_narrow columns kinds (Update assignments conditions) (answer.Rows n T) h is = absurd is
-may_narrow columns kinds (Update assignments conditions) (answer.Changed n) h is = tt
-may_narrow columns kinds (Update assignments conditions) answer.Duplicate h is = tt
-may_narrow columns kinds (Delete conditions) (answer.Rows n T) h is = absurd is
-may_narrow columns kinds (Delete conditions) (answer.Changed n) h is = tt
-may_narrow columns kinds (Delete conditions) answer.Duplicate h is = tt
+may_narrow columns own kinds (Select s) (answer.Changed n) h is = tt
+may_narrow columns own kinds (Select s) answer.Duplicate h is = tt
+may_narrow columns own kinds (Insert values) (answer.Rows n T) h is = absurd is
+may_narrow columns own kinds (Insert values) (answer.Changed n) h is = tt
+may_narrow columns own kinds (Insert values) answer.Duplicate h is = tt
+may_narrow columns own kinds (Update assignments conditions) (answer.Rows n T) h is = absurd is
+may_narrow columns own kinds (Update assignments conditions) (answer.Changed n) h is = tt
+may_narrow columns own kinds (Update assignments conditions) answer.Duplicate h is = tt
+may_narrow columns own kinds (Delete conditions) (answer.Rows n T) h is = absurd is
+may_narrow columns own kinds (Delete conditions) (answer.Changed n) h is = tt
+may_narrow columns own kinds (Delete conditions) answer.Duplicate h is = tt
 
 within_narrow : (a : Answer) → IsNarrowAnswer a → IsNarrow (within_frame a)
 within_narrow (answer.Rows columns T) h =
@@ -84,9 +85,11 @@ query_narrow : (C : Config) (p : ℕ) (g : Option Query) (args : List Value) (a 
 query_narrow C p None args a keeps e may = absurd (cc)
 query_narrow C p (Some x) args a keeps e may =
     let all : keeps_rules (tables C p) x.statement ≡ true = keeps x refl in
-    let fits : action_fits (columns_of (tables C p) x.statement.table) x.statement.parameters x.statement.action ≡ true =
-    and_first _ _ (and_second (nat_le (length x.statement.parameters) MOST_PARAMETERS) _ (and_second (nat_lt x.statement.table (length (tables C p))) _ all)) in
-    may_narrow (columns_of (tables C p) x.statement.table) x.statement.parameters x.statement.action a fits may
+    let joined : Option Join = join_of x.statement.action in
+    let read : List Column = read_columns (tables C p) x.statement.table joined in
+    let fits : action_fits read x.statement.parameters x.statement.action ≡ true =
+    and_first _ _ (and_second (join_fits (tables C p) x.statement.table joined) _ (and_second (nat_le (length x.statement.parameters) MOST_PARAMETERS) _ (and_second (nat_lt x.statement.table (length (tables C p))) _ all))) in
+    may_narrow read (columns_of (tables C p) x.statement.table) x.statement.parameters x.statement.action a fits may
 
 untold_narrow : (C : Config) (p : ℕ) (J : List (Entry ProxyEvent)) (call : Call) (mark : Mark) (a : Answer) → QueriesKeepRules C p
     → (call_denial C p J call ≡ None → mark ≡ Done → MayBeAnswered C p call a) → IsNarrow (call_answer (call_denial C p J call) mark a)

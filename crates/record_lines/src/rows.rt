@@ -6,7 +6,7 @@ use crate::plain::{At, Deed, Line};
 use okws_base::items::{Exact, copies};
 use okws_base::value::{Row, Value};
 use okws_plan::configuration::{Config, Query, Table};
-use okws_plan::meaning::{assigned_row, columns_at, meets_every, new_row, selected, taken};
+use okws_plan::meaning::{assigned_row, columns_at, joined, meets_every, new_row, selected, taken};
 use okws_plan::statement::{Action, Answer, Condition, Operand, Statement};
 use std::alloc::{AllocError, Global};
 
@@ -44,7 +44,7 @@ fn hits(args: &[Value], conditions: &[Condition], rows: &[Row]) -> u64 {
     count
 }
 
-/// What a statement answers on the rows of its table.
+/// What a statement answers on the rows that it reads: those of its table, or joined rows.
 fn answer_on(
     alloc: Global,
     tables: &[Table],
@@ -168,6 +168,25 @@ pub fn answer_to(
 ) -> Result<Answer, AllocError> {
     let tables = tables_at(case.site, line.at);
     let statement = &query.statement;
-    let rows = rows_of(case, tables, before, statement.table)?;
+    let rows = rows_read(case, tables, before, statement)?;
     answer_on(case.alloc, tables, statement, line.args, &rows)
+}
+
+/// The rows that a statement reads behind these lines.
+fn rows_read(
+    case: &Case<'_, '_>,
+    tables: &[Table],
+    before: &[Line<'_>],
+    statement: &Statement,
+) -> Result<Vec<Row>, AllocError> {
+    let rows = rows_of(case, tables, before, statement.table)?;
+    let Action::Select(selection) = &statement.action else {
+        return Ok(rows);
+    };
+    let Some(join) = &selection.join else {
+        return Ok(rows);
+    };
+    let width = columns_at(tables, usize::from(statement.table)).len();
+    let others = rows_of(case, tables, before, join.table)?;
+    joined(case.alloc, width, join, &rows, &others)
 }

@@ -1,4 +1,5 @@
-//! Query texts, for the tables `msgs (id INT KEY, who TEXT, note TEXT)` and `blobs (b BYTES)`.
+//! Query texts, for the tables `msgs (id INT KEY, who TEXT, note TEXT)`, `blobs (b BYTES)` and
+//! `tags (id INT, tag TEXT)`.
 
 use config_reader::read;
 use okws_plan::configuration::{Config, Table};
@@ -7,7 +8,7 @@ use statement_core::{CompileError, compile, text_of};
 use std::alloc::{AllocError, Global};
 
 const SITE: &[u8] =
-    b"okws 1\nproxy p\ntable p msgs id INT KEY who TEXT note TEXT\ntable p blobs b BYTES\n";
+    b"okws 1\nproxy p\ntable p msgs id INT KEY who TEXT note TEXT\ntable p blobs b BYTES\ntable p tags id INT tag TEXT\n";
 
 fn tables_of(config: &Config) -> &[Table] {
     match config.proxies.as_slice() {

@@ -6,7 +6,7 @@ PAGE = os.path.join(okws_site.ROOT, 'docs', 'RULES.md')
 PARTS = {'config': 'Configurations', 'script': 'Scripts', 'denied': 'Denials', 'query': 'Query texts'}
 DIRECTIVES = ['proxy', 'table', 'row', 'query', 'service', 'retry', 'uri', 'grant', 'template', 'read', 'log']
 SCRIPT_LINES = ['launch', 'relaunch', 'accept', 'dialog', 'bytes', 'end', 'publish', 'begin', 'install', 'boot', 'up', 'down', 'revoke']
-QUERY_WORDS = ['SELECT', 'FROM', 'WHERE', 'AND', 'ORDER', 'BY', 'LIMIT', 'INSERT', 'INTO', 'VALUES', 'UPDATE', 'SET', 'DELETE']
+QUERY_WORDS = ['SELECT', 'FROM', 'WHERE', 'AND', 'ORDER', 'BY', 'LIMIT', 'INSERT', 'INTO', 'VALUES', 'UPDATE', 'SET', 'DELETE', 'JOIN', 'ON']
 UNDECLARED = 11      # of a configuration
 QUERY_REFUSED = 15
 

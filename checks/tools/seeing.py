@@ -143,13 +143,13 @@ def each_rule_of_the_page_has_words():
         section = read(f'{ROOT}/docs/RULES.md').split(f'\n## {part}\n')[1].split('\n## ')[0]
         for number, name in re.findall(r'^### (\d+) (\w+)', section, re.M):
             has(okws_rules.rule(kind, int(number)), f'rule {number} {name}: ')
-    for number in range(1, 12):
+    for number in range(1, 15):
         has(okws_rules.rule('query', number), f'rule {number} ')
     has(run('okws-explain', 'denied', '14'), 'rule 14 QueryNotGranted: ')
     has(run('okws-explain', 'console', '2'), 'no such template')
     has(run('okws-explain', 'console', '6'), '1000000 incarnations')
     has(run('okws-explain', 'status', '5'), 'port')
-    for kind, number in [('config', '17'), ('query', '12'), ('denied', '9'), ('console', '7'), ('status', '1')]:
+    for kind, number in [('config', '17'), ('query', '15'), ('denied', '9'), ('console', '7'), ('status', '1')]:
         run('okws-explain', kind, number, status=2)
 
 

@@ -127,6 +127,21 @@ came_to_end old mid new before room now done so_far within end less =
 pub came_to_fault : (old mid new : Option (List ℕ)) (before room now : List ℕ) (done : ℕ) → HasCome old mid before room done → Keeps mid new → Comes old new before now came.Failed
 came_to_fault old mid new before room now done so_far keeps = (so_far.0, Consumes-kept old mid new so_far.0 so_far.1 keeps)
 
+-- ---- bytes that are made longer, and what came into them
+
+-- those that were there stand at the front
+pub stand_in_front : (before zeros now : List ℕ) (n done : ℕ) → done ≡ length before → length before ≤ n → now ≡ take n before ++ zeros → take done now ≡ before
+stand_in_front before zeros now n done len within is =
+    ap (λ (i : ℕ). take i now) len ∙ ap (take (length before)) (is ∙ ap (λ (t : List ℕ). t ++ zeros) (take_all n before within)) ∙ take_at before zeros (length before) refl
+
+-- a whole slice that was written stands in the place of what it was lent from
+lent_back : (now xs : List ℕ) (n : ℕ) → n ≡ length xs → length now ≡ length xs → take n (now ++ drop (length now) xs) ≡ now
+lent_back now xs n len same = take_at now (drop (length now) xs) n (same ∙ sym len)
+
+pub came_behind : (first before mid xs room more : List ℕ) (n done : ℕ) → before ≡ first ++ mid → take done xs ≡ before → room ≡ take done xs ++ more → n ≡ length xs → length room ≡ length xs → take n (room ++ drop (length room) xs) ≡ first ++ (mid ++ more)
+came_behind first before mid xs room more n done is front came len same =
+    lent_back room xs n len same ∙ came ∙ ap (λ (t : List ℕ). t ++ more) (front ∙ is) ∙ append_assoc first mid more
+
 -- ---- a head, and what came behind it into a room
 
 pub room_is_whole : (old new : Option (List ℕ)) (start room : List ℕ) → IsRoom start → length room ≡ length start → Comes old new (take 4 start) room came.All → IsWhole room

@@ -11,10 +11,10 @@ use Rattle.frame_link.specs.declared.receiving.Filled.TheVariants.{Whole, Ended,
 use Rattle.frame_link.specs.declared.receiving.NextFrame.{NextFrame}
 use Rattle.frame_link.specs.declared.receiving.NextFrame.TheVariants as next
 
--- Bytes were taken behind those that were there. Whole: so many are there as were wanted; Ended: fewer, and none are left.
+-- Bytes were taken behind those that were there. Whole: so many are there as were wanted; Ended: fewer came, and none are left.
 abbrev pub Fills : Option (List ℕ) → Option (List ℕ) → List ℕ → List ℕ → ℕ → Filled → Type 0
 Fills old new before now total Whole = (more : List ℕ) × Consumes old new more × (now ≡ before ++ more) × (length now ≡ total)
-Fills old new before now total Ended = (more : List ℕ) × Consumes old new more × (now ≡ before ++ more) × (length now < total) × IsAtEnd new
+Fills old new before now total Ended = (more : List ℕ) × Consumes old new more × (length (before ++ more) < total) × IsAtEnd new
 Fills old new before now total Failed = (more : List ℕ) × Consumes old new more
 Fills old new before now total NoMemory = (more : List ℕ) × Consumes old new more
 

@@ -61,7 +61,7 @@ const SHORT: usize = 252;
 const ROOM: usize = HEAD + SHORT;
 
 /// Bytes of a longer frame that are asked for at a time.
-const PIECE: usize = 256;
+const PIECE: usize = 65_536;
 
 /// Takes bytes from the link behind the first ones of a room, until it is full.
 fn fill_up<L: Link>(link: &mut L, room: &mut [u8], first: usize) -> Came
@@ -80,23 +80,25 @@ fn fill_up<L: Link>(link: &mut L, room: &mut [u8], first: usize) -> Came
     Came::All
 }
 
-/// Takes bytes from the link until there are so many in all.
+/// Takes bytes from the link until there are so many in all. Only then are all that stand there of the link.
 fn fill<L: Link>(link: &mut L, bytes: &mut Vec<u8>, total: usize) -> Filled
     requires { length bytes.old.items ≤ total }
     ensures bytes { Fills (L.wire link.old).left (L.wire link.new).left bytes.old.items bytes.new.items total result }
     ensures link { Receives (L.wire link.old) (L.wire link.new) (result ≡ Filled.Failed) }
 {
-    let mut piece = [0u8; PIECE];
+    if bytes.reserve(total - bytes.len()).is_err() {
+        return Filled::NoMemory;
+    }
     while bytes.len() < total {
-        let wanted = (total - bytes.len()).min(PIECE);
-        match link.pull(&mut piece[..wanted]) {
-            Pull::Took(count) => {
-                if bytes.extend_from_slice(&piece[..count]).is_err() {
-                    return Filled::NoMemory;
-                }
-            }
-            Pull::End => return Filled::Ended,
-            Pull::Failed => return Filled::Failed,
+        let done = bytes.len();
+        let room = done + (total - done).min(PIECE);
+        if bytes.resize(room, 0).is_err() {
+            return Filled::NoMemory;
+        }
+        match fill_up(link, bytes.as_mut_slice(), done) {
+            Came::All => {}
+            Came::Ended(_) => return Filled::Ended,
+            Came::Failed => return Filled::Failed,
         }
     }
     Filled::Whole

@@ -1,4 +1,4 @@
-use Rattle.std.proofs.Common.{◌∙◌, ◌++◌, ℕ, List, ap, arith, length, subst, sym}
+use Rattle.std.proofs.Common.{◌∙◌, ◌++◌, ◌+◌, ◌<◌, ℕ, List, ap, arith, length, refl, subst, sym}
 use Rattle.std.specs.Io.KnownBytes.{Consumes}
 use Rattle.std.proofs.KnownBytes.{Consumes-trans}
 use Rattle.frame_codec.proofs.Sizes.{length-four}
@@ -36,16 +36,14 @@ returns-in-Whole-clause-link g c = received_if _ _ _ _ (λ is. absurd (not_fault
 pub returns-in-Ended-clause-next : goal.returns-in-Ended-clause-next
 returns-in-Ended-clause-next g c = λ old first.
     let s = c.in-Ended.ensures.bytes in
-    let before = subst (λ (t : List ℕ). Consumes old (g.L.Link.wire c.args.link.now).left t) (sym c.in-Ok.ensures.items) first in
-    let all = s.2 ∙ ap (λ (t : List ℕ). t ++ s.0) c.in-Ok.ensures.items in
-    ended_next g.F.Frame.parts g.F.Frame.fits _ _ _ (took_both old _ _ _ _ s.0 before s.1 s.2) (part_is_short c.args.size c.args.head.now _ s.0 c.requires.0 c.requires.1 all s.3) (is_some c.args.size c.args.head.now _ s.0 c.requires.1 all) s.4
+    let few = subst (λ (t : List ℕ). length (t ++ s.0) < 4 + c.args.size) c.in-Ok.ensures.items s.2 in
+    ended_next g.F.Frame.parts g.F.Frame.fits _ _ (c.args.head.now ++ s.0) (Consumes-trans old _ _ c.args.head.now s.0 first s.1) (part_is_short c.args.size c.args.head.now _ s.0 c.requires.0 c.requires.1 refl few) (is_some c.args.size c.args.head.now _ s.0 c.requires.1 refl) s.3
 
 pub returns-in-Ended-clause-bad : goal.returns-in-Ended-clause-bad
 returns-in-Ended-clause-bad g c = λ old first is.
     let s = c.in-Ended.ensures.bytes in
-    let before = subst (λ (t : List ℕ). Consumes old (g.L.Link.wire c.args.link.now).left t) (sym c.in-Ok.ensures.items) first in
-    let all = s.2 ∙ ap (λ (t : List ℕ). t ++ s.0) c.in-Ok.ensures.items in
-    ended_front g.F.Frame.parts g.F.Frame.fits _ _ _ (took_both old _ _ _ _ s.0 before s.1 s.2) (part_is_short c.args.size c.args.head.now _ s.0 c.requires.0 c.requires.1 all s.3) (is_some c.args.size c.args.head.now _ s.0 c.requires.1 all) s.4
+    let few = subst (λ (t : List ℕ). length (t ++ s.0) < 4 + c.args.size) c.in-Ok.ensures.items s.2 in
+    ended_front g.F.Frame.parts g.F.Frame.fits _ _ (c.args.head.now ++ s.0) (Consumes-trans old _ _ c.args.head.now s.0 first s.1) (part_is_short c.args.size c.args.head.now _ s.0 c.requires.0 c.requires.1 refl few) (is_some c.args.size c.args.head.now _ s.0 c.requires.1 refl) s.3
 
 pub returns-in-Failed-clause-next : goal.returns-in-Failed-clause-next
 returns-in-Failed-clause-next g c = λ old first.

@@ -89,7 +89,7 @@ module _ (S : Type 0) (publishes : S → ℕ → List ℕ → Publishing → S �
   stops start mid new before after held command J now t is carried =
       let command_is = commanded start mid new new before after held [] t (subst (λ (b : List ℕ). Consumes mid.left new.left b) carried.is.1 carried.taken_are) refl in
       let order_is = sym (said C start mid before after held command t is) ∙ carried.is.0 in
-      ((strip_carriage_return t.text, command_is, order_is), carried.given ∙ t.given, carried.is.2)
+      ((strip_carriage_return t.text, command_is, order_is), carried.given ∙ t.given, carried.is.2, carried.still (λ e. cc) ∙ t.still (λ e. cc))
 
   pub fails : (start mid new : ConnWire) (before after : ℕ) (held : List ℕ) (command : Order) (J now : S) → TakesCommand start mid before after held taken.Line → command ≡ order_of C (strip_carriage_return held)
       → CarriesOut publishes relaunches mid new after command J now done.Failed → Steps publishes relaunches C start new before after J now (ConsoleFault None)

@@ -7,7 +7,7 @@ use Rattle.std.proofs.Math.Seq.{take-length}
 use Rattle.std.proofs.lemmas.List.{length-take-le, take-append-drop}
 use Rattle.okws_outer.specs.Streams.{Rose, counted}
 use Rattle.okws_outer.specs.Conns.{ConnWire}
-use Rattle.okws_outer.specs.Doors.{Entrance}
+use Rattle.okws_outer.specs.Doors.{Entrance, Accepts, with_finished}
 use Rattle.http_text.specs.Reading.{IsInterim, IsMethod}
 use Rattle.http_front.specs.Kept.{method_text}
 use Rattle.http_front.specs.Pulling.{IsReadPromptly}
@@ -164,3 +164,38 @@ module _ (S : Type 0) (handles : S → Asked → Outcome → Replied → S → T
         };
         told = (refl, r.rose refl);
       }
+
+  -- ---- a connection that was accepted, and is finished
+
+  accepted_one : (C : Type 0) (wire : C → ConnWire) (old mid new : Entrance) (conn : C) (ended : ConnWire) → Accepts old mid (wire conn) → new ≡ with_finished ended mid → Finishes wire old new (wire conn) ended
+  accepted_one C wire old mid new conn ended came is = record {
+    conn = conn;
+    conn_is = refl;
+    accepted = subst (λ (m : Entrance). Accepts old m (wire conn)) came.out came;
+    finished = is ∙ ap (λ (m : Entrance). with_finished ended m) came.out;
+  }
+
+  cut_counts : (begun ended old new : ℕ) → begun ≡ 0 → Rose begun ended → new ≡ counted old ended → Rose old new
+  cut_counts begun ended old new none rose is = omega (arith, none, rose, is)
+
+  pub serves : (C : Type 0) (wire : C → ConnWire) (old mid new : Entrance) (conn : C) (ended : ConnWire) (J K now : S) (kept : Kept) (reply : Replied) (serving : Serving) → Accepts old mid (wire conn) → K ≡ J → Attends handles starves (wire conn) ended K now kept reply serving
+      → new ≡ with_finished ended mid → Serves wire handles starves old new J now kept reply serving
+  serves C wire old mid new conn ended J K now kept reply (Served a) came same attends is = record {
+    begun = wire conn;
+    ended = ended;
+    finishes = accepted_one C wire old mid new conn ended came is;
+    attends = subst (λ (j : S). Attends handles starves (wire conn) ended j now kept reply (Served a)) same attends;
+    rose = tt;
+  }
+  serves C wire old mid new conn ended J K now kept reply (ConnFault a) came same attends is =
+      let f = accepted_one C wire old mid new conn ended came is in
+      record {
+        begun = wire conn;
+        ended = ended;
+        finishes = f;
+        attends = subst (λ (j : S). Attends handles starves (wire conn) ended j now kept reply (ConnFault a)) same attends;
+        rose = cut_counts (wire conn).faults ended.faults old.faults new.faults came.faults attends.told.1 (ap (λ (e : Entrance). e.faults) f.finished);
+      }
+  serves C wire old mid new conn ended J K now kept reply NoConn came same attends is = absurd attends.told
+  serves C wire old mid new conn ended J K now kept reply NoneCame came same attends is = absurd attends.told
+  serves C wire old mid new conn ended J K now kept reply NoMemory came same attends is = absurd attends.told

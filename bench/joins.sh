@@ -3,7 +3,7 @@
 # the repository, beside C's SQLite in memory, in one run: all pairs, which are as many as the rows, and the one pair of one row.
 #   bench/joins.sh   at the top of the repository; needs cc and C's SQLite with its header
 set -eu
-below='okws_base okws_plan okws_outer plain_text query_syntax statement_core config_syntax config_reader row_index index_keeper'
+below='okws_base okws_plan okws_outer plain_text query_syntax statement_core config_syntax config_reader row_index row_search index_keeper'
 copy=$(mktemp -d)
 trap 'rm -rf "$copy"' EXIT
 cc -O2 -o "$copy/c" bench/joins.c -lsqlite3

@@ -3,7 +3,7 @@
 # map in the same run, in a copy of the repository: the program is proved, built by LLVM and run. Run it at the
 # top of the repository.
 set -eu
-below='okws_base okws_plan okws_outer plain_text query_syntax statement_core config_syntax config_reader row_index index_keeper'
+below='okws_base okws_plan okws_outer plain_text query_syntax statement_core config_syntax config_reader row_index row_search index_keeper'
 copy=$(mktemp -d)
 trap 'rm -rf "$copy"' EXIT
 cp HANDLES "$copy"

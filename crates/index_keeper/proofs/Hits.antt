@@ -13,13 +13,13 @@ use Rattle.row_index.specs.Places.{row_at}
 use Rattle.row_index.proofs.Stood.{each_here}
 use Rattle.row_index.specs.Slots.{places_in}
 use Rattle.row_index.specs.Index.{is_value, IsIndex}
-use Rattle.index_keeper.specs.Places.{places_where, rows_of, leading, left_of}
+use Rattle.row_search.specs.Places.{places_where, rows_of, leading, left_of}
 use Rattle.row_index.specs.Changes.{changes_to}
-use Rattle.index_keeper.specs.Hits.{lent, entries_of, entries_at}
+use Rattle.row_search.specs.Hits.{lent, entries_of, entries_at}
 use Rattle.row_index.specs.declared.changing.Change.{Change}
-use Rattle.index_keeper.specs.declared.finding.Hit.{Hit}
+use Rattle.row_search.specs.declared.finding.Hit.{Hit}
 use Rattle.row_index.specs.declared.slots.Slots.{Slots}
-use Rattle.index_keeper.proofs.Found.{candidates_are, leading_holds, met_leading, sole_leading}
+use Rattle.row_search.proofs.Found.{candidates_are, leading_holds, met_leading, sole_leading}
 
 -- Of the places that pass one test those whose rows pass the rest of a narrower one, with their rows, are the entries that pass this.
 narrowed_entries : (at : ℕ → Option (List Value)) (holds rest meets : List Value → Bool) (es : List (ℕ × List Value)) → Each (λ (e : ℕ × List Value). at e.0 ≡ Some e.1) es → ((row : List Value) → meets row ≡ (holds row && rest row))

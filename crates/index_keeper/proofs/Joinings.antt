@@ -18,11 +18,11 @@ use Rattle.okws_plan.specs.declared.statement.Condition.{Condition}
 use Rattle.okws_plan.specs.declared.statement.Join.{Join}
 use Rattle.okws_plan.specs.declared.statement.Selection.{Selection}
 use Rattle.okws_plan.proofs.Laid.{laid_first, laid_second}
-use Rattle.index_keeper.specs.Hits.{lent}
+use Rattle.row_search.specs.Hits.{lent}
 use Rattle.index_keeper.specs.Joining.{own_conditions, equal_to, joined_hits}
-use Rattle.index_keeper.specs.declared.finding.Hit.{Hit}
-use Rattle.index_keeper.proofs.Entries.{value_eq_is}
-use Rattle.index_keeper.proofs.Found.{filter_alike}
+use Rattle.row_search.specs.declared.finding.Hit.{Hit}
+use Rattle.row_search.proofs.Entries.{value_eq_is}
+use Rattle.row_search.proofs.Found.{filter_alike}
 
 same : (a b : Value) → value_eq a b ≡ true → a ≡ b
 same (value.Int a) (value.Int b) h = ap value.Int ((signed_Decides a b).0 h)

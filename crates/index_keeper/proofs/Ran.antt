@@ -18,7 +18,7 @@ use Rattle.okws_plan.specs.declared.statement.Statement.{Statement}
 use Rattle.okws_plan.specs.Meaning.{mean_on, mean, columns_of, ordered, limited}
 use Rattle.okws_outer.proofs.Widths.{cut_rows_wide}
 use Rattle.okws_plan.specs.Rules.{keeps_rules, join_of, join_fits, are_apart}
-use Rattle.index_keeper.specs.Places.{Indexed, rows_of}
+use Rattle.row_search.specs.Places.{Indexed, rows_of}
 use Rattle.index_keeper.specs.Joining.{join_rows, joined_hits}
 
 -- The rows of each table.

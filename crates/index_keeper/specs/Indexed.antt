@@ -11,7 +11,7 @@ use Rattle.okws_plan.specs.declared.statement.Action.TheVariants.{Select, Insert
 use Rattle.okws_plan.specs.Rules.{join_of}
 use Rattle.okws_plan.specs.declared.statement.Join.{Join}
 use Rattle.okws_plan.specs.declared.statement.Condition.{Condition}
-use Rattle.index_keeper.specs.Places.{Indexed, is_equality, places_where, rows_of, tests}
+use Rattle.row_search.specs.Places.{Indexed, is_equality, places_where, rows_of, tests}
 
 -- The conditions of an action; an INSERT has none.
 abbrev pub conditions_of : Action → List Condition

@@ -1,5 +1,3 @@
-pub mod Places
-pub mod Hits
 pub mod Indexed
 pub mod Pinning
 pub mod Pinned

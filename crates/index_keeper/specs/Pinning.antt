@@ -9,7 +9,7 @@ use Rattle.okws_base.specs.declared.value.Value.{Value}
 use Rattle.okws_plan.specs.Meaning.{at_column, meets_all, hits, ordered, limited}
 use Rattle.okws_plan.specs.declared.statement.Condition.{Condition}
 use Rattle.row_index.specs.Places.{row_at}
-use Rattle.index_keeper.specs.Places.{places_where, passes_at, rows_of}
+use Rattle.row_search.specs.Places.{places_where, passes_at, rows_of}
 use Rattle.row_index.specs.Changes.{row_or}
 
 -- A pin as contracts see it: how many columns its answer has, its rows, and whether it was found.

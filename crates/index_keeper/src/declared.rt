@@ -5,7 +5,7 @@ ghost use Rattle.std.specs.List.{list_any, find};
 ghost use Rattle.okws_plan.specs.Meaning.{key_place};
 ghost use Rattle.index_keeper.specs.Indexed.{conditions_of, compares, joins_by, joins_at, is_key, is_wanted, wanted};
 ghost use Rattle.okws_plan.specs.Rules.{join_of};
-ghost use Rattle.index_keeper.specs.Places.{is_equality};
+ghost use Rattle.row_search.specs.Places.{is_equality};
 
 use okws_plan::configuration::{Column, Query, Table};
 use okws_plan::meaning::columns_at;

@@ -4,17 +4,17 @@ ghost use Rattle.std.specs.Prelude.{◌≡◌, ◌++◌, nat_lt, true, IfOk, OnO
 ghost use Rattle.okws_plan.specs.Meaning.{laid, hits, joined_to, ordered, limited, cut_all};
 ghost use Rattle.okws_plan.specs.Rules.{are_apart};
 ghost use Rattle.index_keeper.specs.Joining.{own_column as column_of_first, other_column as column_of_second, own_conditions, equal_to, joined_hits};
-ghost use Rattle.index_keeper.specs.Places.{rows_of};
+ghost use Rattle.row_search.specs.Places.{rows_of};
 
-use crate::finding::Hit;
 use crate::held::copy_condition;
 use crate::rows::TableRows;
-use crate::steps::Steps;
 use okws_base::items::Exact;
 use okws_base::value::{Row, Value};
 use okws_plan::meaning::{laid_row, listed, meets_every};
 use okws_plan::statement::{Comparison, Condition, Join, Operand, Selection};
 use row_index::at;
+use row_search::finding::Hit;
+use row_search::steps::Steps;
 use std::alloc::{AllocError, Global};
 use std::sync::ledger::Ledger;
 

@@ -8,7 +8,7 @@ ghost use Rattle.okws_plan.specs.declared.configuration.Column.{Column as TableC
 ghost use Rattle.okws_plan.specs.declared.statement.Action.TheVariants.{Select};
 ghost use Rattle.okws_plan.specs.declared.statement.Answer.TheVariants.{Rows};
 ghost use Rattle.okws_outer.specs.Keeping.{is_select};
-ghost use Rattle.index_keeper.specs.Places.{rows_of};
+ghost use Rattle.row_search.specs.Places.{rows_of};
 ghost use Rattle.index_keeper.specs.Joining.{join_rows};
 ghost use Rattle.index_keeper.specs.Indexed.{hit_places, hit_tests, wanted_by};
 
@@ -18,7 +18,6 @@ use crate::joining::select_joined;
 use crate::pinning::IndexPin;
 use crate::rows::TableRows;
 use crate::shared::SharedRows;
-use crate::steps::Steps;
 use okws_base::items::{Exact, Items, copies};
 use okws_base::value::{Row, Value};
 use okws_outer::keeper::{Keeper, RunError};
@@ -26,6 +25,7 @@ use okws_outer::pinned::Listed;
 use okws_plan::configuration::{Column, Query, Table};
 use okws_plan::meaning::columns_at;
 use okws_plan::statement::{Action, Answer, Join, Selection, Statement};
+use row_search::steps::Steps;
 use std::alloc::{AllocError, Global};
 use std::marker::Brand;
 use std::sync::ledger::{Blank, Ledger};

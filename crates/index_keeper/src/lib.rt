@@ -3,20 +3,15 @@
 //! a SELECT may be pinned: it holds its version of the rows, which a later write then leaves as it is.
 #![tactic(auto)]
 
-mod answering;
 mod declared;
-mod editing;
-mod finding;
 mod held;
 mod joining;
 mod keeper;
 mod pinning;
 mod rows;
-mod scanning;
 mod shared;
 mod statements;
-mod steps;
 
 pub use keeper::IndexKeeper;
 pub use pinning::IndexPin;
-pub use steps::Steps;
+pub use row_search::steps::Steps;

@@ -10,24 +10,24 @@ ghost use Rattle.row_index.specs.Places.{row_at};
 ghost use Rattle.row_index.specs.Stands.{standing};
 ghost use Rattle.row_index.specs.Few.{listed};
 ghost use Rattle.row_index.specs.Index.{is_indexed, is_value};
-ghost use Rattle.index_keeper.specs.Places.{places_where, passes_at, rows_of, tests};
+ghost use Rattle.row_search.specs.Places.{places_where, passes_at, rows_of, tests};
 ghost use Rattle.index_keeper.specs.Pinning.{AreTested};
 ghost use Rattle.row_index.specs.Changes.{row_or, changed, changes_to};
-ghost use Rattle.index_keeper.specs.Hits.{entries_of};
+ghost use Rattle.row_search.specs.Hits.{entries_of};
 
 use crate::declared::own_column;
-use crate::editing::{removals, sole_setting};
-use crate::finding::{
-    Hit, candidates, leading_of, left_of, meets_at, met_at, places_of, scanned, sole_group,
-};
-use crate::scanning::{all_places, any_has};
-use crate::steps::Steps;
 use okws_base::items::{Exact, copies};
 use okws_base::value::{Row, Value};
 use okws_plan::statement::{Assignment, Condition};
 use row_index::{
     Change, Few, Group, PlacedRows, Slots, Stand, append, append_new, apply, at, remove_group,
 };
+use row_search::editing::{removals, sole_setting};
+use row_search::finding::{
+    Hit, candidates, leading_of, left_of, meets_at, met_at, places_of, scanned, sole_group,
+};
+use row_search::scanning::{all_places, any_has};
+use row_search::steps::Steps;
 use std::alloc::{AllocError, Global};
 use std::marker::Model;
 use std::sync::ledger::Ledger;
@@ -41,7 +41,7 @@ pub struct TableRows {
 }
 
 impl Model for TableRows {
-    ghost use Rattle.index_keeper.specs.Places.{Indexed, IsSound};
+    ghost use Rattle.row_search.specs.Places.{Indexed, IsSound};
 
     ghost Value = { Indexed };
 

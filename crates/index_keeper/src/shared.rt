@@ -3,13 +3,13 @@
 ghost use Rattle.std.specs.Prelude.{◌≡◌, [], None, IfOk, OnErr};
 ghost use Rattle.okws_plan.specs.Meaning.{mean_on};
 ghost use Rattle.okws_plan.specs.Rules.{join_of};
-ghost use Rattle.index_keeper.specs.Places.{rows_of};
+ghost use Rattle.row_search.specs.Places.{rows_of};
 
 use crate::rows::TableRows;
-use crate::steps::Steps;
 use okws_base::value::Value;
 use okws_plan::configuration::Column;
 use okws_plan::statement::{Action, Answer};
+use row_search::steps::Steps;
 use std::alloc::{AllocError, Global};
 use std::marker::Model;
 use std::sync::Arc;
@@ -24,7 +24,7 @@ pub struct SharedRows {
 
 impl Model for SharedRows {
     ghost use Rattle.std.specs.Arc.{arc_value};
-    ghost use Rattle.index_keeper.specs.Places.{Indexed};
+    ghost use Rattle.row_search.specs.Places.{Indexed};
 
     ghost Value = { Indexed };
 

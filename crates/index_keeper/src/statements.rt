@@ -4,16 +4,16 @@ ghost use Rattle.std.specs.Prelude.{◌≡◌, ◌++◌, ◌∷◌, [], None, no
 ghost use Rattle.okws_plan.specs.declared.statement.Answer.TheVariants.{Changed, Duplicate};
 ghost use Rattle.okws_plan.specs.Meaning.{mean_on, selection_answer, is_taken, hits, misses, updated, inserted, row_of};
 ghost use Rattle.okws_plan.specs.Rules.{join_of};
-ghost use Rattle.index_keeper.specs.Places.{rows_of};
+ghost use Rattle.row_search.specs.Places.{rows_of};
 
-use crate::answering::answer;
 use crate::declared::key_column;
-use crate::editing::{operand_of, replacements, row_made};
 use crate::rows::TableRows;
-use crate::steps::Steps;
 use okws_base::value::{Row, Value};
 use okws_plan::configuration::Column;
 use okws_plan::statement::{Action, Answer, Assignment, Condition, Operand, Selection};
+use row_search::answering::answer;
+use row_search::editing::{operand_of, replacements, row_made};
+use row_search::steps::Steps;
 use std::alloc::{AllocError, Global};
 use std::sync::ledger::Ledger;
 

@@ -2,7 +2,7 @@ use Rattle.std.proofs.Common.{◌∙◌, ap, sym, Bool, eq-eqb}
 use Rattle.std.specs.Prelude.{◌&&◌, ◌==◌}
 use Rattle.std.specs.List.{list_any}
 use Rattle.okws_plan.specs.declared.statement.Condition.{Condition}
-use Rattle.index_keeper.specs.Places.{is_equality}
+use Rattle.row_search.specs.Places.{is_equality}
 use Rattle.index_keeper.specs.Indexed.{conditions_of}
 use Rattle.index_keeper.proofs.declared.asked_by.Goals as goal
 

@@ -1,7 +1,7 @@
 use Rattle.std.proofs.Common.{◌≡◌, flat_map, take}
 use Rattle.okws_plan.specs.Meaning.{hits, joined_to}
-use Rattle.index_keeper.specs.Places.{rows_of}
-use Rattle.index_keeper.specs.declared.finding.Hit.{Hit}
+use Rattle.row_search.specs.Places.{rows_of}
+use Rattle.row_search.specs.declared.finding.Hit.{Hit}
 use Rattle.index_keeper.proofs.joining.all_joined.Given as goal
 
 abbrev pub invariant-loop-hit : goal.invariant-loop-hit

@@ -3,10 +3,10 @@ use Rattle.okws_base.specs.declared.value.Value.{Value}
 use Rattle.okws_plan.specs.Meaning.{meets_all, hits, laid, joined_to}
 use Rattle.okws_plan.specs.declared.statement.Condition.{Condition}
 use Rattle.row_index.specs.Few.{listed}
-use Rattle.index_keeper.specs.Places.{rows_of}
-use Rattle.index_keeper.specs.Hits.{lent}
-use Rattle.index_keeper.specs.declared.finding.Hit.{Hit}
-use Rattle.index_keeper.proofs.Found.{rows_where}
+use Rattle.row_search.specs.Places.{rows_of}
+use Rattle.row_search.specs.Hits.{lent}
+use Rattle.row_search.specs.declared.finding.Hit.{Hit}
+use Rattle.row_search.proofs.Found.{rows_where}
 use Rattle.index_keeper.proofs.Hits.{lent_are}
 use Rattle.index_keeper.proofs.Joinings.{pairs_found, laid_lent}
 use Rattle.index_keeper.proofs.joining.push_joined.Goals as goal

@@ -1,6 +1,6 @@
 use Rattle.std.proofs.Common.{◌≡◌, ◌++◌, map, take}
 use Rattle.okws_plan.specs.Meaning.{laid, hits}
-use Rattle.index_keeper.specs.declared.finding.Hit.{Hit}
+use Rattle.row_search.specs.declared.finding.Hit.{Hit}
 use Rattle.index_keeper.proofs.joining.push_pairs.Given as goal
 
 abbrev pub invariant-loop-other : goal.invariant-loop-other

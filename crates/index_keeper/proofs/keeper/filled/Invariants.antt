@@ -1,5 +1,5 @@
 use Rattle.std.proofs.Common.{◌≡◌, take}
-use Rattle.index_keeper.specs.Places.{rows_of}
+use Rattle.row_search.specs.Places.{rows_of}
 use Rattle.index_keeper.proofs.keeper.filled.Given as goal
 
 abbrev pub invariant-loop-row : goal.invariant-loop-row

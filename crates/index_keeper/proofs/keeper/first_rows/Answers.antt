@@ -6,7 +6,7 @@ use Rattle.std.proofs.lemmas.List.FromFn.{map-range_with_len_more}
 use Rattle.okws_base.specs.declared.value.Value.{Value}
 use Rattle.okws_plan.specs.Meaning.{columns_of}
 use Rattle.okws_plan.specs.declared.configuration.Table.{Table}
-use Rattle.index_keeper.specs.Places.{Indexed, rows_of}
+use Rattle.row_search.specs.Places.{Indexed, rows_of}
 use Rattle.index_keeper.specs.Indexed.{wanted}
 use Rattle.index_keeper.proofs.keeper.first_rows.Goals as goal
 

@@ -3,7 +3,7 @@ use Rattle.std.specs.Prelude.{map}
 use Rattle.std.specs.List.{range_with_len}
 use Rattle.okws_plan.specs.Meaning.{columns_of}
 use Rattle.okws_plan.specs.declared.configuration.Table.{Table}
-use Rattle.index_keeper.specs.Places.{Indexed, rows_of}
+use Rattle.row_search.specs.Places.{Indexed, rows_of}
 use Rattle.index_keeper.specs.Indexed.{wanted}
 use Rattle.index_keeper.proofs.keeper.first_rows.Given as goal
 

@@ -2,7 +2,7 @@ use Rattle.std.proofs.Common.{◌≡◌, ◌∙◌, ap, subst, ℕ, List, [], If
 use Rattle.std.specs.Prelude.{slice_index_or}
 use Rattle.okws_base.specs.declared.value.Value.{Value}
 use Rattle.okws_plan.specs.Meaning.{columns_of, ordered, limited, cut_all}
-use Rattle.index_keeper.specs.Places.{Indexed, rows_of}
+use Rattle.row_search.specs.Places.{Indexed, rows_of}
 use Rattle.index_keeper.specs.Joining.{joined_hits}
 use Rattle.index_keeper.proofs.Ran.{row_kept, told_rows}
 use Rattle.index_keeper.proofs.keeper.join_on.Goals as goal

@@ -3,7 +3,7 @@ use Rattle.std.specs.Prelude.{slice_index_or}
 use Rattle.okws_plan.specs.declared.configuration.Table.{Table}
 use Rattle.okws_plan.specs.Meaning.{columns_of}
 use Rattle.okws_plan.specs.Rules.{join_of}
-use Rattle.index_keeper.specs.Places.{rows_of}
+use Rattle.row_search.specs.Places.{rows_of}
 use Rattle.index_keeper.proofs.Ran.{ran, row_kept, has_table, told_rows}
 use Rattle.index_keeper.proofs.keeper.IndexKeeperKeeper.run.Goals as goal
 

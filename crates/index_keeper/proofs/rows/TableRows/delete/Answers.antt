@@ -10,9 +10,9 @@ use Rattle.row_index.specs.Index.{is_value}
 use Rattle.row_index.specs.Changes.{changed}
 use Rattle.row_index.specs.declared.changing.Change.{Change}
 use Rattle.row_index.specs.declared.slot.Group.{Group}
-use Rattle.index_keeper.specs.Places.{rows_of}
-use Rattle.index_keeper.proofs.Found.{filter_alike}
-use Rattle.index_keeper.proofs.Entries.{count_listed, listed_rise, removed_rows}
+use Rattle.row_search.specs.Places.{rows_of}
+use Rattle.row_search.proofs.Found.{filter_alike}
+use Rattle.row_search.proofs.Entries.{count_listed, listed_rise, removed_rows}
 use Rattle.index_keeper.proofs.rows.TableRows.delete.Goals as goal
 
 pub returns-in-Some-clause-answer : goal.returns-in-Some-clause-answer

@@ -4,10 +4,10 @@ use Rattle.okws_base.specs.declared.value.Value.{Value}
 use Rattle.okws_plan.specs.Meaning.{meets_all}
 use Rattle.okws_plan.specs.declared.statement.Condition.{Condition}
 use Rattle.row_index.specs.Places.{row_at}
-use Rattle.index_keeper.specs.Places.{leading, left_of, tests, rows_of}
+use Rattle.row_search.specs.Places.{leading, left_of, tests, rows_of}
 use Rattle.row_index.specs.Few.{listed}
-use Rattle.index_keeper.specs.Hits.{entries_of, entries_at}
-use Rattle.index_keeper.proofs.Found.{counted_by}
+use Rattle.row_search.specs.Hits.{entries_of, entries_at}
+use Rattle.row_search.proofs.Found.{counted_by}
 use Rattle.index_keeper.proofs.Hits.{found_entries}
 use Rattle.index_keeper.proofs.rows.TableRows.found.Goals as goal
 

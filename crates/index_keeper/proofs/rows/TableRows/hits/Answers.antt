@@ -3,8 +3,8 @@ use Rattle.std.specs.Prelude.{map}
 use Rattle.okws_base.specs.declared.value.Value.{Value}
 use Rattle.okws_plan.specs.Meaning.{meets_all}
 use Rattle.row_index.specs.Few.{listed}
-use Rattle.index_keeper.specs.Places.{places_where}
-use Rattle.index_keeper.specs.declared.finding.Hit.{Hit}
+use Rattle.row_search.specs.Places.{places_where}
+use Rattle.row_search.specs.declared.finding.Hit.{Hit}
 use Rattle.index_keeper.proofs.Hits.{places_are}
 use Rattle.index_keeper.proofs.rows.TableRows.hits.Goals as goal
 

@@ -2,8 +2,8 @@ use Rattle.std.proofs.Common.{◌∙◌, ap, List}
 use Rattle.okws_base.specs.declared.value.Value.{Value}
 use Rattle.okws_plan.specs.Meaning.{is_taken, inserted}
 use Rattle.okws_plan.specs.declared.statement.Answer.{Answer}
-use Rattle.index_keeper.specs.Places.{rows_of}
-use Rattle.index_keeper.proofs.Keyed.{told_is}
+use Rattle.row_search.specs.Places.{rows_of}
+use Rattle.row_search.proofs.Keyed.{told_is}
 use Rattle.index_keeper.proofs.rows.TableRows.insert.Goals as goal
 
 pub returns-clause-ok : goal.returns-clause-ok

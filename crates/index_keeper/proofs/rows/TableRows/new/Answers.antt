@@ -1,4 +1,4 @@
-use Rattle.index_keeper.proofs.Scanned.{none_sound}
+use Rattle.row_search.proofs.Scanned.{none_sound}
 use Rattle.index_keeper.proofs.rows.TableRows.new.Goals as goal
 
 pub invariant_of-result : goal.invariant_of-result

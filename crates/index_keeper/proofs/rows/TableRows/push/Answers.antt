@@ -1,8 +1,8 @@
 use Rattle.std.proofs.Common.{◌∙◌, ◌∷◌, [], ℕ, List, ap}
 use Rattle.std.proofs.lemmas.List.{map-append}
 use Rattle.okws_base.specs.declared.value.Value.{Value}
-use Rattle.index_keeper.specs.Places.{rows_of}
-use Rattle.index_keeper.proofs.Scanned.{on_ok}
+use Rattle.row_search.specs.Places.{rows_of}
+use Rattle.row_search.proofs.Scanned.{on_ok}
 use Rattle.index_keeper.proofs.rows.TableRows.push.Goals as goal
 
 pub returns-clause-rows : goal.returns-clause-rows

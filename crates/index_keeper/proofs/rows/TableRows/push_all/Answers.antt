@@ -3,8 +3,8 @@ use Rattle.std.proofs.lemmas.List.{map-append, append_assoc}
 use Rattle.okws_base.specs.declared.value.Value.{Value}
 use Rattle.row_index.specs.Stands.{standing}
 use Rattle.row_index.specs.declared.placed.Stand.{Stand}
-use Rattle.index_keeper.specs.Places.{rows_of}
-use Rattle.index_keeper.proofs.Scanned.{one_more, none_more}
+use Rattle.row_search.specs.Places.{rows_of}
+use Rattle.row_search.proofs.Scanned.{one_more, none_more}
 use Rattle.index_keeper.proofs.rows.TableRows.push_all.Goals as goal
 use Rattle.index_keeper.proofs.rows.TableRows.push_all.Goals.{in-None, in-Some+in_ok-copy-in-Some+in_ok-push-in-Some}
 

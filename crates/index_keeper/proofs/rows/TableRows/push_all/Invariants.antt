@@ -1,6 +1,6 @@
 use Rattle.std.proofs.Common.{◌≡◌, ◌++◌, take}
 use Rattle.row_index.specs.Stands.{standing}
-use Rattle.index_keeper.specs.Places.{rows_of}
+use Rattle.row_search.specs.Places.{rows_of}
 use Rattle.index_keeper.proofs.rows.TableRows.push_all.Given as goal
 
 abbrev pub invariant-loop-stand : goal.invariant-loop-stand

@@ -1,8 +1,8 @@
 use Rattle.std.proofs.Common.{◌≡◌, ◌∙◌, sym, subst, true}
 use Rattle.row_index.specs.Index.{is_indexed}
-use Rattle.index_keeper.specs.Places.{Indexed}
-use Rattle.index_keeper.proofs.Keyed.{new_is}
-use Rattle.index_keeper.proofs.Scanned.{if_ok_both}
+use Rattle.row_search.specs.Places.{Indexed}
+use Rattle.row_search.proofs.Keyed.{new_is}
+use Rattle.row_search.proofs.Scanned.{if_ok_both}
 use Rattle.index_keeper.proofs.rows.TableRows.push_indexed.Goals as goal
 
 pub returns-clause-came : goal.returns-clause-came

@@ -2,8 +2,8 @@ use Rattle.std.proofs.Common.{◌≡◌, ◌∙◌, ap, sym, subst, ℕ, Bool, S
 use Rattle.std.specs.Prelude.{◌==◌, not}
 use Rattle.std.specs.List.{find}
 use Rattle.okws_plan.specs.Meaning.{is_taken_at}
-use Rattle.index_keeper.specs.Places.{rows_of}
-use Rattle.index_keeper.proofs.Found.{own_is, own_found}
+use Rattle.row_search.specs.Places.{rows_of}
+use Rattle.row_search.proofs.Found.{own_is, own_found}
 use Rattle.index_keeper.proofs.rows.TableRows.push_keyed.Goals as goal
 
 pub push_indexed-requires : goal.push_indexed-requires

@@ -1,7 +1,7 @@
 use Rattle.std.proofs.Common.{◌≡◌, subst, ℕ, Bool, Option, IfOk}
 use Rattle.std.specs.Prelude.{not}
 use Rattle.okws_plan.specs.Meaning.{is_taken_at}
-use Rattle.index_keeper.specs.Places.{rows_of}
+use Rattle.row_search.specs.Places.{rows_of}
 use Rattle.index_keeper.proofs.rows.TableRows.push_new.Goals as goal
 
 pub returns-in-Some-clause-came : goal.returns-in-Some-clause-came

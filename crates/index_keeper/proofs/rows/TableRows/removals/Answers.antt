@@ -5,7 +5,7 @@ use Rattle.okws_plan.specs.Meaning.{meets_all}
 use Rattle.row_index.specs.Few.{listed}
 use Rattle.row_index.specs.Changes.{changes_to}
 use Rattle.row_index.specs.declared.changing.Change.{Change}
-use Rattle.index_keeper.specs.declared.finding.Hit.{Hit}
+use Rattle.row_search.specs.declared.finding.Hit.{Hit}
 use Rattle.index_keeper.proofs.Hits.{removals_are}
 use Rattle.index_keeper.proofs.rows.TableRows.removals.Goals as goal
 

@@ -4,9 +4,9 @@ use Rattle.okws_plan.specs.Meaning.{at_column}
 use Rattle.row_index.specs.Places.{row_at}
 use Rattle.row_index.specs.Index.{is_indexed, is_value, IsIndex}
 use Rattle.row_index.specs.Changes.{changed, removals_at}
-use Rattle.index_keeper.specs.Places.{Indexed}
-use Rattle.index_keeper.proofs.Found.{listed, count_where}
-use Rattle.index_keeper.proofs.Keyed.{left_rows}
+use Rattle.row_search.specs.Places.{Indexed}
+use Rattle.row_search.proofs.Found.{listed, count_where}
+use Rattle.row_search.proofs.Keyed.{left_rows}
 use Rattle.index_keeper.proofs.rows.TableRows.remove_group.Goals as goal
 
 pub invariant_of-self : goal.invariant_of-self

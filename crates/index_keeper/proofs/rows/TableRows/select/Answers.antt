@@ -5,9 +5,9 @@ use Rattle.okws_plan.specs.declared.statement.Answer.{Answer}
 use Rattle.okws_plan.specs.declared.statement.Answer.TheVariants.{Rows}
 use Rattle.okws_plan.specs.declared.statement.Condition.{Condition}
 use Rattle.row_index.specs.Few.{listed}
-use Rattle.index_keeper.specs.Places.{rows_of}
-use Rattle.index_keeper.specs.Hits.{lent}
-use Rattle.index_keeper.proofs.Found.{rows_where}
+use Rattle.row_search.specs.Places.{rows_of}
+use Rattle.row_search.specs.Hits.{lent}
+use Rattle.row_search.proofs.Found.{rows_where}
 use Rattle.index_keeper.proofs.Hits.{lent_are}
 use Rattle.index_keeper.proofs.rows.TableRows.select.Goals as goal
 

@@ -3,9 +3,9 @@ use Rattle.std.specs.Prelude.{slice_set, ◌==◌}
 use Rattle.okws_base.specs.declared.value.Value.{Value}
 use Rattle.row_index.specs.Places.{row_at}
 use Rattle.row_index.specs.Index.{is_indexed, due}
-use Rattle.index_keeper.specs.Places.{Indexed}
+use Rattle.row_search.specs.Places.{Indexed}
 use Rattle.row_index.specs.declared.slot.Slot.{Slot}
-use Rattle.index_keeper.proofs.Sole.{still_due, still_none}
+use Rattle.row_search.proofs.Sole.{still_due, still_none}
 use Rattle.index_keeper.proofs.rows.TableRows.set.Goals as goal
 
 pub invariant_of-self : goal.invariant_of-self

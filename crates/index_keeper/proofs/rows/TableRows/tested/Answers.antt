@@ -4,8 +4,8 @@ use Rattle.std.specs.Map.{keys_of}
 use Rattle.okws_plan.specs.Meaning.{meets_all}
 use Rattle.row_index.specs.Places.{row_at}
 use Rattle.row_index.proofs.Stood.{each_here}
-use Rattle.index_keeper.specs.Places.{passes_at, leading}
-use Rattle.index_keeper.proofs.Found.{found_by}
+use Rattle.row_search.specs.Places.{passes_at, leading}
+use Rattle.row_search.proofs.Found.{found_by}
 use Rattle.index_keeper.proofs.Unstable.{all_tested}
 use Rattle.index_keeper.proofs.rows.TableRows.tested.Goals as goal
 

@@ -9,8 +9,8 @@ use Rattle.row_index.specs.Places.{row_at}
 use Rattle.row_index.specs.Few.{listed}
 use Rattle.row_index.specs.Changes.{changed, changes_to}
 use Rattle.row_index.specs.declared.changing.Change.{Change}
-use Rattle.index_keeper.proofs.Entries.{listed_changes, count_listed, listed_rise, updated_rows}
-use Rattle.index_keeper.proofs.Sole.{sole_updated, sole_counted}
+use Rattle.row_search.proofs.Entries.{listed_changes, count_listed, listed_rise, updated_rows}
+use Rattle.row_search.proofs.Sole.{sole_updated, sole_counted}
 use Rattle.index_keeper.proofs.rows.TableRows.update.Goals as goal
 
 pub set-requires : goal.set-requires

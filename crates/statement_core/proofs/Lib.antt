@@ -7,10 +7,3 @@ pub mod Renamed
 pub mod Qualified
 pub mod JoinsKept
 pub mod RulesKept
-pub mod Recompiles
-pub mod SelectsAgain
-pub mod Found
-pub mod Sides
-pub mod JoinReads
-pub mod JoinsAgain
-pub mod CompilesAgain

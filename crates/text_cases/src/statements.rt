@@ -4,7 +4,8 @@
 use config_reader::read;
 use okws_plan::configuration::{Config, Table};
 use okws_plan::statement::Statement;
-use statement_core::{CompileError, compile, text_of};
+use statement_core::{CompileError, compile};
+use statement_text::text_of;
 use std::alloc::{AllocError, Global};
 
 const SITE: &[u8] =

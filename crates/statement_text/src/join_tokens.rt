@@ -6,10 +6,10 @@ ghost use Rattle.statement_core.specs.Canonical.{side_tokens, side_list_tokens, 
 ghost use Rattle.query_syntax.specs.declared.token.Fixed.TheVariants.{Dot};
 
 use crate::canonical::{column_of, operand_of, put_before, put_limit, sign_of, table_of, word_of};
-use crate::lookup::columns_at;
 use okws_plan::configuration::Table;
 use okws_plan::statement::{Condition, Join, Selection};
 use query_syntax::token::{Fixed, Token};
+use statement_core::columns_at;
 use std::alloc::{AllocError, Global};
 
 /// The tables of joined rows, and the numbers of the first and of the second.

@@ -1,8 +1,8 @@
 use Rattle.std.proofs.Common.{◌≡◌, ap, ◌∙◌, rules}
 use Rattle.statement_core.specs.Canonical.{canonical}
 use Rattle.statement_core.specs.Compiled.{compiled}
-use Rattle.statement_core.proofs.CompilesAgain.{statements_again}
-use Rattle.statement_core.proofs.canonical.text_of.Goals as goal
+use Rattle.statement_text.proofs.CompilesAgain.{statements_again}
+use Rattle.statement_text.proofs.canonical.text_of.Goals as goal
 
 pub returns-clause-again : goal.returns-clause-again
 returns-clause-again c =

@@ -14,7 +14,7 @@ use Rattle.query_syntax.specs.Forms.{bare_name, bare_test}
 use Rattle.statement_core.specs.Resolving.{Judged, nothing_found, order_judged, words_judged, tests_judged, number, condition_of}
 use Rattle.statement_core.proofs.Stated.{name_at, test_of, Selects}
 use Rattle.statement_core.proofs.Judged.{Sound, shown, state, words_kept, tests_kept, after_conditions}
-use Rattle.statement_core.proofs.Recompiles.{all_met, at_first, at_last, numbers_again, conditions_again, order_again, order_kept, same_length, few_conditions}
+use Rattle.statement_text.proofs.Recompiles.{all_met, at_first, at_last, numbers_again, conditions_again, order_again, order_kept, same_length, few_conditions}
 
 -- at the start
 pub start : (columns : List Column) (kinds : List Kind) → length kinds ≤ 16 → nothing_found (length columns) ≡ state (shown (λ (k : ℕ). false) 1 (all_met kinds)) (replicate (length columns) false)

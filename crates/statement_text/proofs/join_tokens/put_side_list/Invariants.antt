@@ -1,6 +1,6 @@
 use Rattle.std.proofs.Common.{◌≡◌, ◌++◌, true, eqb, drop}
 use Rattle.statement_core.specs.Canonical.{side_tokens, side_list_tokens}
-use Rattle.statement_core.proofs.join_tokens.put_side_list.Given as goal
+use Rattle.statement_text.proofs.join_tokens.put_side_list.Given as goal
 
 abbrev pub invariant-loop-i : goal.invariant-loop-i
 invariant-loop-i l =

@@ -6,7 +6,6 @@ ghost use Rattle.statement_core.specs.Canonical.{column_token, table_token, oper
 ghost use Rattle.statement_core.specs.Recompiled.{CompilesTo};
 
 use crate::join_tokens::join_tokens;
-use crate::lookup::columns_at;
 use okws_base::items::{Exact, Items};
 use okws_base::value::Value;
 use okws_plan::configuration::{Column, Table};
@@ -15,6 +14,7 @@ use okws_plan::statement::{
 };
 use query_syntax::spelling::spelled;
 use query_syntax::token::{Fixed, Token};
+use statement_core::columns_at;
 use std::alloc::{AllocError, Global};
 
 pub fn column_of(alloc: Global, columns: &[Column], number: u8) -> Result<Token, AllocError>

@@ -44,12 +44,12 @@ use Rattle.statement_core.specs.Recompiled.{names_differ, is_declarable, are_dec
 use lib.Pointwise.{bytes_decides}
 use Rattle.statement_core.proofs.Stated.{selects, fitting, spelled_limit}
 use Rattle.statement_core.proofs.Judged.{Sound, number_is, state}
-use Rattle.statement_core.proofs.Recompiles.{all_met, no_gap, their_kinds, few_conditions}
-use Rattle.statement_core.proofs.SelectsAgain.{NamesAll, SelectsAgain, select_again}
-use Rattle.statement_core.proofs.Found.{found_tokens, at_place, Declared, declared, has_some, limit_low}
+use Rattle.statement_text.proofs.Recompiles.{all_met, no_gap, their_kinds, few_conditions}
+use Rattle.statement_text.proofs.SelectsAgain.{NamesAll, SelectsAgain, select_again}
+use Rattle.statement_text.proofs.Found.{found_tokens, at_place, Declared, declared, has_some, limit_low}
 use Rattle.statement_core.proofs.Renamed.{SameKinds, kinds_joined, kind_like, selection_like}
-use Rattle.statement_core.proofs.JoinReads.{words_read, tests_read, order_read, known_table, list_known, tests_known, order_known, word_kept, on_known}
-use Rattle.statement_core.proofs.Sides.{side, join_test_of, join_on, pair_same, Named2, join_spelled, sound_joined}
+use Rattle.statement_text.proofs.JoinReads.{words_read, tests_read, order_read, known_table, list_known, tests_known, order_known, word_kept, on_known}
+use Rattle.statement_text.proofs.Sides.{side, join_test_of, join_on, pair_same, Named2, join_spelled, sound_joined}
 
 -- what was read, but for its places
 

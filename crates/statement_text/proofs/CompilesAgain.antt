@@ -45,10 +45,10 @@ use Rattle.query_syntax.proofs.TokensAgain.{tokens_again}
 use Rattle.query_syntax.proofs.FormsAgain.{forms_again}
 use Rattle.statement_core.proofs.Stated.{bare_word, name_at, given_of, test_of, setting_of, names_of, form_on, tokens_same, form_spelled, Selects, selects, Updates, updates}
 use Rattle.statement_core.proofs.Judged.{Sound, number_is, shown, state, tests_kept, settings_kept, values_kept, all_words_kept, as_many, list_kept, list_within, tests_within, parts_kept, taken_behind, after_conditions, after_settings, after_values}
-use Rattle.statement_core.proofs.Recompiles.{all_met, at_last, no_gap, their_kinds, conditions_again, assignments_again, operands_again, IsFine, all_free, same_length, few_conditions}
-use Rattle.statement_core.proofs.SelectsAgain.{start, select_again}
-use Rattle.statement_core.proofs.Found.{found_tokens, at_place, Declared, declared, has_some, limit_low}
-use Rattle.statement_core.proofs.JoinsAgain.{joins_again}
+use Rattle.statement_text.proofs.Recompiles.{all_met, at_last, no_gap, their_kinds, conditions_again, assignments_again, operands_again, IsFine, all_free, same_length, few_conditions}
+use Rattle.statement_text.proofs.SelectsAgain.{start, select_again}
+use Rattle.statement_text.proofs.Found.{found_tokens, at_place, Declared, declared, has_some, limit_low}
+use Rattle.statement_text.proofs.JoinsAgain.{joins_again}
 
 select_fine : (columns : List Column) (kinds : List Kind) (table : List ℕ) (s : Selection) (cs : List Named) (t : Named) (ts : List Test) (order : Option Named) (limit : Option ℕ) → Sound columns → length kinds ≤ 16 → Selects columns kinds s
     → list_all (λ (n : ℕ). stands_in n (action.Select s)) (numbered_from 1 (length kinds)) ≡ true → map bare_name cs ≡ map (name_at columns) s.columns → bare_name t ≡ bare_word table → map bare_test ts ≡ map (test_of columns) s.conditions

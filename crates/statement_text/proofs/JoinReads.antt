@@ -21,7 +21,7 @@ use Rattle.statement_core.specs.Resolving.{Judged, noted, word_judged, kind_in, 
 use Rattle.statement_core.specs.Joining.{joined_columns, joined_word, joined_test, is_neither, order_qualifier_judged, list_qualifiers_judged, test_qualifiers_judged, kinds_differ, are_together, on_judged}
 use Rattle.statement_core.proofs.Stated.{bare_word, name_at, test_of, given_of, column_there}
 use Rattle.statement_core.proofs.Judged.{Sound, column_number_is, kind_is, state, words_kept, name_is}
-use Rattle.statement_core.proofs.Sides.{side, join_test_of, side_name}
+use Rattle.statement_text.proofs.Sides.{side, join_test_of, side_name}
 
 -- the words of columns
 

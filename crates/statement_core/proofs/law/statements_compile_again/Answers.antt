@@ -1,5 +1,0 @@
-use Rattle.statement_core.proofs.CompilesAgain.{statements_again}
-use Rattle.statement_core.proofs.law.statements_compile_again.Goals as goal
-
-pub returns : goal.returns
-returns c = statements_again

@@ -1,0 +1,7 @@
+pub mod Recompiles
+pub mod SelectsAgain
+pub mod Found
+pub mod Sides
+pub mod JoinReads
+pub mod JoinsAgain
+pub mod CompilesAgain

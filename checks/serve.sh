@@ -55,12 +55,12 @@ def a_port():
 
 class Server:
     """A server of a site for so many connections, or for all that come, whose console is a pipe. It and its children are ended at the end of the block."""
-    def __init__(self, site, connections, *options, doors=2, port=None, files=None, without=''):
-        """With at most so many open files, and without some of its standard streams as the shell writes it."""
+    def __init__(self, site, connections, *options, doors=2, port=None, files=None, before='', without=''):
+        """With at most so many open files, behind what a shell does before, and without some of its standard streams as the shell writes it."""
         write('site', site)
         self.ports = [port] if port else [a_port() for _ in range(5)]
         self.limit_files = (lambda: resource.setrlimit(resource.RLIMIT_NOFILE, (files, files))) if files else None
-        self.shell = ['/bin/sh', '-c', f'exec "$0" "$@" {without}'] if without else []
+        self.shell = ['/bin/sh', '-c', f'{before}exec "$0" "$@" {without}'] if before or without else []
         self.words = ['--doors', str(doors), *(['--serve', str(connections)] if connections is not None else ['--always']), *options]
 
     def start(self, port):
@@ -510,6 +510,15 @@ def what_goes_wrong_is_told_on_standard_error():
         same(server.told(), ['okws: listening on 127.0.0.1:%d' % server.port, 'okws: log: could not be written: No space left on device'])
         same(server.ends()[1], 7)
 
+def a_limit_on_the_size_of_files_is_a_fault_where_its_signal_is_ignored():
+    write('limited', 'x' * 500 + '\n')
+    with Server(SITE % './svc_probe', 2, '--log', 'limited', before="trap '' XFSZ; ulimit -f 1; ") as server:
+        same(post(server.port, 'id=3&who=cy&note=')[:12], b'HTTP/1.1 303')
+        wait_until(lambda: len(server.told()) == 2)
+        same(server.told(), ['okws: listening on 127.0.0.1:%d' % server.port, 'okws: log: could not be written: File too large'])
+        same(get(server.port), response('200 OK', '1 ann\n2 bob\n3 cy\n'))
+        same(server.ends()[1], 7)
+
 def a_child_has_path_alone_and_three_descriptors():
     with Server(SITE % './svc_probe', 1, '--store', 'bare', '--log', 'bare_log') as server:
         wait_until(lambda: len(server.children()) == 2)
@@ -695,7 +704,7 @@ CHECKS = [
     two_hundred_clients_are_served_at_once, clients_that_reset_harm_no_other, a_run_ends_after_its_connections_and_leaves_no_child,
     a_port_is_free_at_once_after_a_run, a_service_that_leaves_another_holds_nobody, a_server_without_standard_input_has_no_operator,
     a_server_without_standard_output_tells_no_client, connections_wait_where_there_is_no_descriptor_for_them,
-    what_goes_wrong_is_told_on_standard_error, a_child_has_path_alone_and_three_descriptors, a_file_of_rows_has_all_rows_after_an_orderly_end,
+    what_goes_wrong_is_told_on_standard_error, a_limit_on_the_size_of_files_is_a_fault_where_its_signal_is_ignored, a_child_has_path_alone_and_three_descriptors, a_file_of_rows_has_all_rows_after_an_orderly_end,
     a_new_file_of_rows_has_its_tables_when_the_doors_open,
     rows_of_tables_or_columns_in_another_order_are_refused, who_holds_a_file_of_rows_for_a_moment_is_waited_for, a_page_of_many_places_is_refused_soon,
     silent_clients_keep_no_door, a_slow_client_is_cut_off, a_client_may_take_its_time_within_its_patience, a_server_without_end_outlives_its_console,

@@ -84,10 +84,12 @@ def end_processes(processes):
 
 
 class Server:
-    """A run of a server, with the words behind `okws`. It ends with this process, however that ends, where the system has setpriv."""
+    """A run of a server, with the words behind `okws`. It ends with this process, however that ends, where the system has setpriv. SIGXFSZ, which
+    Python ignores, stays ignored in it, so that a write at a limit on the size of files fails and is counted."""
     def __init__(self, okws, words):
         outlived_by_none = ['setpriv', '--pdeathsig', 'KILL', '--'] if shutil.which('setpriv') else []
-        self.process = subprocess.Popen([*outlived_by_none, okws, *words], stdin=subprocess.PIPE, stdout=subprocess.PIPE, process_group=0)
+        self.process = subprocess.Popen([*outlived_by_none, okws, *words], stdin=subprocess.PIPE, stdout=subprocess.PIPE, process_group=0,
+                                        restore_signals=False)
         self.turn = threading.Lock()
         self.last = []
 

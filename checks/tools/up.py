@@ -286,6 +286,13 @@ def a_file_that_takes_no_log_is_told_at_once():
         has(up.events(), 'nowhere/log: No such file')
 
 
+def a_limit_on_the_size_of_files_ends_no_box():
+    with Up('limited') as up:
+        with open(f"/proc/{status_of(up)['server']['process']}/status") as f:
+            ignored = next(int(line.split()[1], 16) for line in f if line.startswith('SigIgn'))
+        assert ignored >> (signal.SIGXFSZ - 1) & 1, ignored
+
+
 def systemd_is_told():
     with socket.socket(socket.AF_UNIX, socket.SOCK_DGRAM) as s:
         s.bind('notices')
@@ -311,6 +318,7 @@ CHECKS = [
     the_next_run_has_the_same_site, a_run_has_no_end_without_a_count, a_request_is_answered_before_the_end, a_second_signal_waits_for_nobody,
     a_box_can_be_ended_at_any_moment_of_its_start, a_refused_configuration_is_told_in_words, what_another_holds_ends_the_box_with_its_status,
     a_killed_server_ends_the_box_and_a_killed_child_is_told, orders_that_name_nothing_do_not_come_to_the_server,
-    a_refused_page_has_no_commands_in_it, what_a_box_makes_is_its_users_alone, a_file_that_takes_no_log_is_told_at_once, systemd_is_told,
+    a_refused_page_has_no_commands_in_it, what_a_box_makes_is_its_users_alone, a_file_that_takes_no_log_is_told_at_once, a_limit_on_the_size_of_files_ends_no_box,
+    systemd_is_told,
     words_that_are_none_are_refused,
 ]

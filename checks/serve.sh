@@ -64,7 +64,7 @@ class Server:
         self.words = ['--doors', str(doors), *(['--serve', str(connections)] if connections is not None else ['--always']), *options]
 
     def start(self, port):
-        """Starts the server at a port, and waits until it listens there or has ended."""
+        """Starts the server at a port, and waits until it has listened there or has ended."""
         self.port = port
         words = [*self.shell, PROGRAM, 'serve', 'site', '--port', str(port), *self.words]
         self.errors = open('errors', 'w+')
@@ -72,7 +72,7 @@ class Server:
         self.limit = threading.Timer(120, self.process.kill)
         self.limit.start()
         for _ in range(1500):
-            if self.process.poll() is not None or self.listens():
+            if self.process.poll() is not None or self.has_listened():
                 return
             time.sleep(0.02)
         self.__exit__()
@@ -85,6 +85,10 @@ class Server:
             if self.process.poll() != 5 or port == self.ports[-1]:
                 return self
             self.__exit__()
+
+    def has_listened(self):
+        """Whether it has told that it listens: at one that serves no connection the doors are open for a moment alone."""
+        return any(line.startswith('okws: listening on ') for line in self.told())
 
     def listens(self):
         wanted = '0100007F:%04X' % self.port

@@ -1,7 +1,7 @@
 #!/bin/sh
 # Times joins of two tables of 1,000, 10,000 and 100,000 rows each by the KEY of the second over the keeper with indexes, in a copy of
 # the repository, beside C's SQLite in memory, in one run: all pairs, which are as many as the rows, and the one pair of one row.
-#   bench/joins.sh   at the top of the repository; needs cc and C's SQLite with its header
+#   bench/joins.sh   at the top of the repository; needs cc and C's SQLite with its header. It proves the program first, with the crates below it
 set -eu
 below='okws_base okws_plan okws_outer plain_text query_syntax statement_core config_syntax config_reader row_index row_search index_keeper'
 copy=$(mktemp -d)
@@ -23,6 +23,14 @@ use Rattle.joins_bench.proofs.fill.Given as goal
 
 abbrev pub invariant-loop-row : goal.invariant-loop-row
 invariant-loop-row l = l.keeper.tables.items ≡ l.initial.keeper.tables.items
+END
+mkdir -p "$bench/proofs/time_rows"
+cat > "$bench/proofs/time_rows/Invariants.antt" <<'END'
+use Rattle.std.proofs.Common.{◌≡◌}
+use Rattle.joins_bench.proofs.time_rows.Given as goal
+
+abbrev pub invariant-loop : goal.invariant-loop
+invariant-loop g l = l.keeper.tables.items ≡ l.initial.keeper.tables.items
 END
 {
     (cd "$bench" && rt run </dev/null)

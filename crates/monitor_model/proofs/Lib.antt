@@ -11,3 +11,5 @@ pub mod Lived
 pub mod Visits
 pub mod Carried
 pub mod SmallRuns
+pub mod Booted
+pub mod Installed

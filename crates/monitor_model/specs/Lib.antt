@@ -37,6 +37,8 @@ pub mod Launches
 pub mod Causes
 pub mod First
 pub mod Legality
+pub mod Booting
+pub mod Installed
 pub mod Tied
 pub mod SmallRuns
 pub mod ShortRun

@@ -25,6 +25,7 @@ ghost use Rattle.monitor_model.specs.Columns.{ProxyLaw, PubdLaw, LogLaw, OkdLaw,
 ghost use Rattle.monitor_model.specs.Worker.{Lives, nothing_seen};
 ghost use Rattle.monitor_model.specs.Own.{OpenIsPrivate, RevokedIsNotAllowed, HeardGrows};
 ghost use Rattle.monitor_model.specs.Complete.{LiveTokensAreOpened, LawfulCallsAreAnswered, FittingRowsAreTold, FailedIsMarked, WholeRunsAreNotRefused};
+ghost use Rattle.monitor_model.specs.Booting.{LegalRunsBootFirst, TokensAreKnown, StaleCallsWereRevoked};
 ghost use Rattle.monitor_model.specs.Stage.{first_stage};
 ghost use Rattle.monitor_model.specs.Script.{PlaysAll};
 ghost use Rattle.monitor_model.specs.Played.{IsPlayed, IsRefusedAt, IsStopped, record_of, RunsAreLawful, RunsArePlayed, RunsAreUnharmed, RunsTellAll, RunsAreAnswered, RunsTakeAll, RunsEnterAll, RunsAnswerOnce};
@@ -149,4 +150,16 @@ pub fn script_runs_answer_once()
 /// A script whose lines are a run isn't also refused, whichever frames were 0B.
 pub fn whole_runs_are_not_refused()
     ensures { WholeRunsAreNotRefused }
+{}
+
+/// A token of an incarnation that was installed is known where it is shown behind its service's Install, and
+/// stale only where its incarnation was revoked; so is a Call.
+pub fn tokens_are_known()
+    ensures tokens { TokensAreKnown }
+    ensures calls { StaleCallsWereRevoked }
+{}
+
+/// In a legal record whose proxies' entries follow Installs, booted tokens are known.
+pub fn legal_runs_boot_first()
+    ensures { LegalRunsBootFirst }
 {}

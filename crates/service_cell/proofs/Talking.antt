@@ -314,6 +314,10 @@ pub same_service : (who : Asker) (shows : ℕ → Type 0) (x y : Standing) (d : 
 same_service who shows x y None J now a = absurd a
 same_service who shows x y (Some o) J now a = ap (λ (s : Standing). s.service) a.1.5
 
+pub same_past : (who : Asker) (shows : ℕ → Type 0) (x y : Standing) (d : Option Open) (J now : Seen) → AdvancesOpen who shows x d J advanced.Goes y now → y.past ≡ x.past
+same_past who shows x y None J now a = absurd a
+same_past who shows x y (Some o) J now a = ap (λ (s : Standing). s.past) a.1.5
+
 -- ---- the answers of a whole dialog
 
 pub ends_dialogs : (who : Asker) (shows : ℕ → Type 0) (head content : List ℕ) (wanted : ℕ) (c : Standing) (J : Seen) (answer : Spoken) (d : Standing) (now : Seen)
@@ -341,5 +345,5 @@ started_service who shows n head content wanted c J d now h =
 
 -- ---- the board, call after call
 
-pub board_then : {C : Type 0} (asker : C → Asker) (shows : C → ℕ → ℕ → Type 0) (token_seed : C → List ℕ) (spare : C → ℕ) (a b c : C) → KeepsBoard asker shows token_seed spare a b → KeepsBoard asker shows token_seed spare b c → KeepsBoard asker shows token_seed spare a c
-board_then asker shows token_seed spare a b c x y = record { asked = y.asked ∙ x.asked; seeded = y.seeded ∙ x.seeded; spared = y.spared ∙ x.spared; shown = λ s k may. y.shown s k (x.shown s k may) }
+pub board_then : {C : Type 0} (asker : C → Asker) (shows : C → ℕ → ℕ → Type 0) (token_seed : C → List ℕ) (spare : C → ℕ) (may_ask : C → ℕ → ℕ → Type 0) (a b c : C) → KeepsBoard asker shows token_seed spare may_ask a b → KeepsBoard asker shows token_seed spare may_ask b c → KeepsBoard asker shows token_seed spare may_ask a c
+board_then asker shows token_seed spare may_ask a b c x y = record { asked = y.asked ∙ x.asked; seeded = y.seeded ∙ x.seeded; spared = y.spared ∙ x.spared; shown = λ s k may. y.shown s k (x.shown s k may); allowed = λ s k may. y.allowed s k (x.allowed s k may) }

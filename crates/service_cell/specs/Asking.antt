@@ -23,12 +23,13 @@ pub record Asker : Type 0 where
   pub worker : ℕ
   pub alone : Bool
 
--- Who asks is the same, the tokens are of the same seed, as many items may be noted without memory, and the board still may show what it might.
-pub record KeepsBoard {C : Type 0} (asker : C → Asker) (shows : C → ℕ → ℕ → Type 0) (token_seed : C → List ℕ) (spare : C → ℕ) (old new : C) : Type 0 where
+-- Who asks is the same, the tokens are of the same seed, as many items may be noted without memory, the board still may show what it might, and what might be asked may be.
+pub record KeepsBoard {C : Type 0} (asker : C → Asker) (shows : C → ℕ → ℕ → Type 0) (token_seed : C → List ℕ) (spare : C → ℕ) (may_ask : C → ℕ → ℕ → Type 0) (old new : C) : Type 0 where
   pub asked : asker new ≡ asker old
   pub seeded : token_seed new ≡ token_seed old
   pub spared : spare new ≡ spare old
   pub shown : (s k : ℕ) → shows old s k → shows new s k
+  pub allowed : (s k : ℕ) → may_ask old s k → may_ask new s k
 
 -- A verdict's rows have 1 to 255 columns.
 abbrev pub IsNarrow : Verdict → Type 0

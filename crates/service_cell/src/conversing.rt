@@ -1,7 +1,10 @@
 //! Whole dialogs: begun, and gone on with until they end. The link waits for each frame.
 
-ghost use Rattle.std.specs.Prelude.{◌≡◌, ◌≤◌, ◌<◌, ◌+◌, ℕ, List, length};
+ghost use Rattle.std.specs.Prelude.{◌≡◌, ◌≤◌, ◌<◌, ◌+◌, ℕ, List, length, Some, ◌≢◌};
 ghost use Rattle.okws_base.specs.declared.limit.TheConstants.{LONGEST_FRAME};
+ghost use Rattle.okws_outer.specs.Families.{child_named};
+ghost use Rattle.okws_outer.specs.Wire.{Wire};
+ghost use Rattle.monitor_model.specs.Cell.{incarnation};
 ghost use Rattle.monitor_model.specs.Seen.{Seen};
 ghost use Rattle.service_cell.specs.Asking.{KeepsBoard};
 ghost use Rattle.service_cell.specs.Standing.{Standing};
@@ -10,7 +13,7 @@ ghost use Rattle.service_cell.specs.Dialogs.{Dialogs, EndsAs, Talks};
 
 use crate::answer::{Advanced, Begun, Spoken};
 use crate::cell::Cell;
-use crate::columns::Columns;
+use crate::columns::{Columns, Hears};
 use okws_base::items::Items;
 use okws_outer::stream::Link;
 
@@ -18,6 +21,21 @@ use okws_outer::stream::Link;
 const REQUEST: u32 = 0;
 
 impl<L: Link> Cell<L> {
+    /// Lends the link to the columns, whose worker may then ask in the name of the incarnation to whose
+    /// child it leads.
+    pub fn lend<H: Hears<L>>(&mut self, columns: &mut H)
+        requires there { incarnation self.old.past ≢ 0 }
+        ensures cell { self.new ≡ self.old }
+        ensures may { (wire : Wire) × (self.old.link ≡ Some wire) × ((s k : ℕ) → wire.whose ≡ Some (child_named s k) → H.may_ask columns.new s k) }
+        ensures seen { H.seen columns.new ≡ H.seen columns.old }
+        ensures board { KeepsBoard H.asker H.shows H.token_seed H.spare H.may_ask columns.old columns.new }
+    {
+        match &mut self.wire {
+            Some(link) => columns.hear(link),
+            None => unreachable!(),
+        }
+    }
+
     /// A whole dialog with the wanted incarnation: begins it, says to the columns that its Request was
     /// put, and answers each frame until the dialog ends, which is after 4,097 frames at most. Waits
     /// where its link does.
@@ -32,8 +50,9 @@ impl<L: Link> Cell<L> {
         requires wanted { 0 < wanted }
         requires declared { self.old.service < length (C.asker columns.old).config.services }
         requires short { length head + length content + 9 ≤ LONGEST_FRAME }
+        requires may { wanted ≡ incarnation self.old.past → C.may_ask columns.old self.old.service wanted }
         ensures dialogs { Dialogs (C.asker columns.old) (C.shows columns.new self.old.service) head content wanted self.old (C.seen columns.old) result self.new (C.seen columns.new) }
-        ensures board { KeepsBoard C.asker C.shows C.token_seed C.spare columns.old columns.new }
+        ensures board { KeepsBoard C.asker C.shows C.token_seed C.spare C.may_ask columns.old columns.new }
     {
         match self.begin(REQUEST, head, content, wanted, columns) {
             Begun::Started => self.converse(columns),
@@ -48,8 +67,9 @@ impl<L: Link> Cell<L> {
     fn converse<C: Columns>(&mut self, columns: &mut C) -> Spoken
         requires speaking { IsSpeaking (C.asker columns.old).worker self.old.open_dialog }
         requires declared { self.old.service < length (C.asker columns.old).config.services }
+        requires may { C.may_ask columns.old self.old.service (incarnation self.old.past) }
         ensures ends { (n : ℕ) (head content : List ℕ) (c : Standing) (J : Seen) → Talks (C.asker columns.old) n head content c J self.old (C.seen columns.old) → EndsAs (C.asker columns.old) (C.shows columns.new self.old.service) head content c J result self.new (C.seen columns.new) }
-        ensures board { KeepsBoard C.asker C.shows C.token_seed C.spare columns.old columns.new }
+        ensures board { KeepsBoard C.asker C.shows C.token_seed C.spare C.may_ask columns.old columns.new }
     {
         columns.requested(self.service);
         'frames: loop {

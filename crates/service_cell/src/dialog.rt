@@ -110,7 +110,8 @@ impl<L: Link> Cell<L> {
     }
 
     /// Begins a dialog: tests that the wanted incarnation is there and that none above it was begun,
-    /// enters the Drain, and puts its pushes and the Request. `request` is the caller's own number for
+    /// enters the Drain, and puts its pushes and the Request. Where the wanted incarnation is there, the worker
+    /// may ask in its name. `request` is the caller's own number for
     /// the request, of which the cell says nothing but to hand it back (`open_request`).
     pub fn begin<C: Columns>(
         &mut self,
@@ -124,9 +125,10 @@ impl<L: Link> Cell<L> {
         requires wanted { 0 < wanted }
         requires declared { self.old.service < length (C.asker columns.old).config.services }
         requires short { length head + length content + 9 ≤ LONGEST_FRAME }
+        requires may { wanted ≡ incarnation self.old.past → C.may_ask columns.old self.old.service wanted }
         ensures begins { Begins (C.asker columns.old) (C.shows columns.new self.old.service) request (ServerFrame.Request head content) wanted self.old (C.seen columns.old) result self.new (C.seen columns.new) }
         ensures spelled { result ≡ Begun.Started → AreSpelled self.new.open_dialog }
-        ensures board { KeepsBoard C.asker C.shows C.token_seed C.spare columns.old columns.new }
+        ensures board { KeepsBoard C.asker C.shows C.token_seed C.spare C.may_ask columns.old columns.new }
     {
         let is = self.incarnation;
         if is != wanted {
@@ -154,7 +156,7 @@ impl<L: Link> Cell<L> {
         requires another { wanted ≢ incarnation self.old.past }
         ensures ok { OnOk result ((self.new ≡ record self.old { past = cell.Missed (C.asker columns.old).worker wanted (incarnation self.old.past) ∷ self.old.past }) × (C.seen columns.new ≡ noted (C.seen columns.old) (own.Missed self.old.service wanted (incarnation self.old.past)))) }
         ensures err { OnErr result ((self.new ≡ self.old) × (C.seen columns.new ≡ C.seen columns.old)) }
-        ensures board { KeepsBoard C.asker C.shows C.token_seed C.spare columns.old columns.new }
+        ensures board { KeepsBoard C.asker C.shows C.token_seed C.spare C.may_ask columns.old columns.new }
     {
         let is = self.incarnation;
         let missed = Own::Missed {
@@ -183,7 +185,7 @@ impl<L: Link> Cell<L> {
         requires above { incarnation self.old.past < shown }
         ensures ok { OnOk result ((self.new ≡ finished self.old (C.asker columns.old).worker [] (end.Superseded shown) self.old.link) × (C.seen columns.new ≡ noted (C.seen columns.old) (own.Dialog self.old.service))) }
         ensures err { OnErr result ((self.new ≡ self.old) × (C.seen columns.new ≡ C.seen columns.old)) }
-        ensures board { KeepsBoard C.asker C.shows C.token_seed C.spare columns.old columns.new }
+        ensures board { KeepsBoard C.asker C.shows C.token_seed C.spare C.may_ask columns.old columns.new }
     {
         self.events.make_room()?;
         columns.note(Own::Dialog(self.service))?;
@@ -209,9 +211,10 @@ impl<L: Link> Cell<L> {
         requires there { 0 < incarnation self.old.past }
         requires declared { self.old.service < length (C.asker columns.old).config.services }
         requires short { length head + length content + 9 ≤ LONGEST_FRAME }
+        requires may { C.may_ask columns.old self.old.service (incarnation self.old.past) }
         ensures opens { OpensCell (C.asker columns.old) request (ServerFrame.Request head content) self.old (C.seen columns.old) result self.new (C.seen columns.new) }
         ensures spelled { result ≡ Begun.Started → AreSpelled self.new.open_dialog }
-        ensures board { KeepsBoard C.asker C.shows C.token_seed C.spare columns.old columns.new }
+        ensures board { KeepsBoard C.asker C.shows C.token_seed C.spare C.may_ask columns.old columns.new }
     {
         if self.events.make_room().is_err() {
             return Begun::NoMemory;
@@ -247,10 +250,11 @@ impl<L: Link> Cell<L> {
     pub fn advance<C: Columns>(&mut self, columns: &mut C) -> Advanced
         requires speaking { IsSpeaking (C.asker columns.old).worker self.old.open_dialog }
         requires declared { self.old.service < length (C.asker columns.old).config.services }
+        requires may { C.may_ask columns.old self.old.service (incarnation self.old.past) }
         ensures advances { AdvancesOpen (C.asker columns.old) (C.shows columns.new self.old.service) self.old self.old.open_dialog (C.seen columns.old) result self.new (C.seen columns.new) }
         ensures spelled { result ≡ Advanced.Goes → IsHeardOpen self.new.open_dialog }
         ensures next { IsTrue (C.asker columns.old).alone → IsNextBy (C.asker columns.old).worker (C.seen columns.old) (C.seen columns.new) }
-        ensures board { KeepsBoard C.asker C.shows C.token_seed C.spare columns.old columns.new }
+        ensures board { KeepsBoard C.asker C.shows C.token_seed C.spare C.may_ask columns.old columns.new }
     {
         let shown = columns.current(self.service);
         if shown > self.incarnation {
@@ -269,10 +273,11 @@ impl<L: Link> Cell<L> {
     fn exchange<C: Columns>(&mut self, columns: &mut C) -> Exchanged
         requires speaking { IsSpeaking (C.asker columns.old).worker self.old.open_dialog }
         requires declared { self.old.service < length (C.asker columns.old).config.services }
+        requires may { C.may_ask columns.old self.old.service (incarnation self.old.past) }
         ensures steps { StepsOpen (C.asker columns.old) self.old self.old.open_dialog (C.seen columns.old) result self.new (C.seen columns.new) }
         ensures spelled { result ≡ Exchanged.Goes → IsHeardOpen self.new.open_dialog }
         ensures next { IsTrue (C.asker columns.old).alone → IsNextBy (C.asker columns.old).worker (C.seen columns.old) (C.seen columns.new) }
-        ensures board { KeepsBoard C.asker C.shows C.token_seed C.spare columns.old columns.new }
+        ensures board { KeepsBoard C.asker C.shows C.token_seed C.spare C.may_ask columns.old columns.new }
     {
         let who = Who {
             service: self.service,

@@ -42,11 +42,12 @@ pub(crate) enum Exchanged {
 }
 
 fn answer_open<C: Columns>(columns: &mut C, who: Who, proxy: u16, shown: Token) -> ServerFrame
-    requires { who.service < length (C.asker columns.old).config.services }
+    requires declared { who.service < length (C.asker columns.old).config.services }
+    requires may { C.may_ask columns.old who.service who.incarnation }
     ensures answer { Answers (C.asker columns.old).config (record { worker = (C.asker columns.old).worker; service = who.service; incarnation = who.incarnation }) (ServiceFrame.Open proxy shown) (C.seen columns.old) result (C.seen columns.new) }
     ensures spelling { HasSpelling result }
     ensures next { IsTrue (C.asker columns.old).alone → IsNextBy (C.asker columns.old).worker (C.seen columns.old) (C.seen columns.new) }
-    ensures board { KeepsBoard C.asker C.shows C.token_seed C.spare columns.old columns.new }
+    ensures board { KeepsBoard C.asker C.shows C.token_seed C.spare C.may_ask columns.old columns.new }
 {
     if proxy as usize >= columns.proxies() {
         return making::denied(Rule::NoSuchProxy.number());
@@ -63,10 +64,11 @@ fn answer_call<C: Columns>(
     proxy: u16,
     call: Call,
 ) -> Result<ServerFrame, AllocError>
-    requires { call.service < length (C.asker columns.old).config.services }
+    requires declared { call.service < length (C.asker columns.old).config.services }
+    requires may { C.may_ask columns.old call.service call.incarnation }
     ensures answer { GivesAnswer (C.asker columns.old).config (record { worker = (C.asker columns.old).worker; service = call.service; incarnation = call.incarnation }) (ServiceFrame.Call proxy call.session call.query call.args) (C.seen columns.old) result (C.seen columns.new) }
     ensures next { IsTrue (C.asker columns.old).alone → IsNextBy (C.asker columns.old).worker (C.seen columns.old) (C.seen columns.new) }
-    ensures board { KeepsBoard C.asker C.shows C.token_seed C.spare columns.old columns.new }
+    ensures board { KeepsBoard C.asker C.shows C.token_seed C.spare C.may_ask columns.old columns.new }
 {
     if proxy as usize >= columns.proxies() {
         return Ok(making::denied(Rule::NoSuchProxy.number()));
@@ -78,11 +80,12 @@ fn answer_call<C: Columns>(
 }
 
 fn answer_get<C: Columns>(columns: &mut C, who: Who, name: Items<u8>) -> ServerFrame
-    requires { who.service < length (C.asker columns.old).config.services }
+    requires declared { who.service < length (C.asker columns.old).config.services }
+    requires may { C.may_ask columns.old who.service who.incarnation }
     ensures answer { Answers (C.asker columns.old).config (record { worker = (C.asker columns.old).worker; service = who.service; incarnation = who.incarnation }) (ServiceFrame.Get name) (C.seen columns.old) result (C.seen columns.new) }
     ensures spelling { HasSpelling result }
     ensures next { IsTrue (C.asker columns.old).alone → IsNextBy (C.asker columns.old).worker (C.seen columns.old) (C.seen columns.new) }
-    ensures board { KeepsBoard C.asker C.shows C.token_seed C.spare columns.old columns.new }
+    ensures board { KeepsBoard C.asker C.shows C.token_seed C.spare C.may_ask columns.old columns.new }
 {
     match columns.get(who.service, who.incarnation, name) {
         Ok(got) => told_got(got),
@@ -91,11 +94,12 @@ fn answer_get<C: Columns>(columns: &mut C, who: Who, name: Items<u8>) -> ServerF
 }
 
 fn answer_log<C: Columns>(columns: &mut C, who: Who, text: Items<u8>) -> ServerFrame
-    requires { who.service < length (C.asker columns.old).config.services }
+    requires declared { who.service < length (C.asker columns.old).config.services }
+    requires may { C.may_ask columns.old who.service who.incarnation }
     ensures answer { Answers (C.asker columns.old).config (record { worker = (C.asker columns.old).worker; service = who.service; incarnation = who.incarnation }) (ServiceFrame.Log text) (C.seen columns.old) result (C.seen columns.new) }
     ensures spelling { HasSpelling result }
     ensures next { IsTrue (C.asker columns.old).alone → IsNextBy (C.asker columns.old).worker (C.seen columns.old) (C.seen columns.new) }
-    ensures board { KeepsBoard C.asker C.shows C.token_seed C.spare columns.old columns.new }
+    ensures board { KeepsBoard C.asker C.shows C.token_seed C.spare C.may_ask columns.old columns.new }
 {
     match columns.log(who.service, who.incarnation, text) {
         Ok(noted) => told_noted(noted),
@@ -113,10 +117,11 @@ fn answer_copied_call<C: Columns>(
     query: u16,
     args: &Items<Value>,
 ) -> Result<ServerFrame, AllocError>
-    requires { who.service < length (C.asker columns.old).config.services }
+    requires declared { who.service < length (C.asker columns.old).config.services }
+    requires may { C.may_ask columns.old who.service who.incarnation }
     ensures answer { GivesAnswer (C.asker columns.old).config (record { worker = (C.asker columns.old).worker; service = who.service; incarnation = who.incarnation }) (ServiceFrame.Call proxy session query args.now) (C.seen columns.old) result (C.seen columns.new) }
     ensures next { IsTrue (C.asker columns.old).alone → IsNextBy (C.asker columns.old).worker (C.seen columns.old) (C.seen columns.new) }
-    ensures board { KeepsBoard C.asker C.shows C.token_seed C.spare columns.old columns.new }
+    ensures board { KeepsBoard C.asker C.shows C.token_seed C.spare C.may_ask columns.old columns.new }
 {
     if proxy as usize >= columns.proxies() {
         return Ok(making::denied(Rule::NoSuchProxy.number()));
@@ -146,10 +151,11 @@ fn answer<C: Columns>(
     who: Who,
     said: &ServiceFrame,
 ) -> Result<Option<ServerFrame>, AllocError>
-    requires { who.service < length (C.asker columns.old).config.services }
+    requires declared { who.service < length (C.asker columns.old).config.services }
+    requires may { C.may_ask columns.old who.service who.incarnation }
     ensures answer { AnswersSaid (C.asker columns.old).config (record { worker = (C.asker columns.old).worker; service = who.service; incarnation = who.incarnation }) said.now (C.seen columns.old) result (C.seen columns.new) }
     ensures next { IsTrue (C.asker columns.old).alone → IsNextBy (C.asker columns.old).worker (C.seen columns.old) (C.seen columns.new) }
-    ensures board { KeepsBoard C.asker C.shows C.token_seed C.spare columns.old columns.new }
+    ensures board { KeepsBoard C.asker C.shows C.token_seed C.spare C.may_ask columns.old columns.new }
 {
     match said {
         ServiceFrame::Open { proxy, shown } => Ok(Some(answer_open(columns, who, *proxy, *shown))),
@@ -236,6 +242,7 @@ fn exchange_frame<L: Link, C: Columns>(
 ) -> Exchanged
     requires spelling { ServiceHasSpelling said }
     requires declared { who.service < length (C.asker columns.old).config.services }
+    requires may { C.may_ask columns.old who.service who.incarnation }
     requires counted { frames ≡ said_count items.old.past }
     requires most { frames ≤ MOST_FRAMES }
     requires fresh { items.old.newest ≡ [] }
@@ -246,7 +253,7 @@ fn exchange_frame<L: Link, C: Columns>(
     ensures newest { result ≡ Exchanged.Goes → items.new.newest ≡ take 2 items.new.past }
     ensures replied { result ≡ Exchanged.Reply → EndsInReply items.new.newest }
     ensures next { IsTrue (C.asker columns.old).alone → IsNextBy (C.asker columns.old).worker (C.seen columns.old) (C.seen columns.new) }
-    ensures board { KeepsBoard C.asker C.shows C.token_seed C.spare columns.old columns.new }
+    ensures board { KeepsBoard C.asker C.shows C.token_seed C.spare C.may_ask columns.old columns.new }
 {
     if frames >= MOST_FRAMES {
         items.enter(Item::Said(said));
@@ -279,6 +286,7 @@ pub(crate) fn exchange<L: Link, C: Columns>(
     who: Who,
 ) -> Exchanged
     requires declared { who.service < length (C.asker columns.old).config.services }
+    requires may { C.may_ask columns.old who.service who.incarnation }
     requires counted { frames ≡ said_count items.old.past }
     requires most { frames ≤ MOST_FRAMES }
     ensures exchanged { Exchanges (C.asker columns.old).config (record { worker = (C.asker columns.old).worker; service = who.service; incarnation = who.incarnation }) (L.wire link.old) items.old.past (C.seen columns.old) result (L.wire link.new) items.new.past (C.seen columns.new) }
@@ -286,7 +294,7 @@ pub(crate) fn exchange<L: Link, C: Columns>(
     ensures newest { result ≡ Exchanged.Goes → items.new.newest ≡ take 2 items.new.past }
     ensures replied { result ≡ Exchanged.Reply → EndsInReply items.new.newest }
     ensures next { IsTrue (C.asker columns.old).alone → IsNextBy (C.asker columns.old).worker (C.seen columns.old) (C.seen columns.new) }
-    ensures board { KeepsBoard C.asker C.shows C.token_seed C.spare columns.old columns.new }
+    ensures board { KeepsBoard C.asker C.shows C.token_seed C.spare C.may_ask columns.old columns.new }
 {
     if items.begin_step(2).is_err() || link.make_room(LONGEST_FRAME + 4).is_err() {
         return Exchanged::Crashed(Cause::Starved);

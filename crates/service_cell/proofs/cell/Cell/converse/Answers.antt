@@ -1,10 +1,11 @@
 use Rattle.std.proofs.Common.{ℕ, refl, subst, ◌∙◌}
+use Rattle.monitor_model.specs.Cell.{incarnation}
 use Rattle.service_cell.specs.Asking.{Asker}
 use Rattle.service_cell.specs.Steps.{AdvancesOpen}
 use Rattle.service_cell.specs.Dialogs.{EndsAs}
 use Rattle.service_cell.specs.declared.answer.Advanced.TheVariants as advanced
 use Rattle.service_cell.specs.declared.answer.Spoken.TheVariants as spoken
-use Rattle.service_cell.proofs.Talking.{goes_talks, reply_ends, crash_ends, superseded_ends, says_less, still_speaking, same_service, board_then}
+use Rattle.service_cell.proofs.Talking.{goes_talks, reply_ends, crash_ends, superseded_ends, says_less, still_speaking, same_past, same_service, board_then}
 use Rattle.service_cell.proofs.cell.Cell.converse.Goals as goal
 
 pub frames-init : goal.frames-init
@@ -13,6 +14,7 @@ frames-init g c = record {
   speaking = c.requires.speaking;
   service = refl;
   board = c.requested.ensures.board;
+  past = refl;
 }
 
 pub advance-requires-clause-speaking : goal.advance-requires-clause-speaking
@@ -20,6 +22,9 @@ advance-requires-clause-speaking g c = rw c.frames.invariant.board.asked c.frame
 
 pub advance-requires-clause-declared : goal.advance-requires-clause-declared
 advance-requires-clause-declared g c = rw (c.frames.invariant.service, c.frames.invariant.board.asked) c.requires.declared
+
+pub advance-requires-clause-may : goal.advance-requires-clause-may
+advance-requires-clause-may g c = rw (c.frames.invariant.service, c.frames.invariant.past) (c.frames.invariant.board.allowed c.args.self.now.service (incarnation c.args.self.now.past) c.requires.may)
 
 pub frames-preserved : goal.frames-preserved
 frames-preserved g c =
@@ -34,7 +39,8 @@ frames-preserved g c =
       talks = λ n head content s J t. goes_talks who n head content s J c.frames.self seen (i.talks n head content s J t) shows c.advance.new.self now a;
       speaking = still_speaking who shows c.frames.self c.advance.new.self c.frames.self.open_dialog seen now a i.speaking;
       service = same_service who shows c.frames.self c.advance.new.self c.frames.self.open_dialog seen now a ∙ i.service;
-      board = board_then g.C.Columns.asker g.C.Columns.shows g.C.Columns.token_seed g.C.Columns.spare c.args.columns.now c.frames.columns c.advance.new.columns i.board c.advance.ensures.board;
+      board = board_then g.C.Columns.asker g.C.Columns.shows g.C.Columns.token_seed g.C.Columns.spare g.C.Columns.may_ask c.args.columns.now c.frames.columns c.advance.new.columns i.board c.advance.ensures.board;
+      past = same_past who shows c.frames.self c.advance.new.self c.frames.self.open_dialog seen now a ∙ i.past;
     }
 
 pub frames-smaller : goal.frames-smaller

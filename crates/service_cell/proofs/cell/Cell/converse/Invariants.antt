@@ -11,7 +11,8 @@ invariant-frames g l = record {
   talks : (n : ℕ) (head content : List ℕ) (c : Standing) (J : Seen) → Talks (g.C.Columns.asker l.fn.columns) n head content c J l.fn.self (g.C.Columns.seen l.fn.columns) → Talks (g.C.Columns.asker l.fn.columns) n head content c J l.self (g.C.Columns.seen l.columns);
   speaking : IsSpeaking (g.C.Columns.asker l.fn.columns).worker l.self.open_dialog;
   service : l.self.service ≡ l.fn.self.service;
-  board : KeepsBoard g.C.Columns.asker g.C.Columns.shows g.C.Columns.token_seed g.C.Columns.spare l.fn.columns l.columns;
+  board : KeepsBoard g.C.Columns.asker g.C.Columns.shows g.C.Columns.token_seed g.C.Columns.spare g.C.Columns.may_ask l.fn.columns l.columns;
+  past : l.self.past ≡ l.fn.self.past;
 }
 
 abbrev pub decreases-frames : goal.decreases-frames

@@ -10,3 +10,4 @@ pub mod Replies
 pub mod Onlys
 pub mod Notes
 pub mod Fitting
+pub mod Leads

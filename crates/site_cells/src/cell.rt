@@ -7,7 +7,7 @@ ghost use Rattle.monitor_model.specs.declared.record.CellEvent.TheVariants as ev
 ghost use Rattle.monitor_model.specs.Cell.{CellLaw, incarnation, last_booted, boot_frame};
 ghost use Rattle.monitor_model.specs.Sent.{AreSent};
 ghost use Rattle.service_cell.specs.Asking.{KeepsBoard};
-ghost use Rattle.site_cells.specs.Held.{by_event, events_in, is_booted, IsLinkOf, newest, with_boot, with_dialog};
+ghost use Rattle.site_cells.specs.Held.{by_event, events_in, is_booted, IsLinkOf, LeadsTo, newest, with_boot, with_dialog};
 ghost use Rattle.service_cell.specs.Dialogs.{Dialogs};
 ghost use Rattle.service_cell.specs.Ending.{EndsOtherwise, IsLast};
 ghost use Rattle.service_cell.specs.Standing.{all_sent};
@@ -24,7 +24,7 @@ use okws_base::journal::Past;
 use okws_outer::stream::Link;
 use service_cell::answer::{Booting, Spoken};
 use service_cell::cell::Cell;
-use service_cell::columns::Columns;
+use service_cell::columns::Hears;
 use service_cell::ending::Finished;
 use std::marker::{Model, PhantomData};
 use turn_lock::Journaled;
@@ -60,6 +60,41 @@ impl<N: Numbered, L: Link> Model for SiteCell<N, L> {
     ghost view = { λ b. record { holder = b.holder; standing = b.cell; entered = b.entered } };
 
     ghost invariant = { λ b. IsShut N.site N.run_seed b.entered b.cell };
+}
+
+// Where the wanted incarnation is there, the columns hear from its link.
+fn prepare<L: Link, H: Hears<L>>(cell: &mut Cell<L>, wanted: u32, columns: &mut H)
+    requires wanted { 0 < wanted }
+    requires leads { LeadsTo cell.old.service cell.old.past cell.old.link }
+    ensures cell { cell.new ≡ cell.old }
+    ensures may { wanted ≡ incarnation cell.old.past → H.may_ask columns.new cell.old.service wanted }
+    ensures seen { H.seen columns.new ≡ H.seen columns.old }
+    ensures board { KeepsBoard H.asker H.shows H.token_seed H.spare H.may_ask columns.old columns.new }
+{
+    cell.keeps();
+    if cell.incarnation() == wanted {
+        cell.lend(columns);
+    }
+}
+
+// A whole dialog with the wanted incarnation. Before its first turn at a column the columns hear from the link.
+fn speak<L: Link, H: Hears<L>>(
+    cell: &mut Cell<L>,
+    head: Items<u8>,
+    content: Items<u8>,
+    wanted: u32,
+    columns: &mut H,
+) -> Spoken
+    requires closed { cell.old.open_dialog ≡ None }
+    requires leads { LeadsTo cell.old.service cell.old.past cell.old.link }
+    requires wanted { 0 < wanted }
+    requires declared { cell.old.service < length (H.asker columns.old).config.services }
+    requires short { length head + length content + 9 ≤ LONGEST_FRAME }
+    ensures dialogs { Dialogs (H.asker columns.old) (H.shows columns.new cell.old.service) head content wanted cell.old (H.seen columns.old) result cell.new (H.seen columns.new) }
+    ensures board { KeepsBoard H.asker H.shows H.token_seed H.spare H.may_ask columns.old columns.new }
+{
+    prepare(cell, wanted, columns);
+    cell.dialog(head, content, wanted, columns)
 }
 
 impl<N: Numbered, L: Link> SiteCell<N, L> {
@@ -100,8 +135,9 @@ impl<N: Numbered, L: Link> SiteCell<N, L> {
         self.cell.last_dialog()
     }
 
-    /// A whole dialog of the holder with the wanted incarnation. Waits where the link does.
-    pub fn dialog<C: Columns>(
+    /// A whole dialog of the holder with the wanted incarnation, of whose link the columns hear first. Waits
+    /// where the link does.
+    pub fn dialog<C: Hears<L>>(
         &mut self,
         head: Items<u8>,
         content: Items<u8>,
@@ -118,10 +154,10 @@ impl<N: Numbered, L: Link> SiteCell<N, L> {
         ensures entered { self.new.entered ≡ with_dialog result (newest self.new.standing.past) self.old.entered }
         ensures adds { AddsBy (by_event N.launcher) self.old.holder self.old.entered self.new.entered }
         ensures past { self.new.standing.past ≡ events_in self.new.entered }
-        ensures board { KeepsBoard C.asker C.shows C.token_seed C.spare columns.old columns.new }
+        ensures board { KeepsBoard C.asker C.shows C.token_seed C.spare C.may_ask columns.old columns.new }
     {
         self.cell.keeps();
-        let spoken = self.cell.dialog(head, content, wanted, columns);
+        let spoken = speak(&mut self.cell, head, content, wanted, columns);
         self.entered.enter_dialog(spoken, &self.cell);
         spoken
     }

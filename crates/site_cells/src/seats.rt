@@ -23,7 +23,7 @@ use http_front::reply::Reply;
 use okws_base::items::Items;
 use okws_outer::stream::Link;
 use service_cell::answer::Spoken;
-use service_cell::columns::Columns;
+use service_cell::columns::Hears;
 use std::marker::{Model, PhantomData};
 use std::sync::Wait;
 use turn_lock::Seat;
@@ -98,7 +98,7 @@ impl<N: Numbered, C: CellNames, L: Link> CellSeats<N, C, L> {
 
     /// A whole dialog of a worker at the cell of a service, in one turn. Where the service replies, the Reply
     /// is filled before the turn is given up; else nothing is said of it.
-    pub fn dialog<R: Wait, W: Columns>(
+    pub fn dialog<R: Wait, W: Hears<L>>(
         &mut self,
         rt: &R,
         locks: &CellLocks<N, C, L>,
@@ -117,7 +117,7 @@ impl<N: Numbered, C: CellNames, L: Link> CellSeats<N, C, L> {
         ensures talked { HasTalked N.launcher (W.asker columns.old) (W.shows columns.new service) head content wanted service (seen_at self.old service) (W.seen columns.old) result (seen_at self.new service) (W.seen columns.new) }
         ensures gives { GivesLast result reply.new (seen_at self.new service) }
         ensures only { OnlyAt service self.old self.new }
-        ensures board { KeepsBoard W.asker W.shows W.token_seed W.spare columns.old columns.new }
+        ensures board { KeepsBoard W.asker W.shows W.token_seed W.spare W.may_ask columns.old columns.new }
     {
         let i = service as usize;
         let seat = &mut self.seats[i];

@@ -18,7 +18,7 @@ use http_front::reply::Reply;
 use okws_base::items::Items;
 use okws_outer::stream::Link;
 use service_cell::answer::Spoken;
-use service_cell::columns::Columns;
+use service_cell::columns::Hears;
 use std::sync::Wait;
 use turn_lock::{Seat, Turn};
 
@@ -72,7 +72,7 @@ fn fill_where<N: Numbered, L: Link>(reply: &mut Reply, spoken: Spoken, cell: &Si
 
 /// A whole dialog in one turn, behind the gate. Where the service replied, the Reply is filled before the
 /// turn is given back.
-pub(crate) fn talk<R: Wait, N: Numbered, L: Link, C: Columns>(
+pub(crate) fn talk<R: Wait, N: Numbered, L: Link, C: Hears<L>>(
     rt: &R,
     gate: &DialogGate,
     lock: &Turn<SiteCell<N, L>>,
@@ -92,7 +92,7 @@ pub(crate) fn talk<R: Wait, N: Numbered, L: Link, C: Columns>(
     ensures talked { HasTalked N.launcher (C.asker columns.old) (C.shows columns.new seat.old.label) head content wanted seat.old.label (events_in seat.old.seen) (C.seen columns.old) result (events_in seat.new.seen) (C.seen columns.new) }
     ensures gives { GivesLast result reply.new (events_in seat.new.seen) }
     ensures seat { seat.new ≡ record seat.old { seen = seat.new.seen } }
-    ensures board { KeepsBoard C.asker C.shows C.token_seed C.spare columns.old columns.new }
+    ensures board { KeepsBoard C.asker C.shows C.token_seed C.spare C.may_ask columns.old columns.new }
 {
     let gate = gate.pass(rt);
     let mut cell = lock.take(rt, seat);

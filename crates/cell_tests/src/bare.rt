@@ -8,8 +8,9 @@ use okws_base::items::Items;
 use okws_base::journal::{Entry, Journal};
 use okws_base::value::Token;
 use okws_outer::pinned::Listed;
+use okws_outer::stream::Link;
 use okws_plan::event::{Call, PubdEvent};
-use service_cell::columns::Columns;
+use service_cell::columns::{Columns, Hears};
 use started_call::Started;
 use std::alloc::{AllocError, Global};
 
@@ -54,6 +55,8 @@ impl Columns for Bare {
     ghost seen = { λ b. record { okd = []; proxies = []; pubd = b.drained.past; oklogd = []; launcher = []; own = b.own.past } };
 
     ghost shows = { λ b s k. Unit {0} };
+
+    ghost may_ask = { λ b s k. Unit {0} };
 
     fn worker(&self) -> u16 {
         0
@@ -130,4 +133,8 @@ impl Columns for Bare {
     ) -> Result<Noted, AllocError> {
         Err(AllocError)
     }
+}
+
+impl<L: Link> Hears<L> for Bare {
+    fn hear(&mut self, _link: &mut L) {}
 }

@@ -2,6 +2,7 @@
 
 ghost use Rattle.std.specs.Prelude.{◌≡◌, ◌≤◌, ◌<◌, None, length};
 ghost use Rattle.okws_base.specs.declared.limit.TheConstants.{MOST_INCARNATIONS};
+ghost use Rattle.monitor_model.specs.Cell.{incarnation};
 ghost use Rattle.service_cell.specs.Standing.{IsFresh};
 
 use crate::bare::Bare;
@@ -38,6 +39,7 @@ fn talk<L: Link, C: Columns>(
     requires wanted { 0 < wanted }
     requires closed { cell.old.open_dialog ≡ None }
     requires declared { cell.old.service < length (C.asker columns.old).config.services }
+    requires may { wanted ≡ incarnation cell.old.past → C.may_ask columns.old cell.old.service wanted }
     ensures { (cell.new.open_dialog ≡ None) × (cell.new.service ≡ cell.old.service) }
 {
     cell.keeps();

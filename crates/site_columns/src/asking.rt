@@ -41,6 +41,8 @@ impl Columns for SiteColumns {
 
     ghost shows = { λ a s k. k ≡ begun a.seen.launcher s };
 
+    ghost may_ask = { λ a s k. Unit {0} };
+
     fn worker(&self) -> u16 {
         self.worker
     }

@@ -5,6 +5,7 @@ ghost use Rattle.std.specs.Prelude.{◌≡◌, ◌<◌, length};
 
 use crate::holding::{MEMORY, holds};
 use crate::site::{config, first_value, shared};
+use index_keeper::IndexPin;
 use monitor_model::verdict::Verdict;
 use okws_base::items::Items;
 use okws_base::limit::MOST_INCARNATIONS;
@@ -65,10 +66,10 @@ fn install(rt: &impl Abort, columns: &mut SiteColumns, service: u16)
 }
 
 // The first incarnation of a service opens a session.
-fn open<R: Abort, C: Columns>(rt: &R, columns: &mut C, service: u16)
-    requires service { service < length (C.asker columns.old).config.services }
-    requires proxy { 0 < length (C.asker columns.old).config.proxies }
-    ensures { (C.asker columns.new).config ≡ (C.asker columns.old).config }
+fn open(rt: &impl Abort, columns: &mut SiteColumns, service: u16)
+    requires service { service < length columns.old.config.services }
+    requires proxy { 0 < length columns.old.config.proxies }
+    ensures { columns.new.config ≡ columns.old.config }
 {
     let shown = token(&SEED, service, 1, 0);
     match columns.open_session(0, service, 1, shown) {
@@ -78,16 +79,16 @@ fn open<R: Abort, C: Columns>(rt: &R, columns: &mut C, service: u16)
 }
 
 // A call on the first session of a service.
-fn call<R: Abort, C: Columns>(
-    rt: &R,
-    columns: &mut C,
+fn call(
+    rt: &impl Abort,
+    columns: &mut SiteColumns,
     service: u16,
     query: u16,
     args: Vec<Value>,
-) -> Started<C::Pin>
-    requires service { service < length (C.asker columns.old).config.services }
-    requires proxy { 0 < length (C.asker columns.old).config.proxies }
-    ensures { (C.asker columns.new).config ≡ (C.asker columns.old).config }
+) -> Started<IndexPin>
+    requires service { service < length columns.old.config.services }
+    requires proxy { 0 < length columns.old.config.proxies }
+    ensures { columns.new.config ≡ columns.old.config }
 {
     let call = Call {
         service,
@@ -100,10 +101,10 @@ fn call<R: Abort, C: Columns>(
 }
 
 // A call of other's that lists all rows, which are not found yet.
-fn list<R: Abort, C: Columns>(rt: &R, alloc: Global, columns: &mut C) -> C::Pin
-    requires service { 1 < length (C.asker columns.old).config.services }
-    requires proxy { 0 < length (C.asker columns.old).config.proxies }
-    ensures { (C.asker columns.new).config ≡ (C.asker columns.old).config }
+fn list(rt: &impl Abort, alloc: Global, columns: &mut SiteColumns) -> IndexPin
+    requires service { 1 < length columns.old.config.services }
+    requires proxy { 0 < length columns.old.config.proxies }
+    ensures { columns.new.config ≡ columns.old.config }
 {
     match call(rt, columns, OTHER, 1, Vec::new(alloc)) {
         Started::Ready(pin) => pin,
@@ -112,10 +113,10 @@ fn list<R: Abort, C: Columns>(rt: &R, alloc: Global, columns: &mut C) -> C::Pin
 }
 
 // Guest deletes the row with this id.
-fn delete<R: Abort, C: Columns>(rt: &R, alloc: Global, columns: &mut C, id: i64)
-    requires service { 0 < length (C.asker columns.old).config.services }
-    requires proxy { 0 < length (C.asker columns.old).config.proxies }
-    ensures { (C.asker columns.new).config ≡ (C.asker columns.old).config }
+fn delete(rt: &impl Abort, alloc: Global, columns: &mut SiteColumns, id: i64)
+    requires service { 0 < length columns.old.config.services }
+    requires proxy { 0 < length columns.old.config.proxies }
+    ensures { columns.new.config ≡ columns.old.config }
 {
     let mut args = Vec::new(alloc);
     args.push(Value::Int(id)).expect(rt, MEMORY);
@@ -126,9 +127,9 @@ fn delete<R: Abort, C: Columns>(rt: &R, alloc: Global, columns: &mut C, id: i64)
 }
 
 // What other finds that asked before guest deleted a row, and after it.
-fn found<R: Abort, C: Columns>(rt: &R, alloc: Global, columns: &mut C) -> (C::Pin, C::Pin)
-    requires service { 1 < length (C.asker columns.old).config.services }
-    requires proxy { 0 < length (C.asker columns.old).config.proxies }
+fn found(rt: &impl Abort, alloc: Global, columns: &mut SiteColumns) -> (IndexPin, IndexPin)
+    requires service { 1 < length columns.old.config.services }
+    requires proxy { 0 < length columns.old.config.proxies }
 {
     open(rt, columns, GUEST);
     open(rt, columns, OTHER);

@@ -8,6 +8,7 @@ ghost use Rattle.okws_plan.specs.declared.event.LogEvent.TheVariants as event;
 ghost use Rattle.okws_outer.specs.Streams.{Rose};
 ghost use Rattle.monitor_model.specs.Standing.{log_grant, live_at_log};
 ghost use Rattle.monitor_model.specs.Columns.{LogLaw};
+ghost use Rattle.monitor_model.specs.Installed.{EachFollows, HasStood, LogFollows};
 ghost use Rattle.monitor_model.specs.Logd.{log_verdict, log_text};
 ghost use Rattle.log_daemon.specs.Seen.{IsFront};
 ghost use Rattle.log_daemon.specs.Stopped.{is_stopped};
@@ -126,7 +127,7 @@ impl<N: Backed, S: Sink> SiteLog<N, S> {
         self.daemon.revoke(service, incarnation);
     }
 
-    /// Decides a text that an incarnation logs. The line of one that is logged becomes due at the
+    /// Decides a text that an incarnation, which was installed, logs. The line of one that is logged becomes due at the
     /// sink, and is given to it by `write_out`. Where memory is refused, all is as before.
     pub fn log(
         &mut self,
@@ -134,7 +135,8 @@ impl<N: Backed, S: Sink> SiteLog<N, S> {
         incarnation: u32,
         text: Items<u8>,
     ) -> Result<Noted, AllocError>
-        requires { service < length N.site.services }
+        requires service { service < length N.site.services }
+        requires installed { HasStood log_grant self.old.past service incarnation }
         ensures verdict { IfOk result (λ v. v ≡ log_verdict N.site self.old.past service incarnation text) }
         ensures ok { OnOk result (self.new ≡ log_entered self.old (event.Log service incarnation text)) }
         ensures err { OnErr result (self.new ≡ self.old) }
@@ -164,13 +166,14 @@ impl<N: Backed, S: Sink> SiteLog<N, S> {
         self.daemon.write_out()
     }
 
-    /// What was entered, where each entry fits the entries before it and what was launched names the
-    /// launcher's number, and the sink. What is still due isn't written any more. Where the log had
+    /// What was entered, where each entry fits the entries before it, what was launched names the launcher's
+    /// number, and each Log stands above the Install of its incarnation; and the sink. What is still due isn't written any more. Where the log had
     /// stopped, the sink's count rose in the run, and else it is as it was.
     pub fn close(self) -> (Past<Entry<LogEvent>>, S)
         ensures past { result.0 ≡ self.past }
         ensures law { LogLaw result.0 }
         ensures launched { LaunchedBy log_grant N.launcher result.0 }
+        ensures follows { EachFollows LogFollows result.0 }
         ensures given { S.given result.1 ≡ self.given }
         ensures faults { S.faults result.1 ≡ self.faults }
         ensures stopped { self.stopped ≡ true → Rose N.sink_faults self.faults }

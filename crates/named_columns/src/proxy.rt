@@ -10,6 +10,7 @@ ghost use Rattle.okws_plan.specs.declared.statement.Answer.{Answer};
 ghost use Rattle.okws_plan.specs.declared.statement.Answer.TheVariants.{Rows};
 ghost use Rattle.okws_outer.specs.Streams.{Rose, counted};
 ghost use Rattle.monitor_model.specs.Standing.{proxy_grant, live_at_proxy};
+ghost use Rattle.monitor_model.specs.Booting.{AllFollow};
 ghost use Rattle.monitor_model.specs.Columns.{ProxyLaw, faults};
 ghost use Rattle.service_cell.specs.Asking.{IsNarrow};
 ghost use Rattle.site_columns.specs.Site.{KeepsRules};
@@ -17,6 +18,7 @@ ghost use Rattle.monitor_model.specs.Proxy.{open_verdict, call_answer, call_verd
 ghost use Rattle.token_core.specs.Token.{token_of};
 ghost use Rattle.db_proxy.specs.Permit.{MayBeAnswered};
 ghost use Rattle.started_call.specs.Starting.{verdict_of, LeavesLength};
+ghost use Rattle.named_columns.specs.Asked.{IsInstalledAt};
 ghost use Rattle.named_columns.specs.Launched.{by_entry, LaunchedBy};
 ghost use Rattle.named_columns.specs.Held.{proxy_entered};
 
@@ -104,8 +106,8 @@ impl<N: Backed, K: Keeper> SiteProxy<N, K> {
     }
 
     /// Has the incarnation stand with the token that is issued to it, which is the one of the run's
-    /// seed for it here, and keeps the place of its revocation. Where memory is refused, all is as
-    /// before.
+    /// seed for it here, and keeps the place of its revocation. Nothing of the service stands before. Where
+    /// memory is refused, all is as before.
     pub fn install(
         &mut self,
         service: u16,
@@ -115,6 +117,7 @@ impl<N: Backed, K: Keeper> SiteProxy<N, K> {
         requires launcher { self.old.holder ≡ N.launcher }
         requires service { service < length N.site.services }
         requires later { last_by proxy_grant self.old.past service < incarnation }
+        requires vacant { standing_by proxy_grant self.old.past service ≡ None }
         requires token { token ≡ token_of N.run_seed service incarnation self.old.number }
         ensures ok { OnOk result (self.new ≡ proxy_entered self.old (event.Install service incarnation token)) }
         ensures err { OnErr result (self.new ≡ self.old) }
@@ -133,15 +136,16 @@ impl<N: Backed, K: Keeper> SiteProxy<N, K> {
         self.proxy.revoke(service, incarnation);
     }
 
-    /// Opens a session for the incarnation that shows this token, or says which rule that breaks.
-    /// Where memory is refused, all is as before.
+    /// Opens a session for the incarnation that shows this token, or says which rule that breaks. Where its
+    /// service has a grant here, the incarnation was installed. Where memory is refused, all is as before.
     pub fn open_session(
         &mut self,
         service: u16,
         incarnation: u32,
         shown: Token,
     ) -> Result<Verdict, AllocError>
-        requires { service < length N.site.services }
+        requires service { service < length N.site.services }
+        requires installed { IsInstalledAt N.site self.old.number self.old.past service incarnation }
         ensures verdict { IfOk result (λ v. v ≡ open_verdict self.old.past service incarnation shown) }
         ensures ok { OnOk result (self.new ≡ proxy_entered self.old (event.Open service incarnation shown)) }
         ensures err { OnErr result (self.new ≡ self.old) }
@@ -155,9 +159,11 @@ impl<N: Backed, K: Keeper> SiteProxy<N, K> {
     /// SELECT is pinned before the entry. Whether the rows' frame is too long is left to `finish` too.
     /// A call that breaks a rule leaves the count of faults. Over a keeper that tells no rows, what is
     /// answered is what the query may answer: Duplicate comes of an INSERT into a table with a KEY alone.
-    /// Rows have 1 to 255 columns. Where memory is refused, all is as before.
+    /// Rows have 1 to 255 columns. Where its service has a grant here, the incarnation was installed. Where
+    /// memory is refused, all is as before.
     pub fn start(&mut self, call: Call) -> Result<Started<K::Pin>, AllocError>
-        requires { call.service < length N.site.services }
+        requires service { call.service < length N.site.services }
+        requires installed { IsInstalledAt N.site self.old.number self.old.past call.service call.incarnation }
         ensures entry { IfOk result (λ s. (mark : Mark) × (self.new.past ≡ record { worker = self.old.holder; event = event.Call call mark } ∷ self.old.past)
             × (mark ≡ Mark.Fault → (call_denial N.site self.old.number self.old.past call ≡ None) × Rose self.old.faults self.new.faults)
             × (self.old.steady ≡ true → mark ≡ Mark.Done)
@@ -176,14 +182,15 @@ impl<N: Backed, K: Keeper> SiteProxy<N, K> {
         self.proxy.start(call)
     }
 
-    /// What was entered, where each entry fits the entries before it and what was launched names the
-    /// launcher's number, and the keeper, which is as the column showed it: its rows, where it tells them,
+    /// What was entered, where each entry fits the entries before it, what was launched names the launcher's
+    /// number, and each Open and Call stands above the Install of its incarnation; and the keeper, which is as the column showed it: its rows, where it tells them,
     /// are those of what was entered. At most as many Calls are marked Fault as the keeper's count rose in
     /// the run, and none where none of its calls fails.
     pub fn close(self) -> (Past<Entry<ProxyEvent>>, K)
         ensures past { result.0 ≡ self.past }
         ensures law { ProxyLaw N.site N.run_seed self.number result.0 }
         ensures launched { LaunchedBy proxy_grant N.launcher result.0 }
+        ensures follows { AllFollow N.site self.number result.0 }
         ensures declared { self.number < length N.site.proxies }
         ensures told { K.told result.1 ≡ self.told }
         ensures tells { N.tells ≡ true → is_some (K.told result.1) ≡ true }

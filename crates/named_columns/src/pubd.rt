@@ -8,6 +8,7 @@ ghost use Rattle.okws_plan.specs.declared.event.PubdEvent.TheVariants as event;
 ghost use Rattle.monitor_model.specs.Standing.{pubd_grant, live_at_pubd};
 ghost use Rattle.monitor_model.specs.Pubd.{edition, drain_verdict, get_verdict};
 ghost use Rattle.monitor_model.specs.Columns.{PubdLaw};
+ghost use Rattle.monitor_model.specs.Installed.{EachFollows, HasStood, PubdFollows};
 ghost use Rattle.okws_base.specs.Runs.{Each};
 ghost use Rattle.service_cell.specs.Asking.{IsShortPush, IsShortGot};
 ghost use Rattle.site_columns.specs.Site.{KeepsRules};
@@ -148,11 +149,12 @@ impl<N: Numbered> SitePubd<N> {
         self.pubd.edition(template)
     }
 
-    /// Takes what is due to the incarnation: at its first Drain the current editions of what its
+    /// Takes what is due to the incarnation, which was installed: at its first Drain the current editions of what its
     /// service may read, then each edition of these since its last one, in order; nothing where it
     /// doesn't stand. Each fits a frame. Where memory is refused, all is as before.
     pub fn drain(&mut self, service: u16, incarnation: u32) -> Result<Vec<Push>, AllocError>
-        requires { service < length N.site.services }
+        requires service { service < length N.site.services }
+        requires installed { HasStood pubd_grant self.old.past service incarnation }
         ensures verdict { IfOk result (λ v. v.items ≡ drain_verdict N.site self.old.past service incarnation) }
         ensures short { IfOk result (λ v. Each IsShortPush v.items) }
         ensures ok { OnOk result (self.new ≡ entered self.old (event.Drain service incarnation)) }
@@ -162,15 +164,16 @@ impl<N: Numbered> SitePubd<N> {
         self.pubd.drain(service, incarnation)
     }
 
-    /// Reads the last edition of the template with this name. Where memory is refused, all is as
-    /// before.
+    /// Reads the last edition of the template with this name for an incarnation that was installed. Where
+    /// memory is refused, all is as before.
     pub fn get(
         &mut self,
         service: u16,
         incarnation: u32,
         name: Items<u8>,
     ) -> Result<Got, AllocError>
-        requires { service < length N.site.services }
+        requires service { service < length N.site.services }
+        requires installed { HasStood pubd_grant self.old.past service incarnation }
         ensures verdict { IfOk result (λ v. v ≡ get_verdict N.site self.old.past service incarnation name) }
         ensures short { IfOk result IsShortGot }
         ensures ok { OnOk result (self.new ≡ entered self.old (event.Get service incarnation name)) }
@@ -180,12 +183,13 @@ impl<N: Numbered> SitePubd<N> {
         self.pubd.get(service, incarnation, name)
     }
 
-    /// What was entered: each entry fits the entries before it, and what was launched names the
-    /// launcher's number.
+    /// What was entered: each entry fits the entries before it, what was launched names the launcher's
+    /// number, and each Drain and Get stands above the Install of its incarnation.
     pub fn close(self) -> Past<Entry<PubdEvent>>
         ensures past { result ≡ self.past }
         ensures law { PubdLaw N.site result }
         ensures launched { LaunchedBy pubd_grant N.launcher result }
+        ensures follows { EachFollows PubdFollows result }
     {
         let SitePubd {
             pubd,

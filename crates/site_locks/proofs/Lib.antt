@@ -1,5 +1,3 @@
-pub mod Stays
-pub mod Turning
 pub mod Seeing
 pub mod Rows
 pub mod Sitting
@@ -8,3 +6,4 @@ pub mod Closes
 pub mod Boards
 pub mod Placing
 pub mod Marks
+pub mod Heard

@@ -18,7 +18,8 @@ use Rattle.monitor_model.specs.declared.verdict.Verdict.TheVariants as verdict
 use Rattle.started_call.specs.Starting.{verdict_of}
 use Rattle.started_call.specs.declared.started.Started.{Started}
 use Rattle.started_call.specs.declared.started.Started.TheVariants as started
-use Rattle.site_locks.specs.Calls.{Answered, mark_of}
+use Rattle.named_columns.specs.Calls.{Answered}
+use Rattle.site_locks.specs.Calls.{mark_of}
 
 -- the mark of a verdict
 abbrev shown : Verdict → Mark

@@ -12,7 +12,7 @@ use Rattle.turn_lock.specs.BoardSeats.{SeatIs as BoardSeat}
 use Rattle.turn_lock.specs.Seats.{TurnIs, SeatIs}
 use Rattle.site_locks.specs.Sat.{LockIds, AreSeats, sat_of}
 use Rattle.site_locks.specs.Steps.{EntersProxy, SeesProxy, RevokesProxy}
-use Rattle.site_locks.specs.Turns.{Enters, Sees, EntersAny}
+use Rattle.named_columns.specs.Turns.{Enters, Sees, EntersAny}
 use Rattle.site_locks.proofs.Rows.{Placed, placed, within_row, row_still, seen_at}
 use Rattle.site_locks.proofs.Sitting.{proxy_enters, proxy_sees}
 use Rattle.std.specs.Prelude.{Option, Some, None, ◌∷◌}

@@ -34,7 +34,7 @@ module _ {E : Type 0} where
   row_set d (z ∷ zs) l n (x ∷ cs) a zero new lt h = (subst (λ k. AtLock z k n new) (omega arith) h, a.1)
   row_set d (z ∷ zs) l n (x ∷ cs) a (suc i) new lt h = (a.0, row_set d zs (suc l) n cs a.1 i new (omega arith) (subst (λ k. AtLock (get_or zs i d) k n new) (omega arith) h))
 
-lock_at : {T : Type 0} (h : T → TableId) (d : TableId) (ts : List T) (i : ℕ) (t : T) → i < length ts → t ≡ get_or ts i t → get_or (map h ts) i d ≡ h t
+pub lock_at : {T : Type 0} (h : T → TableId) (d : TableId) (ts : List T) (i : ℕ) (t : T) → i < length ts → t ≡ get_or ts i t → get_or (map h ts) i d ≡ h t
 lock_at h d [] i t l e = absurd (omega arith)
 lock_at h d (x ∷ ts) zero t l e = ap h (sym e)
 lock_at h d (x ∷ ts) (suc i) t l e = lock_at h d ts i t (omega arith) e

@@ -13,7 +13,7 @@ use Rattle.named_columns.specs.Launched.{by_entry}
 use Rattle.turn_lock.proofs.Grows.{own-entry, own-on, own-same, owns-at, owns-set, owns-same}
 use Rattle.site_locks.specs.Sat.{Sat, seen_of}
 use Rattle.site_locks.specs.Steps.{NotesOkd, SeesOkd, NotesProxy, SeesProxy, NotesPubd, SeesPubd, NotesLog, SeesLog}
-use Rattle.site_locks.proofs.Stays.{Foreign, foreign}
+use Rattle.named_columns.proofs.Stays.{Foreign, foreign}
 
 all_foreign : {E : Type 0} (n : ℕ) (more : List (Entry E)) → of by_entry n more ≡ [] → AllForeign n more
 all_foreign n [] none = tt

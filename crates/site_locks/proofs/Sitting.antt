@@ -14,7 +14,7 @@ use Rattle.named_columns.specs.Launched.{by_entry}
 use Rattle.turn_lock.specs.Seats.{SeatIs}
 use Rattle.site_locks.specs.Sat.{LockIds, AreSeats, sat_of}
 use Rattle.site_locks.specs.Steps.{EntersOkd, SeesOkd, EntersProxy, SeesProxy, EntersPubd, SeesPubd, EntersLog, SeesLog}
-use Rattle.site_locks.specs.Turns.{Enters, Sees}
+use Rattle.named_columns.specs.Turns.{Enters, Sees}
 use Rattle.site_locks.proofs.Rows.{still, seen_at, map_set}
 
 set_same : {A : Type 0} (xs : List A) (i : ℕ) (d : A) → set xs i (get_or xs i d) ≡ xs

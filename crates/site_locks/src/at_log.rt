@@ -6,17 +6,18 @@ ghost use Rattle.okws_base.specs.declared.journal.Entry.{Entry};
 ghost use Rattle.okws_plan.specs.declared.event.LogEvent.{LogEvent};
 ghost use Rattle.okws_plan.specs.declared.event.LogEvent.TheVariants as event;
 ghost use Rattle.monitor_model.specs.Logd.{log_verdict};
+ghost use Rattle.monitor_model.specs.Installed.{HasStood};
 ghost use Rattle.monitor_model.specs.Standing.{log_grant};
 ghost use Rattle.site_locks.specs.Sat.{AreSeats, sat_of};
 ghost use Rattle.site_locks.specs.Steps.{NotesLog, EntersLog, SeesLog, RevokesLog};
-ghost use Rattle.site_locks.specs.Turns.{Stays};
+ghost use Rattle.named_columns.specs.Turns.{Stays};
 
 use crate::locks::{Locks, Seats};
-use crate::log_turn;
 use crate::named::Site;
 use log_daemon::WriteOut;
 use monitor_model::record::Own;
 use monitor_model::verdict::Noted;
+use named_columns::log_turn;
 use named_columns::named::Backed;
 use okws_base::items::{Exact, Items};
 use okws_outer::keeper::Keeper;
@@ -26,7 +27,8 @@ use std::alloc::AllocError;
 use std::sync::Wait;
 
 impl<N: Backed, J: Site, K: Keeper, S: Sink> Seats<N, J, K, S> {
-    /// Decides a text that an incarnation logs. Where memory is refused, nothing is entered.
+    /// Decides a text that an incarnation logs which it has seen installed. Where memory is refused, nothing is
+    /// entered.
     pub fn log<R: Wait>(
         &mut self,
         rt: &R,
@@ -35,7 +37,8 @@ impl<N: Backed, J: Site, K: Keeper, S: Sink> Seats<N, J, K, S> {
         incarnation: u32,
         text: Items<u8>,
     ) -> Result<Noted, AllocError>
-        requires { service < length N.site.services }
+        requires service { service < length N.site.services }
+        requires installed { HasStood log_grant self.old.oklogd service incarnation }
         ensures ok { IfOk result (λ v. (before : List (Entry LogEvent)) × (v ≡ log_verdict N.site before service incarnation text) × NotesLog (event.Log service incarnation text) before self.old self.new) }
         ensures err { OnErr result ((before : List (Entry LogEvent)) × SeesLog before self.old self.new) }
     {

@@ -9,14 +9,14 @@ ghost use Rattle.monitor_model.specs.Script.{goes_of};
 ghost use Rattle.monitor_model.specs.Standing.{up_at_okd, okd_grant};
 ghost use Rattle.site_locks.specs.Sat.{AreSeats, sat_of};
 ghost use Rattle.site_locks.specs.Steps.{NotesOkd, EntersOkd, SeesOkd, DownsOkd};
-ghost use Rattle.site_locks.specs.Turns.{Stays};
+ghost use Rattle.named_columns.specs.Turns.{Stays};
 
 use crate::locks::{Locks, Seats};
 use crate::named::Site;
-use crate::okd_turn;
 use monitor_model::record::Own;
 use monitor_model::verdict::Way;
 use named_columns::named::Backed;
+use named_columns::okd_turn;
 use okws_base::items::{Exact, Items};
 use okws_outer::keeper::Keeper;
 use okws_outer::stream::Sink;

@@ -9,19 +9,20 @@ ghost use Rattle.okws_plan.specs.declared.event.PubdEvent.{PubdEvent};
 ghost use Rattle.okws_plan.specs.declared.event.PubdEvent.TheVariants as event;
 ghost use Rattle.monitor_model.specs.declared.record.Own.TheVariants as own;
 ghost use Rattle.monitor_model.specs.Pubd.{drain_verdict, get_verdict, publish_at};
+ghost use Rattle.monitor_model.specs.Installed.{HasStood};
 ghost use Rattle.monitor_model.specs.Standing.{pubd_grant};
 ghost use Rattle.service_cell.specs.Asking.{IsShortPush, IsShortGot};
 ghost use Rattle.site_locks.specs.Calls.{Publishes};
 ghost use Rattle.site_locks.specs.Sat.{AreSeats, sat_of};
 ghost use Rattle.site_locks.specs.Steps.{NotesPubd, EntersPubd, SeesPubd, RevokesPubd, noted};
-ghost use Rattle.site_locks.specs.Turns.{Stays};
+ghost use Rattle.named_columns.specs.Turns.{Stays};
 
 use crate::locks::{Locks, Seats};
 use crate::named::Site;
-use crate::pubd_turn;
 use monitor_model::record::Own;
 use monitor_model::verdict::{Got, Published, Push};
 use named_columns::named::Backed;
+use named_columns::pubd_turn;
 use okws_base::items::{Exact, Items};
 use okws_outer::keeper::Keeper;
 use okws_outer::stream::Sink;
@@ -30,8 +31,8 @@ use std::alloc::AllocError;
 use std::sync::Wait;
 
 impl<N: Backed, J: Site, K: Keeper, S: Sink> Seats<N, J, K, S> {
-    /// Notes a dialog with the incarnation, and takes what is due to it. Where memory is refused, nothing
-    /// is entered and nothing is noted.
+    /// Notes a dialog with the incarnation, which it has seen installed, and takes what is due to it. Where memory
+    /// is refused, nothing is entered and nothing is noted.
     pub fn drain<R: Wait>(
         &mut self,
         rt: &R,
@@ -39,7 +40,8 @@ impl<N: Backed, J: Site, K: Keeper, S: Sink> Seats<N, J, K, S> {
         service: u16,
         incarnation: u32,
     ) -> Result<Vec<Push>, AllocError>
-        requires { service < length N.site.services }
+        requires service { service < length N.site.services }
+        requires installed { HasStood pubd_grant self.old.pubd service incarnation }
         ensures ok { IfOk result (λ v. (before : List (Entry PubdEvent)) × (v.items ≡ drain_verdict N.site before service incarnation) × NotesPubd (event.Drain service incarnation) before (noted self.old (own.Dialog service)) self.new) }
         ensures short { IfOk result (λ v. Each IsShortPush v.items) }
         ensures err { OnErr result ((before : List (Entry PubdEvent)) × SeesPubd before self.old self.new) }
@@ -54,8 +56,8 @@ impl<N: Backed, J: Site, K: Keeper, S: Sink> Seats<N, J, K, S> {
         Ok(pushes)
     }
 
-    /// Reads the last edition of the template with this name. Where memory is refused, nothing is
-    /// entered.
+    /// Reads the last edition of the template with this name for an incarnation that it has seen installed. Where
+    /// memory is refused, nothing is entered.
     pub fn get<R: Wait>(
         &mut self,
         rt: &R,
@@ -64,7 +66,8 @@ impl<N: Backed, J: Site, K: Keeper, S: Sink> Seats<N, J, K, S> {
         incarnation: u32,
         name: Items<u8>,
     ) -> Result<Got, AllocError>
-        requires { service < length N.site.services }
+        requires service { service < length N.site.services }
+        requires installed { HasStood pubd_grant self.old.pubd service incarnation }
         ensures ok { IfOk result (λ v. (before : List (Entry PubdEvent)) × (v ≡ get_verdict N.site before service incarnation name) × NotesPubd (event.Get service incarnation name) before self.old self.new) }
         ensures short { IfOk result IsShortGot }
         ensures err { OnErr result ((before : List (Entry PubdEvent)) × SeesPubd before self.old self.new) }

@@ -1,7 +1,7 @@
 use Rattle.std.proofs.Common.{rules, ◌∙◌, ◌<◌, length, ap, sym, subst}
 use Rattle.okws_plan.specs.declared.event.ProxyEvent.TheVariants as event
 use Rattle.monitor_model.specs.Standing.{proxy_grant}
-use Rattle.site_locks.specs.Turns.{Stays}
+use Rattle.named_columns.specs.Turns.{Stays}
 use Rattle.site_locks.specs.Sat.{LockIds, Sat}
 use Rattle.site_locks.proofs.Placing.{within, there, seen_there, moved_there, revokes_there, any_moves}
 use Rattle.site_locks.proofs.locks.Seats.revoke_at_proxy.Goals as goal

@@ -1,7 +1,7 @@
 use Rattle.std.proofs.Common.{refl, ap}
 use Rattle.named_columns.specs.Held.{HeldLog}
 use Rattle.site_locks.proofs.Sitting.{log_sees}
-use Rattle.site_locks.proofs.Turning.{sees}
+use Rattle.named_columns.proofs.Turning.{sees}
 use Rattle.site_locks.proofs.locks.Seats.write_out.Goals as goal
 
 pub returns : goal.returns

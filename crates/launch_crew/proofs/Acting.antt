@@ -24,7 +24,7 @@ use Rattle.monitor_model.specs.Standing.{proxy_grant, pubd_grant, log_grant}
 use Rattle.site_cells.specs.Row.{CellsSeen}
 use Rattle.site_locks.specs.Sat.{Sat}
 use Rattle.site_locks.specs.Steps.{EntersProxy, SeesProxy, EntersPubd, SeesPubd, EntersLog, SeesLog}
-use Rattle.site_locks.specs.Turns.{Stays}
+use Rattle.named_columns.specs.Turns.{Stays}
 use Rattle.launch_crew.specs.Acts.{InstallsAt, InstallsBoth, InstallsWhere, RevokesAt, past_at}
 use Rattle.launch_crew.specs.Listed.{with_install_if, with_revoke_at}
 use Rattle.launch_crew.specs.Pasts.{Grown, Installed, Revoked}

@@ -15,3 +15,4 @@ pub mod Stopping
 pub mod Finishing
 pub mod Counting
 pub mod Acting
+pub mod Bare

@@ -23,7 +23,7 @@ use Rattle.monitor_model.specs.Standing.{okd_grant, proxy_grant, pubd_grant, log
 use Rattle.site_locks.specs.Made.{fresh}
 use Rattle.site_locks.specs.Sat.{Sat}
 use Rattle.site_locks.specs.Steps.{EntersOkd, SeesOkd, EntersProxy, SeesProxy, EntersPubd, SeesPubd, EntersLog, SeesLog}
-use Rattle.site_locks.specs.Turns.{Stays}
+use Rattle.named_columns.specs.Turns.{Stays}
 use Rattle.launch_crew.specs.Listed.{StandsByOwn, with_revoke_at, with_install_if, InstallsFirst}
 use Rattle.launch_crew.proofs.Owns.{item_here, item_there, no_past}
 

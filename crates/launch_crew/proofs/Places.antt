@@ -14,7 +14,7 @@ use Rattle.monitor_model.specs.Seen.{proxy_past}
 use Rattle.monitor_model.specs.Standing.{proxy_grant, pubd_grant, log_grant}
 use Rattle.site_locks.specs.Sat.{Sat}
 use Rattle.launch_crew.specs.Crews.{stands_at, lasts_at}
-use Rattle.site_locks.specs.Turns.{Stays}
+use Rattle.named_columns.specs.Turns.{Stays}
 use Rattle.launch_crew.specs.Pasts.{Revoked, Installed, Thinned, Grown}
 use Rattle.launch_crew.specs.Steps.{OnlyProxies, OnlyPubd, OnlyLog, OnlyColumns, RevokesRow, InstallsRow, InstallsRest, Thins, Revokes, Installs}
 

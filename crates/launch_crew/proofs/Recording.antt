@@ -34,7 +34,7 @@ use Rattle.site_cells.specs.Turns.{HasLaunched, HasRetired}
 use Rattle.site_cells.specs.declared.answer.Launched.{Launched}
 use Rattle.site_locks.specs.Made.{fresh}
 use Rattle.site_locks.specs.Sat.{Sat}
-use Rattle.site_locks.specs.Turns.{Stays}
+use Rattle.named_columns.specs.Turns.{Stays}
 use Rattle.site_locks.specs.Steps.{EntersOkd, SeesOkd, EntersProxy, SeesProxy, EntersPubd, SeesPubd, EntersLog, SeesLog}
 use Rattle.launch_crew.specs.Finished.{IsFront}
 use Rattle.launch_crew.specs.Listed.{StandsByOwn}

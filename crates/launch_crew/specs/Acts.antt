@@ -1,6 +1,6 @@
 -- What one private call at some columns leaves of the launcher's seats and of its list, by what it answers.
 use Rattle.std.specs.Io.KnownBytes.{Consumes}
-use Rattle.std.specs.Prelude.{◌≡◌, ◌<◌, ◌≤◌, ◌+◌, ℕ, true, false, List, [], ◌∷◌, Some, Result, IfErr, OnOk, OnErr, length, map}
+use Rattle.std.specs.Prelude.{◌≡◌, ◌<◌, ◌≤◌, ◌+◌, ℕ, true, false, List, [], ◌∷◌, Some, Result, Ok, Err, IfErr, OnOk, OnErr, length, map}
 use Rattle.okws_base.specs.Past.{Grant}
 use Rattle.okws_base.specs.declared.journal.Entry.{Entry}
 use Rattle.okws_base.specs.declared.limit.TheConstants.{MOST_PROXIES}
@@ -20,7 +20,7 @@ use Rattle.monitor_model.specs.Seen.{proxy_past}
 use Rattle.monitor_model.specs.Standing.{proxy_grant}
 use Rattle.site_cells.specs.Row.{OnlyAt, link_at, seen_at}
 use Rattle.site_locks.specs.Sat.{Sat}
-use Rattle.site_locks.specs.Turns.{Stays}
+use Rattle.named_columns.specs.Turns.{Stays}
 use Rattle.launch_crew.specs.Finished.{IsFront, all_out}
 use Rattle.launch_crew.specs.Listed.{CellsGo, InstallsFirst, with_install_if}
 use Rattle.launch_crew.specs.Pasts.{Installed, Revoked}
@@ -99,3 +99,10 @@ pub record BootsCell {L : Type 0} (wire : L → Wire) (C : Config) (seed : List 
   pub untaken : IfErr answer (λ e. Consumes (wire e.1).came (wire e.1).left [])
   pub cause : IfErr answer (λ e. e.0 ≡ missed.Failed → 0 < (wire e.1).faults)
   pub room : a.room ≤ b.room + 1
+
+-- The same answer, whose link is this one.
+abbrev pub IsBare : {L : Type 0} → (L → Wire) → Result (Unit {0}) (Missed × Wire) → Result (Unit {0}) (Missed × L) → Type 0
+IsBare wire (Ok u) (Ok v) = Unit {0}
+IsBare wire (Ok u) (Err e) = ⊥
+IsBare wire (Err d) (Ok v) = ⊥
+IsBare wire (Err d) (Err e) = (e.0 ≡ d.0) × (wire e.1 ≡ d.1)

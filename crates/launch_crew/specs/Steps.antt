@@ -16,7 +16,7 @@ use Rattle.monitor_model.specs.Seen.{proxy_past}
 use Rattle.monitor_model.specs.Standing.{proxy_grant, pubd_grant, log_grant}
 use Rattle.site_cells.specs.Row.{seen_at, link_at, OnlyAt}
 use Rattle.site_locks.specs.Sat.{Sat}
-use Rattle.site_locks.specs.Turns.{Stays}
+use Rattle.named_columns.specs.Turns.{Stays}
 use Rattle.launch_crew.specs.Crews.{CrewIs, StaffIs, child_of, running_at, up_of, stands_at, lasts_at, NoneStands}
 use Rattle.launch_crew.specs.Finished.{all_out}
 use Rattle.launch_crew.specs.Listed.{of_cells, CellsGo}

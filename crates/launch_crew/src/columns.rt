@@ -1,7 +1,7 @@
 //! What the launcher does at the proxies, at pubd and at oklogd.
 
-ghost use Rattle.std.specs.Prelude.{◌≡◌, ◌<◌, ◌≤◌, ◌+◌, ℕ, List, ◌∷◌, OnOk, OnErr, length, if◌then◌else◌};
-ghost use Rattle.okws_base.specs.Past.{last_by};
+ghost use Rattle.std.specs.Prelude.{◌≡◌, ◌<◌, ◌≤◌, ◌+◌, ℕ, List, ◌∷◌, None, OnOk, OnErr, length, if◌then◌else◌};
+ghost use Rattle.okws_base.specs.Past.{last_by, standing_by};
 ghost use Rattle.okws_base.specs.declared.limit.TheConstants.{MOST_INCARNATIONS, MOST_PROXIES};
 ghost use Rattle.okws_plan.specs.declared.script.Place.{Place};
 ghost use Rattle.okws_plan.specs.declared.script.Place.TheVariants.{Proxy, Pubd, Oklogd};
@@ -9,7 +9,7 @@ ghost use Rattle.okws_plan.specs.Configuration.{cols};
 ghost use Rattle.monitor_model.specs.Launches.{install_at, with_installs, with_revoke_log, with_revoke_pubd, with_revokes, with_revokes_from};
 ghost use Rattle.monitor_model.specs.Seen.{proxy_past};
 ghost use Rattle.monitor_model.specs.Standing.{proxy_grant, pubd_grant, log_grant};
-ghost use Rattle.launch_crew.specs.Crews.{StandsAt, lasts_at};
+ghost use Rattle.launch_crew.specs.Crews.{NoneStands, StandsAt, lasts_at};
 ghost use Rattle.launch_crew.specs.Acts.{InstallsAlong, InstallsAt, InstallsBoth, InstallsWhere, RevokesAt, past_at};
 ghost use Rattle.launch_crew.specs.Listed.{InstallsFirst, with_revoke_at};
 ghost use Rattle.launch_crew.specs.Steps.{OnlyProxies, OnlyPubd, OnlyLog, TurnsAt, RevokesRow, Revokes, Installs};
@@ -124,7 +124,8 @@ impl<N: Backed, J: Site, C: CellNames, K: Keeper, S: Sink, L: Link> Recorder<N, 
         self.revoke_at_log(rt, locks, service);
     }
 
-    // Installs the incarnation at a proxy. Where memory is refused, nothing changes there.
+    // Installs the incarnation at a proxy, where nothing of the service stands. Where memory is refused,
+    // nothing changes there.
     fn install_at_proxy<R: Wait>(
         &mut self,
         rt: &R,
@@ -138,6 +139,7 @@ impl<N: Backed, J: Site, C: CellNames, K: Keeper, S: Sink, L: Link> Recorder<N, 
         requires service { service < length N.site.services }
         requires most { incarnation ≤ MOST_INCARNATIONS }
         requires later { last_by proxy_grant (proxy_past self.old.sat.proxies proxy) service < incarnation }
+        requires vacant { standing_by proxy_grant (proxy_past self.old.sat.proxies proxy) service ≡ None }
         requires seed { seed.now ≡ N.run_seed }
         requires room { 0 < self.old.room }
         ensures { InstallsAt proxy_grant (past_at proxy) (TurnsAt proxy) (install_at N.run_seed service incarnation (Proxy proxy)) service incarnation result self.old self.new }
@@ -170,6 +172,7 @@ impl<N: Backed, J: Site, C: CellNames, K: Keeper, S: Sink, L: Link> Recorder<N, 
         requires service { service < length N.site.services }
         requires most { incarnation ≤ MOST_INCARNATIONS }
         requires later { last_by proxy_grant (proxy_past self.old.sat.proxies proxy) service < incarnation }
+        requires vacant { standing_by proxy_grant (proxy_past self.old.sat.proxies proxy) service ≡ None }
         requires site { site.now ≡ N.site }
         requires seed { seed.now ≡ N.run_seed }
         requires room { 0 < self.old.room }
@@ -195,6 +198,7 @@ impl<N: Backed, J: Site, C: CellNames, K: Keeper, S: Sink, L: Link> Recorder<N, 
         requires service { service < length N.site.services }
         requires most { incarnation ≤ MOST_INCARNATIONS }
         requires later { (p : ℕ) → last_by proxy_grant (proxy_past self.old.sat.proxies p) service < incarnation }
+        requires vacant { (p : ℕ) → p < length N.site.proxies → standing_by proxy_grant (proxy_past self.old.sat.proxies p) service ≡ None }
         requires site { site.now ≡ N.site }
         requires seed { seed.now ≡ N.run_seed }
         requires room { MOST_PROXIES ≤ self.old.room }
@@ -269,7 +273,8 @@ impl<N: Backed, J: Site, C: CellNames, K: Keeper, S: Sink, L: Link> Recorder<N, 
         self.install_at_log(rt, locks, service, incarnation)
     }
 
-    /// Installs the incarnation at each proxy where the service has a grant, at pubd and at oklogd.
+    /// Installs the incarnation at each proxy where the service has a grant, at pubd and at oklogd, where
+    /// nothing of the service stands.
     pub fn install<R: Wait>(
         &mut self,
         rt: &R,
@@ -282,6 +287,7 @@ impl<N: Backed, J: Site, C: CellNames, K: Keeper, S: Sink, L: Link> Recorder<N, 
         requires service { service < length N.site.services }
         requires most { incarnation ≤ MOST_INCARNATIONS }
         requires later { (at : Place) → lasts_at self.old.sat at service < incarnation }
+        requires vacant { NoneStands N.site service self.old.sat }
         requires site { site.now ≡ N.site }
         requires seed { seed.now ≡ N.run_seed }
         requires room { MOST_PROXIES + 2 ≤ self.old.room }

@@ -7,8 +7,9 @@ ghost use Rattle.okws_outer.specs.Lives.{new_life};
 ghost use Rattle.okws_outer.specs.declared.children.ChildEnd.{ChildEnd};
 ghost use Rattle.monitor_model.specs.Cell.{incarnation as incarnation_of, last_booted, boot_frame};
 ghost use Rattle.site_cells.specs.Row.{IsNew, seen_at};
+ghost use Rattle.site_locks.specs.Heard.{AreInstalled};
 ghost use Rattle.site_locks.specs.Made.{fresh};
-ghost use Rattle.launch_crew.specs.Crews.{Below, child_of, crew_of};
+ghost use Rattle.launch_crew.specs.Crews.{Below, StandsAt, child_of, crew_of};
 ghost use Rattle.launch_crew.specs.Ended.{Attended, family_ended, tells_ended};
 ghost use Rattle.launch_crew.specs.Finished.{EndsAll, EndsOf, PlacesNone, StartsChild, StartsNone};
 ghost use Rattle.launch_crew.specs.Listed.{CellsGo, EndsPieces};
@@ -31,8 +32,10 @@ use okws_outer::stream::Sink;
 use site_cells::lock_names::CellNames;
 use site_cells::locks::CellLocks;
 use site_cells::seats::CellSeats;
-use site_locks::locks::Seats;
+use site_locks::column_notes::ColumnNotes;
+use site_locks::locks::{Locks, Seats};
 use site_locks::named::Site;
+use site_locks::noted_link::Noted;
 use std::alloc::Global;
 use std::sync::Wait;
 
@@ -51,7 +54,7 @@ pub struct Crew<N: Backed, J: Site, C: CellNames, K: Keeper, S: Sink, F: Childre
 #[derive(Drop)]
 pub struct Stopped<N: Backed, J: Site, C: CellNames, K: Keeper, S: Sink, F: Children> {
     pub seats: Seats<N, J, K, S>,
-    pub cells: CellSeats<N, C, F::Link>,
+    pub cells: CellSeats<N, C, Noted<N, J, K, S, F>>,
     pub children: F,
     pub own: Past<Own>,
 }
@@ -69,7 +72,7 @@ impl<N: Backed, J: Site, C: CellNames, K: Keeper, S: Sink, F: Children + Drop> C
     pub fn new(
         alloc: Global,
         seats: Seats<N, J, K, S>,
-        cells: CellSeats<N, C, F::Link>,
+        cells: CellSeats<N, C, Noted<N, J, K, S, F>>,
         children: F,
         keeps: bool,
     ) -> Result<Self, F>
@@ -103,7 +106,12 @@ impl<N: Backed, J: Site, C: CellNames, K: Keeper, S: Sink, F: Children + Drop> C
 
 impl<N: Backed, J: Site, C: CellNames, K: Keeper, S: Sink, F: Children> Crew<N, J, C, K, S, F> {
     /// Empties the cell of the service, and finishes its child.
-    pub fn empty<R: Wait>(&mut self, rt: &R, cells: &CellLocks<N, C, F::Link>, service: u16)
+    pub fn empty<R: Wait>(
+        &mut self,
+        rt: &R,
+        cells: &CellLocks<N, C, Noted<N, J, K, S, F>>,
+        service: u16,
+    )
         requires service { service < length N.site.services }
         requires room { 0 < self.old.recorder.room }
         ensures empties { Empties service (crew_of self.old.recorder self.old.staff) (crew_of self.new.recorder self.new.staff) }
@@ -114,14 +122,16 @@ impl<N: Backed, J: Site, C: CellNames, K: Keeper, S: Sink, F: Children> Crew<N, 
         self.staff.release(service, link);
     }
 
-    // Boots the cell of the service over the link of a child that was just started.
+    // Boots the cell of the service over the link of a child that was just started, with notes that have seen
+    // its incarnation installed.
     fn place<R: Wait>(
         &mut self,
         rt: &R,
-        cells: &CellLocks<N, C, F::Link>,
+        cells: &CellLocks<N, C, Noted<N, J, K, S, F>>,
         service: u16,
         incarnation: u32,
         started: Started<F::Child, F::Link>,
+        notes: ColumnNotes<N, J, K, S>,
         tokens: Items<Issued>,
     ) -> Result<(), Missed>
         requires service { service < length N.site.services }
@@ -129,6 +139,7 @@ impl<N: Backed, J: Site, C: CellNames, K: Keeper, S: Sink, F: Children> Crew<N, 
         requires later { last_booted (seen_at self.old.recorder.watch service) < incarnation }
         requires child { F.Child.life started.child ≡ new_life service incarnation }
         requires link { IsNewLink service incarnation (F.Link.wire started.link) }
+        requires installed { AreInstalled N.site service incarnation notes }
         requires tokens { ServerFrame.Boot service incarnation tokens ≡ boot_frame N.site N.run_seed service incarnation }
         requires few { length tokens ≤ MOST_PROXIES }
         requires room { 0 < self.old.recorder.room }
@@ -141,7 +152,7 @@ impl<N: Backed, J: Site, C: CellNames, K: Keeper, S: Sink, F: Children> Crew<N, 
         let Started { child, link } = started;
         match self
             .recorder
-            .boot(rt, cells, service, incarnation, link, tokens)
+            .boot(rt, cells, service, incarnation, link, notes, tokens)
         {
             Ok(()) => {
                 self.staff.keep(service, incarnation, child);
@@ -154,20 +165,22 @@ impl<N: Backed, J: Site, C: CellNames, K: Keeper, S: Sink, F: Children> Crew<N, 
         }
     }
 
-    /// Starts a child of the service, which has this name, as an incarnation of it, and boots its cell, which is empty.
-    pub fn start<R: Wait>(
+    // The same as `start`, with notes that have seen the incarnation installed.
+    fn start_noted<R: Wait>(
         &mut self,
         rt: &R,
-        cells: &CellLocks<N, C, F::Link>,
+        cells: &CellLocks<N, C, Noted<N, J, K, S, F>>,
         name: &Name,
         words: &[Items<u8>],
         service: u16,
         incarnation: u32,
+        notes: ColumnNotes<N, J, K, S>,
         tokens: Items<Issued>,
     ) -> Result<(), Missed>
         requires service { service < length N.site.services }
         requires empty { incarnation_of (seen_at self.old.recorder.watch service) ≡ 0 }
         requires later { last_booted (seen_at self.old.recorder.watch service) < incarnation }
+        requires installed { AreInstalled N.site service incarnation notes }
         requires tokens { ServerFrame.Boot service incarnation tokens ≡ boot_frame N.site N.run_seed service incarnation }
         requires few { length tokens ≤ MOST_PROXIES }
         requires room { 0 < self.old.recorder.room }
@@ -178,7 +191,39 @@ impl<N: Backed, J: Site, C: CellNames, K: Keeper, S: Sink, F: Children> Crew<N, 
         ensures in_vain { OnErr result (StartsNone N.site N.run_seed service incarnation words.now self.old.staff.family self.new.staff.family) }
     {
         let started = self.staff.start(service, name, incarnation, words)?;
-        self.place(rt, cells, service, incarnation, started, tokens)
+        self.place(rt, cells, service, incarnation, started, notes, tokens)
+    }
+
+    /// Starts a child of the service, which has this name, as an incarnation of it, which stands at each of the
+    /// service's columns, and boots its cell, which is empty, over a link that tells where it was installed.
+    pub fn start<R: Wait>(
+        &mut self,
+        rt: &R,
+        locks: &Locks<N, J, K, S>,
+        cells: &CellLocks<N, C, Noted<N, J, K, S, F>>,
+        name: &Name,
+        words: &[Items<u8>],
+        service: u16,
+        incarnation: u32,
+        tokens: Items<Issued>,
+    ) -> Result<(), Missed>
+        requires service { service < length N.site.services }
+        requires empty { incarnation_of (seen_at self.old.recorder.watch service) ≡ 0 }
+        requires later { last_booted (seen_at self.old.recorder.watch service) < incarnation }
+        requires stands { StandsAt N.site service incarnation self.old.recorder.sat }
+        requires tokens { ServerFrame.Boot service incarnation tokens ≡ boot_frame N.site N.run_seed service incarnation }
+        requires few { length tokens ≤ MOST_PROXIES }
+        requires room { 0 < self.old.recorder.room }
+        ensures ok { OnOk result (Starts service incarnation (crew_of self.old.recorder self.old.staff) (crew_of self.new.recorder self.new.staff)) }
+        ensures err { OnErr result (Misses service incarnation (crew_of self.old.recorder self.old.staff) (crew_of self.new.recorder self.new.staff)) }
+        ensures cause { IsErrOf result Missed.Failed → FailsBy service incarnation self.old.staff.family self.new.staff.family }
+        ensures started { OnOk result (StartsChild service incarnation words.now self.old.staff.family self.new.staff.family) }
+        ensures in_vain { OnErr result (StartsNone N.site N.run_seed service incarnation words.now self.old.staff.family self.new.staff.family) }
+    {
+        let Ok(notes) = self.recorder.note_columns(locks) else {
+            return Err(Missed::NoMemory);
+        };
+        self.start_noted(rt, cells, name, words, service, incarnation, notes, tokens)
     }
 
     /// Stops and finishes the children of all services, and empties their cells, at the end of a run. Takes
@@ -186,7 +231,7 @@ impl<N: Backed, J: Site, C: CellNames, K: Keeper, S: Sink, F: Children> Crew<N, 
     pub fn stop_all<R: Wait>(
         self,
         rt: &R,
-        cells: &CellLocks<N, C, F::Link>,
+        cells: &CellLocks<N, C, Noted<N, J, K, S, F>>,
     ) -> Stopped<N, J, C, K, S, F>
         requires room { length N.site.services ≤ self.recorder.room }
         ensures numbers { (result.seats.number ≡ N.launcher) × (result.cells.number ≡ N.launcher) }

@@ -1,7 +1,8 @@
 //! What the launcher has seen, for other numbers to take in.
 
-ghost use Rattle.std.specs.Prelude.{◌≡◌, ◌<◌, length};
+ghost use Rattle.std.specs.Prelude.{◌≡◌, ◌<◌, IfOk, length};
 ghost use Rattle.site_cells.specs.Row.{seen_at};
+ghost use Rattle.site_locks.specs.Heard.{columns_of};
 
 use crate::recorder::Recorder;
 use named_columns::named::Backed;
@@ -10,9 +11,12 @@ use okws_outer::stream::{Link, Sink};
 use site_cells::lock_names::CellNames;
 use site_cells::locks::CellLocks;
 use site_cells::note::CellNote;
+use site_locks::column_notes::ColumnNotes;
 use site_locks::locks::Locks;
 use site_locks::named::Site;
 use site_locks::note::OkdNote;
+use site_locks::noted_link::NotedLink;
+use std::alloc::AllocError;
 
 impl<N: Backed, J: Site, C: CellNames, K: Keeper, S: Sink, L: Link> Recorder<N, J, C, K, S, L> {
     /// A note of what was seen at okd. It takes no turn and no memory.
@@ -24,8 +28,25 @@ impl<N: Backed, J: Site, C: CellNames, K: Keeper, S: Sink, L: Link> Recorder<N, 
         self.seats.note_okd(locks)
     }
 
+    /// Notes of what was seen at the proxies, at pubd and at oklogd. It takes no turn. Where memory is refused,
+    /// nothing changes.
+    pub fn note_columns(
+        &mut self,
+        locks: &Locks<N, J, K, S>,
+    ) -> Result<ColumnNotes<N, J, K, S>, AllocError>
+        ensures notes { IfOk result (λ n. n ≡ columns_of self.old.sat) }
+        ensures same { self.new ≡ self.old }
+    {
+        let _own = &self.own;
+        self.seats.note_columns(locks)
+    }
+
     /// A note of what was seen at the cell of a service. It takes no turn and no memory.
-    pub fn note_cell(&mut self, cells: &CellLocks<N, C, L>, service: u16) -> CellNote<N, C, L>
+    pub fn note_cell(
+        &mut self,
+        cells: &CellLocks<N, C, NotedLink<N, J, K, S, L>>,
+        service: u16,
+    ) -> CellNote<N, C, NotedLink<N, J, K, S, L>>
         requires { service < length N.site.services }
         ensures note { result ≡ record { service = service; seen = seen_at self.old.watch service } }
         ensures same { self.new ≡ self.old }

@@ -22,16 +22,18 @@ use site_cells::lock_names::CellNames;
 use site_cells::seats::CellSeats;
 use site_locks::locks::{Locks, Seats};
 use site_locks::named::Site;
+use site_locks::noted_link::NotedLink;
 use std::alloc::{AllocError, Global};
 use std::marker::Model;
 use std::sync::Wait;
 
-/// The launcher's seats at the columns and at the cells of a site, and the list of what was done from them.
+/// The launcher's seats at the columns and at the cells of a site, whose links tell where the children were
+/// installed, and the list of what was done from them.
 /// By its type the entries that the launcher's number made, as far as it has seen, are those of its list.
 /// Each call that may enter something wants room for one item.
 pub struct Recorder<N: Backed, J: Site, C: CellNames, K: Keeper, S: Sink, L: Link> {
     pub(crate) seats: Seats<N, J, K, S>,
-    pub(crate) cells: CellSeats<N, C, L>,
+    pub(crate) cells: CellSeats<N, C, NotedLink<N, J, K, S, L>>,
     pub(crate) own: Journal<Own>,
 }
 
@@ -61,7 +63,7 @@ impl<N: Backed, J: Site, C: CellNames, K: Keeper, S: Sink, L: Link> Recorder<N, 
     pub fn new(
         alloc: Global,
         seats: Seats<N, J, K, S>,
-        cells: CellSeats<N, C, L>,
+        cells: CellSeats<N, C, NotedLink<N, J, K, S, L>>,
         keeps: bool,
     ) -> Self
         requires seats { seats ≡ fresh (length N.site.proxies) N.launcher }
@@ -102,7 +104,13 @@ impl<N: Backed, J: Site, C: CellNames, K: Keeper, S: Sink, L: Link> Recorder<N, 
     }
 
     /// The seats and the list, at the end of a run.
-    pub fn into_parts(self) -> (Seats<N, J, K, S>, CellSeats<N, C, L>, Past<Own>)
+    pub fn into_parts(
+        self,
+    ) -> (
+        Seats<N, J, K, S>,
+        CellSeats<N, C, NotedLink<N, J, K, S, L>>,
+        Past<Own>,
+    )
         ensures parts { (result.0 ≡ self.sat) × (result.1 ≡ self.watch) × (result.2 ≡ self.own) }
         ensures numbers { (result.0.number ≡ N.launcher) × (result.1.number ≡ N.launcher) }
         ensures own { AreOwn N.launcher result.0 result.1 result.2 }

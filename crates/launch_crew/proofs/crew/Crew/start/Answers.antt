@@ -1,71 +1,46 @@
-use Rattle.std.proofs.Common.{◌≡◌, ◌∙◌, inl, inr, Ok, Err, ap}
-use Rattle.std.specs.Prelude.{Result, OnErr}
-use Rattle.std.proofs.lemmas.Result.{on_ok_weaker, on_err_weaker}
-use Rattle.okws_outer.specs.Families.{with_end}
-use Rattle.okws_outer.specs.Lives.{new_life}
+use Rattle.std.proofs.Common.{arith, ◌≡◌, ◌<◌, inl, refl, sym, subst}
+use Rattle.std.specs.Prelude.{OnOk, OnErr}
+use Rattle.monitor_model.specs.Cell.{incarnation, last_booted}
+use Rattle.site_cells.specs.Row.{seen_at}
+use Rattle.site_locks.specs.Heard.{AreInstalled}
 use Rattle.launch_crew.specs.Crews.{crew_of}
-use Rattle.launch_crew.specs.Finished.{PlacesNone}
+use Rattle.launch_crew.specs.Recorded.{Recorded}
 use Rattle.launch_crew.specs.Steps.{Starts, Misses}
-use Rattle.launch_crew.proofs.Children.{more_refused, more_started}
-use Rattle.launch_crew.proofs.Starting.{starts_on, misses_on, misses_none}
+use Rattle.launch_crew.proofs.Bare.{stands_installed}
+use Rattle.launch_crew.proofs.Children.{more_refused}
+use Rattle.launch_crew.proofs.Starting.{misses_none}
 use Rattle.launch_crew.proofs.crew.Crew.start.Goals as goal
 
--- what holds anyway holds on an error
-on_any : {A X P : Type 0} (r : Result A X) → P → OnErr r P
-on_any (Ok x) h = tt
-on_any (Err e) h = h
+pub returns-in_default-clause-err : goal.returns-in_default-clause-err
+returns-in_default-clause-err g c =
+    let s = c.args.service in
+    let k = c.args.incarnation in
+    let t = c.args.self.now.staff in
+    subst (λ (r : Recorded). Misses s k (crew_of c.args.self.now.recorder t) (crew_of r t)) (sym c.note_columns.ensures.same)
+    (misses_none s k c.args.self.now.recorder t t refl (more_refused t.family t.family refl (omega arith)) c.requires.empty)
 
-pub returns-in_err-started-clause-err : goal.returns-in_err-started-clause-err
-returns-in_err-started-clause-err g c =
-    let a = c.args.self.now.staff in
-    let b = c.start.new.self in
-    on_any c.from_residual.result (misses_none c.args.service c.args.incarnation c.args.self.now.recorder a b c.start.ensures.running (more_refused a.family b.family c.in_err-started.ensures.refused c.start.ensures.faults) c.requires.empty)
+pub returns-in_default-clause-in_vain : goal.returns-in_default-clause-in_vain
+returns-in_default-clause-in_vain g c = inl refl
+
+pub start_noted-requires-clause-empty : goal.start_noted-requires-clause-empty
+start_noted-requires-clause-empty g c = subst (λ (r : Recorded). incarnation (seen_at r.watch c.args.service) ≡ 0) (sym c.note_columns.ensures.same) c.requires.empty
+
+pub start_noted-requires-clause-later : goal.start_noted-requires-clause-later
+start_noted-requires-clause-later g c = subst (λ (r : Recorded). last_booted (seen_at r.watch c.args.service) < c.args.incarnation) (sym c.note_columns.ensures.same) c.requires.later
+
+pub start_noted-requires-clause-installed : goal.start_noted-requires-clause-installed
+start_noted-requires-clause-installed g c =
+    subst (AreInstalled g.N.Numbered.site c.args.service c.args.incarnation) (sym c.in-Ok.ensures.notes) (stands_installed g.N.Numbered.site c.args.service c.args.incarnation c.args.self.now.recorder.sat c.requires.stands)
+
+pub start_noted-requires-clause-room : goal.start_noted-requires-clause-room
+start_noted-requires-clause-room g c = subst (λ (r : Recorded). 0 < r.room) (sym c.note_columns.ensures.same) c.requires.room
 
 pub returns-clause-ok : goal.returns-clause-ok
 returns-clause-ok g c =
-    let s = c.args.service in
-    let k = c.args.incarnation in
-    let r = c.args.self.now.recorder in
-    let a = c.args.self.now.staff in
-    let b = c.start.new.self in
-    let d = crew_of c.place.new.self.recorder c.place.new.self.staff in
-    let more = more_started s k c.args.words.now (g.F.Link.Link.wire c.in_ok-started.started.link) a.family b.family c.in_ok-started.ensures.started in
-    on_ok_weaker c.place.result (λ (h : Starts s k (crew_of r b) d). starts_on s k r a b d c.start.ensures.running more h) c.place.ensures.ok
+    let d = crew_of c.start_noted.new.self.recorder c.start_noted.new.self.staff in
+    subst (λ (r : Recorded). OnOk c.start_noted.result (Starts c.args.service c.args.incarnation (crew_of r c.args.self.now.staff) d)) c.note_columns.ensures.same c.start_noted.ensures.ok
 
 pub returns-clause-err : goal.returns-clause-err
 returns-clause-err g c =
-    let s = c.args.service in
-    let k = c.args.incarnation in
-    let r = c.args.self.now.recorder in
-    let a = c.args.self.now.staff in
-    let b = c.start.new.self in
-    let d = crew_of c.place.new.self.recorder c.place.new.self.staff in
-    let more = more_started s k c.args.words.now (g.F.Link.Link.wire c.in_ok-started.started.link) a.family b.family c.in_ok-started.ensures.started in
-    on_err_weaker c.place.result (λ (h : Misses s k (crew_of r b) d). misses_on s k r a b d c.start.ensures.running more h) c.place.ensures.err
-
-pub returns-clause-started : goal.returns-clause-started
-returns-clause-started g c =
-    let a = c.args.self.now.staff in
-    let b = c.start.new.self in
-    let d = c.place.new.self.staff in
-    on_ok_weaker c.place.result (λ (same : d.family ≡ b.family). (g.F.Link.Link.wire c.in_ok-started.started.link, same ∙ c.in_ok-started.ensures.started)) c.place.ensures.told
-
-pub returns-in_err-started-clause-in_vain : goal.returns-in_err-started-clause-in_vain
-returns-in_err-started-clause-in_vain g c = on_any c.from_residual.result (inl c.in_err-started.ensures.refused)
-
-pub returns-clause-in_vain : goal.returns-clause-in_vain
-returns-clause-in_vain g c =
-    let s = c.args.service in
-    let k = c.args.incarnation in
-    let b = c.start.new.self in
-    let d = c.place.new.self.staff in
-    on_err_weaker c.place.result
-    (λ (h : PlacesNone g.N.Numbered.site g.N.Numbered.run_seed s k b.family d.family). inr (record {
-      first = g.F.Link.Link.wire c.in_ok-started.started.link;
-      last = h.0;
-      is = h.1 ∙ ap (with_end (new_life s k) h.0) c.in_ok-started.ensures.started;
-      front = h.2;
-      whose = h.3;
-      untaken = h.4;
-    }))
-    c.place.ensures.in_vain
+    let d = crew_of c.start_noted.new.self.recorder c.start_noted.new.self.staff in
+    subst (λ (r : Recorded). OnErr c.start_noted.result (Misses c.args.service c.args.incarnation (crew_of r c.args.self.now.staff) d)) c.note_columns.ensures.same c.start_noted.ensures.err

@@ -6,6 +6,7 @@ use Rattle.frame_codec.specs.declared.frame.ServerFrame.TheVariants as frame
 use Rattle.site_cells.specs.Held.{has_booted}
 use Rattle.monitor_model.specs.Cell.{incarnation}
 use Rattle.site_cells.specs.Row.{link_at, seen_at}
+use Rattle.okws_outer.specs.Wire.{Wire}
 use Rattle.launch_crew.proofs.Counting.{all_booted, all_unbooted}
 use Rattle.launch_crew.proofs.Recording.{cell_booted, cell_seen, booted, booted_last, faulted, faulted_front, faulted_untaken, faulted_whose, refused, refused_front, refused_untaken, refused_whose}
 use Rattle.monitor_model.specs.declared.record.CellEvent.TheVariants as cell
@@ -20,21 +21,21 @@ invariant_of-self g c =
     let h = c.boot-booting.ensures.launched in
     cell_booted g.N.Numbered.site g.N.Numbered.launcher c.args.service c.self.inside.seats c.self.inside.cells c.boot-booting.new.self c.self.inside.own.past c.enter.new.self.past c.self.inside.own.room c.enter.new.self.room
     h.before.past c.boot-booting.ensures.only h.found.grows c.self.invariant c.args.incarnation c.enter.ensures.past
-    (booted g.L.Link.wire g.N.Numbered.launcher c.args.service c.args.incarnation c.args.link (frame.Boot c.args.service c.args.incarnation c.args.tokens) (seen_at c.self.inside.cells c.args.service) (seen_at c.boot-booting.new.self c.args.service) c.boot-booting.result c.boot-booting.ensures.launched c.in-Booted.is)
+    (booted (λ (w : Wire). w) g.N.Numbered.launcher c.args.service c.args.incarnation c.args.link (frame.Boot c.args.service c.args.incarnation c.args.tokens) (seen_at c.self.inside.cells c.args.service) (seen_at c.boot-booting.new.self c.args.service) c.boot-booting.result c.boot-booting.ensures.launched c.in-Booted.is)
 
 pub invariant_of-self-in-LinkFault : goal.invariant_of-self-in-LinkFault
 invariant_of-self-in-LinkFault g c =
     let h = c.boot-booting.ensures.launched in
     cell_seen g.N.Numbered.site g.N.Numbered.launcher c.args.service c.self.inside.seats c.self.inside.cells c.boot-booting.new.self c.self.inside.own.past c.self.inside.own.past c.self.inside.own.room c.self.inside.own.room
     h.before.past c.boot-booting.ensures.only h.found.grows c.self.invariant refl
-    (faulted g.L.Link.wire g.N.Numbered.launcher c.args.service c.args.incarnation c.args.link (frame.Boot c.args.service c.args.incarnation c.args.tokens) (seen_at c.self.inside.cells c.args.service) (seen_at c.boot-booting.new.self c.args.service) c.boot-booting.result c.boot-booting.ensures.launched c.in-LinkFault.link c.in-LinkFault.is)
+    (faulted (λ (w : Wire). w) g.N.Numbered.launcher c.args.service c.args.incarnation c.args.link (frame.Boot c.args.service c.args.incarnation c.args.tokens) (seen_at c.self.inside.cells c.args.service) (seen_at c.boot-booting.new.self c.args.service) c.boot-booting.result c.boot-booting.ensures.launched c.in-LinkFault.link c.in-LinkFault.is)
 
 pub invariant_of-self-in-NoMemory : goal.invariant_of-self-in-NoMemory
 invariant_of-self-in-NoMemory g c =
     let h = c.boot-booting.ensures.launched in
     cell_seen g.N.Numbered.site g.N.Numbered.launcher c.args.service c.self.inside.seats c.self.inside.cells c.boot-booting.new.self c.self.inside.own.past c.self.inside.own.past c.self.inside.own.room c.self.inside.own.room
     h.before.past c.boot-booting.ensures.only h.found.grows c.self.invariant refl
-    (refused g.L.Link.wire g.N.Numbered.launcher c.args.service c.args.incarnation c.args.link (frame.Boot c.args.service c.args.incarnation c.args.tokens) (seen_at c.self.inside.cells c.args.service) (seen_at c.boot-booting.new.self c.args.service) c.boot-booting.result c.boot-booting.ensures.launched c.in-NoMemory.link c.in-NoMemory.is)
+    (refused (λ (w : Wire). w) g.N.Numbered.launcher c.args.service c.args.incarnation c.args.link (frame.Boot c.args.service c.args.incarnation c.args.tokens) (seen_at c.self.inside.cells c.args.service) (seen_at c.boot-booting.new.self c.args.service) c.boot-booting.result c.boot-booting.ensures.launched c.in-NoMemory.link c.in-NoMemory.is)
 
 pub returns-in-Booted : goal.returns-in-Booted
 returns-in-Booted g c = record {
@@ -46,7 +47,7 @@ returns-in-Booted g c = record {
   behind = let h = c.boot-booting.ensures.launched in
       subst (λ (r : Recorded). CellsGo r.watch c.boot-booting.new.self) c.self.view_is
       (go_behind g.N.Numbered.launcher c.args.service c.self.inside.seats c.self.inside.cells c.boot-booting.new.self c.self.inside.own.past c.enter.new.self.past h.before.past c.boot-booting.ensures.only c.self.invariant.own_is h.found.grows (cell.Boot c.args.incarnation)
-      (booted g.L.Link.wire g.N.Numbered.launcher c.args.service c.args.incarnation c.args.link (frame.Boot c.args.service c.args.incarnation c.args.tokens) (seen_at c.self.inside.cells c.args.service) (seen_at c.boot-booting.new.self c.args.service) c.boot-booting.result c.boot-booting.ensures.launched c.in-Booted.is));
+      (booted (λ (w : Wire). w) g.N.Numbered.launcher c.args.service c.args.incarnation c.args.link (frame.Boot c.args.service c.args.incarnation c.args.tokens) (seen_at c.self.inside.cells c.args.service) (seen_at c.boot-booting.new.self c.args.service) c.boot-booting.result c.boot-booting.ensures.launched c.in-Booted.is));
   added = search rules;
   kept = tt;
   linked = c.boot-booting.ensures.link ∙ ap has_booted c.in-Booted.is;
@@ -57,8 +58,8 @@ returns-in-Booted g c = record {
       let h = c.boot-booting.ensures.launched in
       let empty = subst (λ (r : Recorded). incarnation (seen_at r.watch s) ≡ 0) (sym c.self.view_is) c.requires.empty in
       subst (λ (r : Recorded). link_at r.watch s ≡ false → (n : ℕ) → all_out new n ≤ all_out r.watch n) c.self.view_is
-      (all_booted g.N.Numbered.launcher s c.args.incarnation old new h.before.past c.boot-booting.ensures.only h.found.grows empty (booted g.L.Link.wire g.N.Numbered.launcher c.args.service c.args.incarnation c.args.link (frame.Boot c.args.service c.args.incarnation c.args.tokens) (seen_at c.self.inside.cells c.args.service) (seen_at c.boot-booting.new.self c.args.service) c.boot-booting.result c.boot-booting.ensures.launched c.in-Booted.is) (c.boot-booting.ensures.link ∙ ap has_booted c.in-Booted.is));
-  last = booted_last g.L.Link.wire g.N.Numbered.launcher c.args.service c.args.incarnation c.args.link (frame.Boot c.args.service c.args.incarnation c.args.tokens) (seen_at c.self.inside.cells c.args.service) (seen_at c.boot-booting.new.self c.args.service) c.boot-booting.result c.boot-booting.ensures.launched c.in-Booted.is;
+      (all_booted g.N.Numbered.launcher s c.args.incarnation old new h.before.past c.boot-booting.ensures.only h.found.grows empty (booted (λ (w : Wire). w) g.N.Numbered.launcher c.args.service c.args.incarnation c.args.link (frame.Boot c.args.service c.args.incarnation c.args.tokens) (seen_at c.self.inside.cells c.args.service) (seen_at c.boot-booting.new.self c.args.service) c.boot-booting.result c.boot-booting.ensures.launched c.in-Booted.is) (c.boot-booting.ensures.link ∙ ap has_booted c.in-Booted.is));
+  last = booted_last (λ (w : Wire). w) g.N.Numbered.launcher c.args.service c.args.incarnation c.args.link (frame.Boot c.args.service c.args.incarnation c.args.tokens) (seen_at c.self.inside.cells c.args.service) (seen_at c.boot-booting.new.self c.args.service) c.boot-booting.result c.boot-booting.ensures.launched c.in-Booted.is;
   front = tt;
   whose = tt;
   untaken = tt;
@@ -76,7 +77,7 @@ returns-in-LinkFault g c = record {
   behind = let h = c.boot-booting.ensures.launched in
       subst (λ (r : Recorded). CellsGo r.watch c.boot-booting.new.self) c.self.view_is
       (go_before g.N.Numbered.launcher c.args.service c.self.inside.seats c.self.inside.cells c.boot-booting.new.self c.self.inside.own.past c.self.inside.own.past h.before.past c.boot-booting.ensures.only c.self.invariant.own_is h.found.grows
-      (faulted g.L.Link.wire g.N.Numbered.launcher c.args.service c.args.incarnation c.args.link (frame.Boot c.args.service c.args.incarnation c.args.tokens) (seen_at c.self.inside.cells c.args.service) (seen_at c.boot-booting.new.self c.args.service) c.boot-booting.result c.boot-booting.ensures.launched c.in-LinkFault.link c.in-LinkFault.is));
+      (faulted (λ (w : Wire). w) g.N.Numbered.launcher c.args.service c.args.incarnation c.args.link (frame.Boot c.args.service c.args.incarnation c.args.tokens) (seen_at c.self.inside.cells c.args.service) (seen_at c.boot-booting.new.self c.args.service) c.boot-booting.result c.boot-booting.ensures.launched c.in-LinkFault.link c.in-LinkFault.is));
   added = tt;
   kept = search rules;
   linked = tt;
@@ -87,12 +88,12 @@ returns-in-LinkFault g c = record {
       let h = c.boot-booting.ensures.launched in
       let empty = subst (λ (r : Recorded). incarnation (seen_at r.watch s) ≡ 0) (sym c.self.view_is) c.requires.empty in
       subst (λ (r : Recorded). link_at r.watch s ≡ false → (n : ℕ) → all_out new n ≤ all_out r.watch n) c.self.view_is
-      (all_unbooted g.N.Numbered.launcher s old new h.before.past c.boot-booting.ensures.only h.found.grows empty (faulted g.L.Link.wire g.N.Numbered.launcher c.args.service c.args.incarnation c.args.link (frame.Boot c.args.service c.args.incarnation c.args.tokens) (seen_at c.self.inside.cells c.args.service) (seen_at c.boot-booting.new.self c.args.service) c.boot-booting.result c.boot-booting.ensures.launched c.in-LinkFault.link c.in-LinkFault.is) (c.boot-booting.ensures.link ∙ ap has_booted c.in-LinkFault.is));
+      (all_unbooted g.N.Numbered.launcher s old new h.before.past c.boot-booting.ensures.only h.found.grows empty (faulted (λ (w : Wire). w) g.N.Numbered.launcher c.args.service c.args.incarnation c.args.link (frame.Boot c.args.service c.args.incarnation c.args.tokens) (seen_at c.self.inside.cells c.args.service) (seen_at c.boot-booting.new.self c.args.service) c.boot-booting.result c.boot-booting.ensures.launched c.in-LinkFault.link c.in-LinkFault.is) (c.boot-booting.ensures.link ∙ ap has_booted c.in-LinkFault.is));
   last = tt;
-  front = subst (λ (x : ServerFrame). IsFront (server_spelling x) (g.L.Link.wire c.in-LinkFault.link).given) c.requires.tokens
-      (faulted_front g.L.Link.wire g.N.Numbered.launcher c.args.service c.args.incarnation c.args.link (frame.Boot c.args.service c.args.incarnation c.args.tokens) (seen_at c.self.inside.cells c.args.service) (seen_at c.boot-booting.new.self c.args.service) c.boot-booting.result c.boot-booting.ensures.launched c.requires.link.given c.in-LinkFault.link c.in-LinkFault.is);
-  whose = faulted_whose g.L.Link.wire g.N.Numbered.launcher c.args.service c.args.incarnation c.args.link (frame.Boot c.args.service c.args.incarnation c.args.tokens) (seen_at c.self.inside.cells c.args.service) (seen_at c.boot-booting.new.self c.args.service) c.boot-booting.result c.boot-booting.ensures.launched (Some (child_named c.args.service c.args.incarnation)) c.requires.link.whose c.in-LinkFault.link c.in-LinkFault.is;
-  untaken = faulted_untaken g.L.Link.wire g.N.Numbered.launcher c.args.service c.args.incarnation c.args.link (frame.Boot c.args.service c.args.incarnation c.args.tokens) (seen_at c.self.inside.cells c.args.service) (seen_at c.boot-booting.new.self c.args.service) c.boot-booting.result c.boot-booting.ensures.launched c.requires.link.came c.in-LinkFault.link c.in-LinkFault.is;
+  front = subst (λ (x : ServerFrame). IsFront (server_spelling x) c.in-LinkFault.link.given) c.requires.tokens
+      (faulted_front (λ (w : Wire). w) g.N.Numbered.launcher c.args.service c.args.incarnation c.args.link (frame.Boot c.args.service c.args.incarnation c.args.tokens) (seen_at c.self.inside.cells c.args.service) (seen_at c.boot-booting.new.self c.args.service) c.boot-booting.result c.boot-booting.ensures.launched c.requires.link.given c.in-LinkFault.link c.in-LinkFault.is);
+  whose = faulted_whose (λ (w : Wire). w) g.N.Numbered.launcher c.args.service c.args.incarnation c.args.link (frame.Boot c.args.service c.args.incarnation c.args.tokens) (seen_at c.self.inside.cells c.args.service) (seen_at c.boot-booting.new.self c.args.service) c.boot-booting.result c.boot-booting.ensures.launched (Some (child_named c.args.service c.args.incarnation)) c.requires.link.whose c.in-LinkFault.link c.in-LinkFault.is;
+  untaken = faulted_untaken (λ (w : Wire). w) g.N.Numbered.launcher c.args.service c.args.incarnation c.args.link (frame.Boot c.args.service c.args.incarnation c.args.tokens) (seen_at c.self.inside.cells c.args.service) (seen_at c.boot-booting.new.self c.args.service) c.boot-booting.result c.boot-booting.ensures.launched c.requires.link.came c.in-LinkFault.link c.in-LinkFault.is;
   cause = search rules;
   room = search rules;
 }
@@ -107,7 +108,7 @@ returns-in-NoMemory g c = record {
   behind = let h = c.boot-booting.ensures.launched in
       subst (λ (r : Recorded). CellsGo r.watch c.boot-booting.new.self) c.self.view_is
       (go_before g.N.Numbered.launcher c.args.service c.self.inside.seats c.self.inside.cells c.boot-booting.new.self c.self.inside.own.past c.self.inside.own.past h.before.past c.boot-booting.ensures.only c.self.invariant.own_is h.found.grows
-      (refused g.L.Link.wire g.N.Numbered.launcher c.args.service c.args.incarnation c.args.link (frame.Boot c.args.service c.args.incarnation c.args.tokens) (seen_at c.self.inside.cells c.args.service) (seen_at c.boot-booting.new.self c.args.service) c.boot-booting.result c.boot-booting.ensures.launched c.in-NoMemory.link c.in-NoMemory.is));
+      (refused (λ (w : Wire). w) g.N.Numbered.launcher c.args.service c.args.incarnation c.args.link (frame.Boot c.args.service c.args.incarnation c.args.tokens) (seen_at c.self.inside.cells c.args.service) (seen_at c.boot-booting.new.self c.args.service) c.boot-booting.result c.boot-booting.ensures.launched c.in-NoMemory.link c.in-NoMemory.is));
   added = tt;
   kept = search rules;
   linked = tt;
@@ -118,12 +119,12 @@ returns-in-NoMemory g c = record {
       let h = c.boot-booting.ensures.launched in
       let empty = subst (λ (r : Recorded). incarnation (seen_at r.watch s) ≡ 0) (sym c.self.view_is) c.requires.empty in
       subst (λ (r : Recorded). link_at r.watch s ≡ false → (n : ℕ) → all_out new n ≤ all_out r.watch n) c.self.view_is
-      (all_unbooted g.N.Numbered.launcher s old new h.before.past c.boot-booting.ensures.only h.found.grows empty (refused g.L.Link.wire g.N.Numbered.launcher c.args.service c.args.incarnation c.args.link (frame.Boot c.args.service c.args.incarnation c.args.tokens) (seen_at c.self.inside.cells c.args.service) (seen_at c.boot-booting.new.self c.args.service) c.boot-booting.result c.boot-booting.ensures.launched c.in-NoMemory.link c.in-NoMemory.is) (c.boot-booting.ensures.link ∙ ap has_booted c.in-NoMemory.is));
+      (all_unbooted g.N.Numbered.launcher s old new h.before.past c.boot-booting.ensures.only h.found.grows empty (refused (λ (w : Wire). w) g.N.Numbered.launcher c.args.service c.args.incarnation c.args.link (frame.Boot c.args.service c.args.incarnation c.args.tokens) (seen_at c.self.inside.cells c.args.service) (seen_at c.boot-booting.new.self c.args.service) c.boot-booting.result c.boot-booting.ensures.launched c.in-NoMemory.link c.in-NoMemory.is) (c.boot-booting.ensures.link ∙ ap has_booted c.in-NoMemory.is));
   last = tt;
-  front = subst (λ (x : ServerFrame). IsFront (server_spelling x) (g.L.Link.wire c.in-NoMemory.link).given) c.requires.tokens
-      (refused_front g.L.Link.wire g.N.Numbered.launcher c.args.service c.args.incarnation c.args.link (frame.Boot c.args.service c.args.incarnation c.args.tokens) (seen_at c.self.inside.cells c.args.service) (seen_at c.boot-booting.new.self c.args.service) c.boot-booting.result c.boot-booting.ensures.launched c.requires.link.given c.in-NoMemory.link c.in-NoMemory.is);
-  whose = refused_whose g.L.Link.wire g.N.Numbered.launcher c.args.service c.args.incarnation c.args.link (frame.Boot c.args.service c.args.incarnation c.args.tokens) (seen_at c.self.inside.cells c.args.service) (seen_at c.boot-booting.new.self c.args.service) c.boot-booting.result c.boot-booting.ensures.launched (Some (child_named c.args.service c.args.incarnation)) c.requires.link.whose c.in-NoMemory.link c.in-NoMemory.is;
-  untaken = refused_untaken g.L.Link.wire g.N.Numbered.launcher c.args.service c.args.incarnation c.args.link (frame.Boot c.args.service c.args.incarnation c.args.tokens) (seen_at c.self.inside.cells c.args.service) (seen_at c.boot-booting.new.self c.args.service) c.boot-booting.result c.boot-booting.ensures.launched c.requires.link.came c.in-NoMemory.link c.in-NoMemory.is;
+  front = subst (λ (x : ServerFrame). IsFront (server_spelling x) c.in-NoMemory.link.given) c.requires.tokens
+      (refused_front (λ (w : Wire). w) g.N.Numbered.launcher c.args.service c.args.incarnation c.args.link (frame.Boot c.args.service c.args.incarnation c.args.tokens) (seen_at c.self.inside.cells c.args.service) (seen_at c.boot-booting.new.self c.args.service) c.boot-booting.result c.boot-booting.ensures.launched c.requires.link.given c.in-NoMemory.link c.in-NoMemory.is);
+  whose = refused_whose (λ (w : Wire). w) g.N.Numbered.launcher c.args.service c.args.incarnation c.args.link (frame.Boot c.args.service c.args.incarnation c.args.tokens) (seen_at c.self.inside.cells c.args.service) (seen_at c.boot-booting.new.self c.args.service) c.boot-booting.result c.boot-booting.ensures.launched (Some (child_named c.args.service c.args.incarnation)) c.requires.link.whose c.in-NoMemory.link c.in-NoMemory.is;
+  untaken = refused_untaken (λ (w : Wire). w) g.N.Numbered.launcher c.args.service c.args.incarnation c.args.link (frame.Boot c.args.service c.args.incarnation c.args.tokens) (seen_at c.self.inside.cells c.args.service) (seen_at c.boot-booting.new.self c.args.service) c.boot-booting.result c.boot-booting.ensures.launched c.requires.link.came c.in-NoMemory.link c.in-NoMemory.is;
   cause = search rules;
   room = search rules;
 }

@@ -17,6 +17,9 @@ on_any (Err e) h = h
 pub install_at_proxies-requires-clause-later : goal.install_at_proxies-requires-clause-later
 install_at_proxies-requires-clause-later g c = λ p. c.requires.later (Proxy p)
 
+pub install_at_proxies-requires-clause-vacant : goal.install_at_proxies-requires-clause-vacant
+install_at_proxies-requires-clause-vacant g c = λ p fits. c.requires.vacant (Proxy p) fits
+
 pub returns-in_err-install_at_proxies-clause-installs : goal.returns-in_err-install_at_proxies-clause-installs
 returns-in_err-install_at_proxies-clause-installs g c =
     let a = c.args.self.now.sat in

@@ -18,6 +18,11 @@ loop-p-init g c = record {
   room = search rules;
 }
 
+pub install_if_granted-requires-clause-vacant : goal.install_if_granted-requires-clause-vacant
+install_if_granted-requires-clause-vacant g c =
+    let less : c.loop-p.p < length g.N.Numbered.site.proxies = search rules in
+    (c.loop-p.invariant.row.rest c.loop-p.p (omega arith)).standing c.args.service ∙ c.requires.vacant c.loop-p.p less
+
 pub loop-p-preserved : goal.loop-p-preserved
 loop-p-preserved g c =
     let less : c.loop-p.p < length g.N.Numbered.site.proxies = search rules in

@@ -29,6 +29,7 @@ use site_cells::note::CellNote;
 use site_locks::locks::Locks;
 use site_locks::named::Site;
 use site_locks::note::OkdNote;
+use site_locks::noted_link::Noted;
 use std::alloc::AllocError;
 
 // Items of the launcher's list that one attempt at a launch makes at most: what stood is ended, the
@@ -187,7 +188,11 @@ impl<N: Staffed, J: Site, C: CellNames, K: Keeper, S: Sink, F: Children> Launche
     }
 
     /// Takes in what another number has seen at a cell: what was booted there was begun.
-    pub fn meet(&mut self, cells: &CellLocks<N, C, F::Link>, note: CellNote<N, C, F::Link>)
+    pub fn meet(
+        &mut self,
+        cells: &CellLocks<N, C, Noted<N, J, K, S, F>>,
+        note: CellNote<N, C, Noted<N, J, K, S, F>>,
+    )
         ensures begun { last_booted note.seen ≤ begun self.new.journal.past note.service }
         ensures same { self.new ≡ record self.old { crew = record self.old.crew { watch = self.new.crew.watch } } }
         ensures behind { CellsGo self.old.crew.watch self.new.crew.watch }
@@ -211,9 +216,9 @@ impl<N: Staffed, J: Site, C: CellNames, K: Keeper, S: Sink, F: Children> Launche
     /// A note of what was seen at the cell of a service.
     pub fn note_cell(
         &mut self,
-        cells: &CellLocks<N, C, F::Link>,
+        cells: &CellLocks<N, C, Noted<N, J, K, S, F>>,
         service: u16,
-    ) -> CellNote<N, C, F::Link>
+    ) -> CellNote<N, C, Noted<N, J, K, S, F>>
         requires { service < length N.site.services }
         ensures note { result ≡ record { service = service; seen = seen_at self.old.crew.watch service } }
         ensures own { AreOwn N.launcher self.old.crew.sat self.old.crew.watch self.old.crew.own }

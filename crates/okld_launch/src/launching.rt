@@ -28,6 +28,7 @@ use site_cells::lock_names::CellNames;
 use site_cells::locks::CellLocks;
 use site_locks::locks::Locks;
 use site_locks::named::Site;
+use site_locks::noted_link::Noted;
 use std::sync::Wait;
 
 impl<N: Staffed, J: Site, C: CellNames, K: Keeper, S: Sink, F: Children> Booted<N, J, C, K, S, F> {
@@ -60,7 +61,7 @@ impl<N: Staffed, J: Site, C: CellNames, K: Keeper, S: Sink, F: Children> Install
         self,
         rt: &R,
         locks: &Locks<N, J, K, S>,
-        cells: &CellLocks<N, C, F::Link>,
+        cells: &CellLocks<N, C, Noted<N, J, K, S, F>>,
     ) -> (Launcher<N, J, C, K, S, F>, Attempt)
         ensures { ClosesSo N.site N.run_seed (HasInstalled N.site N.run_seed) self result.1 result.0 }
     {
@@ -69,7 +70,7 @@ impl<N: Staffed, J: Site, C: CellNames, K: Keeper, S: Sink, F: Children> Install
             service,
             incarnation,
         } = self;
-        match launcher.start(rt, cells, service, incarnation) {
+        match launcher.start(rt, locks, cells, service, incarnation) {
             Ok(()) => {
                 let booted = Booted {
                     launcher,
@@ -99,7 +100,7 @@ impl<N: Staffed, J: Site, C: CellNames, K: Keeper, S: Sink, F: Children> Revoked
         self,
         rt: &R,
         locks: &Locks<N, J, K, S>,
-        cells: &CellLocks<N, C, F::Link>,
+        cells: &CellLocks<N, C, Noted<N, J, K, S, F>>,
     ) -> (Launcher<N, J, C, K, S, F>, Attempt)
         ensures { ClosesSo N.site N.run_seed (HasCleared N.site N.run_seed) self result.1 result.0 }
     {
@@ -116,7 +117,7 @@ impl<N: Staffed, J: Site, C: CellNames, K: Keeper, S: Sink, F: Children> Quiet<N
         self,
         rt: &R,
         locks: &Locks<N, J, K, S>,
-        cells: &CellLocks<N, C, F::Link>,
+        cells: &CellLocks<N, C, Noted<N, J, K, S, F>>,
     ) -> (Launcher<N, J, C, K, S, F>, Attempt)
         ensures { ClosesSo N.site N.run_seed (HasBegun N.site N.run_seed) self result.1 result.0 }
     {
@@ -172,7 +173,7 @@ impl<N: Staffed, J: Site, C: CellNames, K: Keeper, S: Sink, F: Children> Launche
         rt: &R,
         gate: &G,
         locks: &Locks<N, J, K, S>,
-        cells: &CellLocks<N, C, F::Link>,
+        cells: &CellLocks<N, C, Noted<N, J, K, S, F>>,
         service: u16,
     ) -> (Self, Attempt)
         requires service { service < length N.site.services }
@@ -244,7 +245,7 @@ impl<N: Staffed, J: Site, C: CellNames, K: Keeper, S: Sink, F: Children> Launche
         rt: &R,
         gate: &G,
         locks: &Locks<N, J, K, S>,
-        cells: &CellLocks<N, C, F::Link>,
+        cells: &CellLocks<N, C, Noted<N, J, K, S, F>>,
         service: u16,
         opening: Option<LauncherEvent>,
     ) -> (Self, Launched, Entered)
@@ -289,7 +290,7 @@ impl<N: Staffed, J: Site, C: CellNames, K: Keeper, S: Sink, F: Children> Launche
         rt: &R,
         gate: &G,
         locks: &Locks<N, J, K, S>,
-        cells: &CellLocks<N, C, F::Link>,
+        cells: &CellLocks<N, C, Noted<N, J, K, S, F>>,
         service: u16,
     ) -> (Self, Launched, Entered)
         requires service { service < length N.site.services }
@@ -311,7 +312,7 @@ impl<N: Staffed, J: Site, C: CellNames, K: Keeper, S: Sink, F: Children> Launche
         rt: &R,
         gate: &G,
         locks: &Locks<N, J, K, S>,
-        cells: &CellLocks<N, C, F::Link>,
+        cells: &CellLocks<N, C, Noted<N, J, K, S, F>>,
         service: u16,
     ) -> (Self, Launched, Entered)
         requires { service < length N.site.services }
@@ -339,7 +340,7 @@ impl<N: Staffed, J: Site, C: CellNames, K: Keeper, S: Sink, F: Children> Launche
         rt: &R,
         gate: &G,
         locks: &Locks<N, J, K, S>,
-        cells: &CellLocks<N, C, F::Link>,
+        cells: &CellLocks<N, C, Noted<N, J, K, S, F>>,
         service: u16,
         incarnation: u32,
     ) -> (Self, Crashed, Entered)
@@ -361,7 +362,7 @@ impl<N: Staffed, J: Site, C: CellNames, K: Keeper, S: Sink, F: Children> Launche
         rt: &R,
         gate: &G,
         locks: &Locks<N, J, K, S>,
-        cells: &CellLocks<N, C, F::Link>,
+        cells: &CellLocks<N, C, Noted<N, J, K, S, F>>,
         service: u16,
         incarnation: u32,
     ) -> (Self, Crashed, Entered)

@@ -18,6 +18,7 @@ use site_cells::lock_names::CellNames;
 use site_cells::locks::CellLocks;
 use site_locks::locks::Locks;
 use site_locks::named::Site;
+use site_locks::noted_link::Noted;
 use std::marker::Model;
 use std::sync::Wait;
 
@@ -117,7 +118,7 @@ impl<N: Staffed, J: Site, C: CellNames, K: Keeper, S: Sink, F: Children> Quiet<N
         self,
         rt: &R,
         locks: &Locks<N, J, K, S>,
-        cells: &CellLocks<N, C, F::Link>,
+        cells: &CellLocks<N, C, Noted<N, J, K, S, F>>,
     ) -> Revoked<N, J, C, K, S, F>
         ensures on { GoesOn self result }
         ensures way { (up ended : ℕ → ℕ → Bool) → HasBegun N.site N.run_seed up ended self → HasCleared N.site N.run_seed up ended result }

@@ -7,7 +7,7 @@ ghost use Rattle.monitor_model.specs.Launcher.{begun};
 ghost use Rattle.site_cells.specs.Row.{seen_at};
 ghost use Rattle.launch_journal.specs.Launches.{Allows};
 ghost use Rattle.launch_journal.specs.declared.next.Next.TheVariants as next;
-ghost use Rattle.launch_crew.specs.Crews.{Under, StandsAt, RunsAs, child_of};
+ghost use Rattle.launch_crew.specs.Crews.{NoneStands, Under, StandsAt, RunsAs, child_of};
 ghost use Rattle.okld_launch.specs.Acts.{Begins, Clears, ComesUp, InstallsAll, RevokesAll, StartsAs};
 ghost use Rattle.okld_launch.specs.Kin.{Unstarted};
 ghost use Rattle.okld_launch.specs.Launchers.{MayLaunch, up_in};
@@ -26,6 +26,7 @@ use site_cells::lock_names::CellNames;
 use site_cells::locks::CellLocks;
 use site_locks::locks::Locks;
 use site_locks::named::Site;
+use site_locks::noted_link::Noted;
 use std::alloc::AllocError;
 use std::sync::Wait;
 
@@ -61,7 +62,7 @@ impl<N: Staffed, J: Site, C: CellNames, K: Keeper, S: Sink, F: Children> Launche
         &mut self,
         rt: &R,
         locks: &Locks<N, J, K, S>,
-        cells: &CellLocks<N, C, F::Link>,
+        cells: &CellLocks<N, C, Noted<N, J, K, S, F>>,
         service: u16,
     )
         requires service { service < length N.site.services }
@@ -76,7 +77,7 @@ impl<N: Staffed, J: Site, C: CellNames, K: Keeper, S: Sink, F: Children> Launche
         self.crew.empty(rt, cells, service);
     }
 
-    /// Installs the incarnation, which was begun, at each column of the service.
+    /// Installs the incarnation, which was begun, at each column of the service, where nothing of it stands.
     pub(crate) fn install<R: Wait>(
         &mut self,
         rt: &R,
@@ -88,6 +89,7 @@ impl<N: Staffed, J: Site, C: CellNames, K: Keeper, S: Sink, F: Children> Launche
         requires most { incarnation ≤ MOST_INCARNATIONS }
         requires begun { incarnation ≤ begun self.old.journal.past service }
         requires under { Under service incarnation self.old.crew }
+        requires vacant { NoneStands N.site service self.old.crew.sat }
         requires down { up_in self.old service ≡ 0 }
         requires room { MOST_PROXIES + 2 + length N.site.services ≤ self.old.crew.room }
         ensures { InstallsAll N.site N.run_seed service incarnation result self.old self.new }
@@ -120,11 +122,13 @@ impl<N: Staffed, J: Site, C: CellNames, K: Keeper, S: Sink, F: Children> Launche
         Ok(Items::of(tokens))
     }
 
-    /// Starts a child of the service as the incarnation, and boots its cell.
+    /// Starts a child of the service as the incarnation, which stands at each of its columns, and boots its
+    /// cell.
     pub(crate) fn start<R: Wait>(
         &mut self,
         rt: &R,
-        cells: &CellLocks<N, C, F::Link>,
+        locks: &Locks<N, J, K, S>,
+        cells: &CellLocks<N, C, Noted<N, J, K, S, F>>,
         service: u16,
         incarnation: u32,
     ) -> Result<(), Missed>
@@ -134,6 +138,7 @@ impl<N: Staffed, J: Site, C: CellNames, K: Keeper, S: Sink, F: Children> Launche
         requires begun { incarnation ≤ begun self.old.journal.past service }
         requires empty { incarnation_of (seen_at self.old.crew.watch service) ≡ 0 }
         requires later { last_booted (seen_at self.old.crew.watch service) < incarnation }
+        requires stands { StandsAt N.site service incarnation self.old.crew.sat }
         requires down { up_in self.old service ≡ 0 }
         requires child { child_of self.old.crew service ≡ None }
         requires unstarted { Unstarted service incarnation N.children self.old.crew.family }
@@ -146,8 +151,16 @@ impl<N: Staffed, J: Site, C: CellNames, K: Keeper, S: Sink, F: Children> Launche
         };
         let plan = &self.site.services.as_slice()[service as usize];
         let words = plan.words.as_slice();
-        self.crew
-            .start(rt, cells, &plan.name, words, service, incarnation, tokens)
+        self.crew.start(
+            rt,
+            locks,
+            cells,
+            &plan.name,
+            words,
+            service,
+            incarnation,
+            tokens,
+        )
     }
 
     /// Has the incarnation be up.

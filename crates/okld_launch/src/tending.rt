@@ -21,6 +21,7 @@ use site_cells::lock_names::CellNames;
 use site_cells::locks::CellLocks;
 use site_locks::locks::Locks;
 use site_locks::named::Site;
+use site_locks::noted_link::Noted;
 use std::sync::Wait;
 
 impl<N: Staffed, J: Site, C: CellNames, K: Keeper, S: Sink, F: Children> Launcher<
@@ -38,7 +39,7 @@ impl<N: Staffed, J: Site, C: CellNames, K: Keeper, S: Sink, F: Children> Launche
         rt: &R,
         gate: &G,
         locks: &Locks<N, J, K, S>,
-        cells: &CellLocks<N, C, F::Link>,
+        cells: &CellLocks<N, C, Noted<N, J, K, S, F>>,
         service: u16,
     ) -> (Self, Tended, Entered)
         requires { service < length N.site.services }
@@ -57,7 +58,7 @@ impl<N: Staffed, J: Site, C: CellNames, K: Keeper, S: Sink, F: Children> Launche
         rt: &R,
         gate: &G,
         locks: &Locks<N, J, K, S>,
-        cells: &CellLocks<N, C, F::Link>,
+        cells: &CellLocks<N, C, Noted<N, J, K, S, F>>,
         service: u16,
     ) -> (Self, Tended, Entered)
         requires { service < length N.site.services }
@@ -103,7 +104,7 @@ impl<N: Staffed, J: Site, C: CellNames, K: Keeper, S: Sink, F: Children> Launche
         rt: &R,
         gate: &G,
         locks: &Locks<N, J, K, S>,
-        cells: &CellLocks<N, C, F::Link>,
+        cells: &CellLocks<N, C, Noted<N, J, K, S, F>>,
         service: u16,
     ) -> (Self, Option<Launched>, Entered)
         requires { service < length N.site.services }

@@ -7,7 +7,7 @@ use Rattle.okld_launch.proofs.Caused.{kept_caused}
 use Rattle.launch_crew.proofs.Coming.{none_columns}
 use Rattle.okws_plan.specs.Configuration.{cols}
 use Rattle.launch_crew.proofs.Ended.{attended_same}
-use Rattle.launch_crew.specs.Crews.{crew_of}
+use Rattle.launch_crew.specs.Crews.{NoneStands, crew_of}
 use Rattle.okld_launch.proofs.Kept.{kin_moved}
 use Rattle.okld_launch.proofs.Boots.{installed_boots}
 use Rattle.okld_launch.proofs.Faults.{faults_kept}
@@ -41,3 +41,6 @@ returns g c =
       front = c.install.ensures.front;
       room = c.install.ensures.room;
     })
+
+pub install-requires-clause-vacant : goal.install-requires-clause-vacant
+install-requires-clause-vacant g c = subst (λ (x : LauncherIs). NoneStands g.N.Numbered.site c.args.service x.crew.sat) (sym c.self.view_is) c.requires.vacant

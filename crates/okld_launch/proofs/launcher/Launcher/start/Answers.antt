@@ -1,6 +1,6 @@
 use Rattle.std.proofs.Common.{rules, ◌≡◌, ◌∙◌, ◌≤◌, refl, sym, ap, subst, arith, None, ◌<◌}
 use Rattle.monitor_model.specs.Launcher.{begun}
-use Rattle.launch_crew.specs.Crews.{RunsAs, child_of, crew_of}
+use Rattle.launch_crew.specs.Crews.{RunsAs, StandsAt, child_of, crew_of}
 use Rattle.okld_launch.specs.Launchers.{LauncherIs, up_in}
 use Rattle.okld_launch.proofs.Begins.{launcher_of}
 use Rattle.okld_launch.proofs.Placing.{started_kept, tries_of, stays_tried}
@@ -87,3 +87,6 @@ returns g c =
       counted = counted_of g.N.Numbered.site g.N.Numbered.launcher c.self.inside.crew.recorder c.keeps.ensures;
       room = tries.room;
     })
+
+pub start-requires-clause-stands : goal.start-requires-clause-stands
+start-requires-clause-stands g c = subst (λ (x : LauncherIs). StandsAt g.N.Numbered.site c.args.service c.args.incarnation x.crew.sat) (sym c.self.view_is) c.requires.stands

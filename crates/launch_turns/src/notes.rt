@@ -17,6 +17,7 @@ use site_cells::note::CellNote;
 use site_locks::locks::Locks;
 use site_locks::named::Site;
 use site_locks::note::OkdNote;
+use site_locks::noted_link::Noted;
 use std::sync::Wait;
 use turn_lock::{Seat, Turn};
 
@@ -46,9 +47,9 @@ pub fn cell_by<R: Wait, N: Staffed, J: Site, C: CellNames, K: Keeper, S: Sink, F
     rt: &R,
     turn: &Turn<Resting<N, J, C, K, S, F>>,
     seat: &mut Seat<Resting<N, J, C, K, S, F>>,
-    cells: &CellLocks<N, C, F::Link>,
+    cells: &CellLocks<N, C, Noted<N, J, K, S, F>>,
     service: u16,
-) -> CellNote<N, C, F::Link>
+) -> CellNote<N, C, Noted<N, J, K, S, F>>
     requires rest { RestsAt turn.now seat.old }
     requires service { service < length N.site.services }
     ensures here { result.service ≡ service }

@@ -20,6 +20,7 @@ use site_cells::lock_names::CellNames;
 use site_cells::seats::CellSeats;
 use site_locks::locks::Seats;
 use site_locks::named::Site;
+use site_locks::noted_link::Noted;
 use std::alloc::{AllocError, Global};
 use std::sync::Arc;
 use token_core::Seed;
@@ -74,7 +75,7 @@ impl Papers {
         self,
         alloc: Global,
         seats: Seats<N, J, K, S>,
-        cells: CellSeats<N, C, F::Link>,
+        cells: CellSeats<N, C, Noted<N, J, K, S, F>>,
         children: F,
         keeps: bool,
     ) -> Result<Resting<N, J, C, K, S, F>, F>

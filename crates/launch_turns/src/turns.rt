@@ -21,6 +21,7 @@ use site_cells::locks::CellLocks;
 use site_cells::note::CellNote;
 use site_locks::locks::Locks;
 use site_locks::named::Site;
+use site_locks::noted_link::Noted;
 use std::sync::Wait;
 use turn_lock::{Seat, Turn};
 
@@ -51,7 +52,7 @@ pub fn launch_by<
     turn: &Turn<Resting<N, J, C, K, S, F>>,
     seat: &mut Seat<Resting<N, J, C, K, S, F>>,
     locks: &Locks<N, J, K, S>,
-    cells: &CellLocks<N, C, F::Link>,
+    cells: &CellLocks<N, C, Noted<N, J, K, S, F>>,
     service: u16,
 ) -> (Option<Launched>, Entered)
     requires rest { RestsAt turn.now seat.old }
@@ -90,7 +91,7 @@ pub fn relaunch_by<
     turn: &Turn<Resting<N, J, C, K, S, F>>,
     seat: &mut Seat<Resting<N, J, C, K, S, F>>,
     locks: &Locks<N, J, K, S>,
-    cells: &CellLocks<N, C, F::Link>,
+    cells: &CellLocks<N, C, Noted<N, J, K, S, F>>,
     service: u16,
 ) -> (Launched, Entered)
     requires rest { RestsAt turn.now seat.old }
@@ -130,8 +131,8 @@ pub fn report_by<
     turn: &Turn<Resting<N, J, C, K, S, F>>,
     seat: &mut Seat<Resting<N, J, C, K, S, F>>,
     locks: &Locks<N, J, K, S>,
-    cells: &CellLocks<N, C, F::Link>,
-    note: CellNote<N, C, F::Link>,
+    cells: &CellLocks<N, C, Noted<N, J, K, S, F>>,
+    note: CellNote<N, C, Noted<N, J, K, S, F>>,
     service: u16,
     incarnation: u32,
 ) -> (Crashed, Entered)
@@ -182,7 +183,7 @@ pub fn tend_by<
     turn: &Turn<Resting<N, J, C, K, S, F>>,
     seat: &mut Seat<Resting<N, J, C, K, S, F>>,
     locks: &Locks<N, J, K, S>,
-    cells: &CellLocks<N, C, F::Link>,
+    cells: &CellLocks<N, C, Noted<N, J, K, S, F>>,
     service: u16,
 ) -> (Tended, Entered)
     requires rest { RestsAt turn.now seat.old }

@@ -8,6 +8,7 @@ use Rattle.monitor_model.specs.Pubd.{publish_at}
 use Rattle.monitor_model.specs.Seen.{AtPubd}
 use Rattle.monitor_model.specs.declared.verdict.Published.{Published}
 use Rattle.monitor_model.specs.declared.verdict.Published.TheVariants.{Edition, NoSuchTemplate, TooLong, EditionsSpent}
+use Rattle.site_locks.specs.Heard.{ColumnsBehind, columns_of}
 use Rattle.site_locks.specs.Sat.{Sat, seen_of}
 
 -- A publication of template t by what the number has seen: an edition is entered, on what it had seen at its own last entry there and what others entered since; where there is none, that is said of all that it then has seen of pubd, and nothing is entered.
@@ -18,12 +19,13 @@ PublishesAt t content NoSuchTemplate s now = (NoSuchTemplate ≡ publish_at now.
 PublishesAt t content TooLong s now = (TooLong ≡ publish_at now.pubd (Some t) content) × (seen_of now ≡ seen_of s)
 PublishesAt t content EditionsSpent s now = (EditionsSpent ≡ publish_at now.pubd (Some t) content) × (seen_of now ≡ seen_of s)
 
--- The number is the same, what it has seen and drawn on the board, and how many items it may note without memory.
+-- The number is the same, what it has seen and drawn on the board, and how many items it may note without memory; what it had seen of the proxies, of pubd and of oklogd it has seen still.
 pub record SameBoard (s now : Sat) : Type 0 where
   pub number_is : now.number ≡ s.number
   pub board_is : now.board ≡ s.board
   pub drawn_is : now.drawn ≡ s.drawn
   pub spare_is : now.spare ≡ s.spare
+  pub behind : ColumnsBehind (columns_of s) (columns_of now)
 
 -- Each past of a journal is a past of it still: nothing went away.
 abbrev pub KeepsPasts : {E : Type 0} → List E → List E → Type 0

@@ -22,11 +22,12 @@ use okws_base::items::Items;
 use okws_base::value::Token;
 use okws_outer::gate::{Gate, Point};
 use okws_outer::keeper::Keeper;
-use okws_outer::stream::Sink;
+use okws_outer::stream::{Link, Sink};
 use okws_plan::event::Call;
-use service_cell::columns::Columns;
+use service_cell::columns::{Columns, Hears};
 use site_locks::locks::{Locks, Seats};
 use site_locks::named::Site;
+use site_locks::noted_link::NotedLink;
 use started_call::Started;
 use std::alloc::AllocError;
 use std::marker::Model;
@@ -170,6 +171,7 @@ impl<'a, R: Wait, G: Gate, N: Backed, J: Site, K: Keeper, S: Sink> Hands<'a, R, 
 impl<'a, R: Wait, G: Gate, N: Backed, J: Site, K: Keeper, S: Sink> Columns
     for Hands<'a, R, G, N, J, K, S> {
     ghost use Rattle.std.specs.Prelude.{◌≤◌, false, slice_index};
+    ghost use Rattle.site_locks.specs.Heard.{AreInstalled, columns_of};
     ghost use Rattle.site_locks.specs.Sat.{seen_of};
 
     type Pin = K::Pin;
@@ -183,6 +185,8 @@ impl<'a, R: Wait, G: Gate, N: Backed, J: Site, K: Keeper, S: Sink> Columns
     ghost seen = { λ h. seen_of h };
 
     ghost shows = { λ h s k. k ≤ slice_index h.board s };
+
+    ghost may_ask = { λ h s k. AreInstalled N.site s k (columns_of h) };
 
     fn worker(&self) -> u16 {
         self.seats.number()
@@ -237,5 +241,13 @@ impl<'a, R: Wait, G: Gate, N: Backed, J: Site, K: Keeper, S: Sink> Columns
     ) -> Result<Noted, AllocError> {
         self.seats
             .log(self.rt, self.locks, service, incarnation, text)
+    }
+}
+
+impl<'a, R: Wait, G: Gate, N: Backed, J: Site, K: Keeper, S: Sink, L: Link> Hears<
+    NotedLink<N, J, K, S, L>,
+> for Hands<'a, R, G, N, J, K, S> {
+    fn hear(&mut self, link: &mut NotedLink<N, J, K, S, L>) {
+        link.tell(self.locks, &mut self.seats);
     }
 }

@@ -22,6 +22,7 @@ use okws_outer::stream::Sink;
 use site_cells::lock_names::CellNames;
 use site_cells::note::CellNote;
 use site_locks::named::Site;
+use site_locks::noted_link::Noted;
 use std::sync::Wait;
 
 // Whether memory was refused to a launch.
@@ -66,7 +67,7 @@ impl<
     F: Children,
 > Worker<'a, R, G, N, J, C, K, S, F> {
     // A note of what was seen of a service's cell.
-    fn note_of(&mut self, service: u16) -> CellNote<N, C, F::Link>
+    fn note_of(&mut self, service: u16) -> CellNote<N, C, Noted<N, J, K, S, F>>
         requires { service < length N.site.services }
         ensures note { result ≡ record { service = service; seen = seen_at self.old.life.cells service } }
         ensures same { self.new ≡ self.old }
@@ -78,7 +79,7 @@ impl<
     // A turn in which a crash is told, of an incarnation that the note has seen booted.
     fn report_turn(
         &mut self,
-        note: CellNote<N, C, F::Link>,
+        note: CellNote<N, C, Noted<N, J, K, S, F>>,
         service: u16,
         incarnation: u32,
     ) -> (Crashed, Entered)

@@ -23,6 +23,7 @@ use site_cells::locks::CellLocks;
 use site_cells::seats::CellSeats;
 use site_locks::locks::{Locks, Seats};
 use site_locks::named::Site;
+use site_locks::noted_link::Noted;
 use std::alloc::{AllocError, Global};
 use std::marker::Model;
 use std::sync::Wait;
@@ -65,7 +66,7 @@ pub struct Shared<
     pub rt: &'a R,
     pub gate: &'a G,
     pub locks: &'a Locks<N, J, K, S>,
-    pub cells: &'a CellLocks<N, C, F::Link>,
+    pub cells: &'a CellLocks<N, C, Noted<N, J, K, S, F>>,
     pub launcher: &'a Turn<Resting<N, J, C, K, S, F>>,
 }
 
@@ -86,11 +87,11 @@ pub struct Worker<
     pub(crate) rt: &'a R,
     pub(crate) gate: &'a G,
     pub(crate) locks: &'a Locks<N, J, K, S>,
-    pub(crate) cells: &'a CellLocks<N, C, F::Link>,
+    pub(crate) cells: &'a CellLocks<N, C, Noted<N, J, K, S, F>>,
     pub(crate) launcher: &'a Turn<Resting<N, J, C, K, S, F>>,
     pub(crate) services: u16,
     pub(crate) hands: Hands<'a, R, G, N, J, K, S>,
-    pub(crate) at_cells: CellSeats<N, C, F::Link>,
+    pub(crate) at_cells: CellSeats<N, C, Noted<N, J, K, S, F>>,
     pub(crate) at_launcher: Seat<Resting<N, J, C, K, S, F>>,
 }
 
@@ -142,7 +143,7 @@ impl<
         alloc: Global,
         shared: Shared<'a, R, G, N, J, C, K, S, F>,
         seats: Seats<N, J, K, S>,
-        at_cells: CellSeats<N, C, F::Link>,
+        at_cells: CellSeats<N, C, Noted<N, J, K, S, F>>,
         at_launcher: Seat<Resting<N, J, C, K, S, F>>,
     ) -> Self
         requires tells { N.tells ≡ true }
@@ -182,7 +183,7 @@ impl<
         self,
     ) -> (
         Seats<N, J, K, S>,
-        CellSeats<N, C, F::Link>,
+        CellSeats<N, C, Noted<N, J, K, S, F>>,
         Seat<Resting<N, J, C, K, S, F>>,
     )
         ensures columns { (seen_of result.0 ≡ self.entry.life.seen) × (result.0.board ≡ self.entry.life.board) × (result.0.pubd ≡ self.entry.life.pubd) }

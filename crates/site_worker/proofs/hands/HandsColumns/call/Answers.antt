@@ -1,8 +1,14 @@
+use Rattle.std.proofs.Common.{sym, subst}
 use Rattle.std.proofs.lemmas.Result.{IfOk-weaker, on_err_weaker}
 use Rattle.okws_plan.specs.declared.event.ProxyEvent.TheVariants as event
+use Rattle.site_locks.specs.Heard.{AreInstalled, columns_of}
+use Rattle.site_locks.specs.Sat.{Sat}
 use Rattle.site_worker.proofs.Asking.{enters_proxy, sees_proxy, keeps_same, of_result}
 use Rattle.site_locks.proofs.Seeing.{at_proxy, proxy_same}
 use Rattle.site_worker.proofs.hands.HandsColumns.call.Goals as goal
+
+pub start-requires-clause-installed : goal.start-requires-clause-installed
+start-requires-clause-installed g c = (subst (λ (x : Sat). AreInstalled g.N.Numbered.site c.args.call.service c.args.call.incarnation (columns_of x)) (sym c.self.view_is) c.requires.may).proxies c.args.proxy c.requires.proxy
 
 pub returns-clause-ok : goal.returns-clause-ok
 returns-clause-ok g c = rw (← c.self.view_is) (IfOk-weaker c.start.result _ _ (λ v q. (q.0, q.1, q.2.means c.self.invariant, at_proxy c.self.inside.seats c.start.new.self c.args.proxy (event.Call c.args.call q.1) q.0 q.3)) c.start.ensures.ok)

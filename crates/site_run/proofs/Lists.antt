@@ -11,6 +11,7 @@ use Rattle.turn_lock.specs.BoardSeats.{IsFresh, AreFresh, AreRising}
 use Rattle.turn_lock.specs.BoardSeats.{SeatIs as Place}
 use Rattle.monitor_model.specs.Cell.{CellLaw}
 use Rattle.monitor_model.specs.Columns.{ProxyLaw, faults}
+use Rattle.monitor_model.specs.Placed.{EachFrom}
 use Rattle.monitor_model.specs.Sent.{AreSent}
 use Rattle.monitor_model.specs.Standing.{proxy_grant}
 use Rattle.monitor_model.specs.declared.record.CellEvent.{CellEvent}
@@ -32,6 +33,10 @@ pub proxies_push : (C : Config) (seed : List ℕ) (n p m : ℕ) (Js : List (List
     → ProxyLaw C seed m J → LaunchedBy proxy_grant n J → AllProxies C seed n p (Js ++ J ∷ [])
 proxies_push C seed n p m [] J e h l b = (subst (λ x. ProxyLaw C seed x J) (let q : m ≡ p = omega arith in q) l, b, tt)
 proxies_push C seed n p m (I ∷ Js) J e h l b = (h.0, h.1, proxies_push C seed n (suc p) m Js J (omega arith) h.2 l b)
+
+pub follows_push : {A : Type 0} (P : ℕ → A → Type 0) (p m : ℕ) (xs : List A) (x : A) → m ≡ length xs + p → EachFrom P p xs → P m x → EachFrom P p (xs ++ x ∷ [])
+follows_push P p m [] x e h f = (subst (λ i. P i x) (let q : m ≡ p = omega arith in q) f, tt)
+follows_push P p m (y ∷ xs) x e h f = (h.0, follows_push P (suc p) m xs x (omega arith) h.1 f)
 
 pub cells_push : (C : Config) (seed : List ℕ) (s m : ℕ) (Js : List (List CellEvent)) (J : List CellEvent) (xs : List (List Sent)) (x : List Sent) → m ≡ length Js + s → AllCells C seed s Js xs
     → CellLaw J → AreSent C seed m J x → AllCells C seed s (Js ++ J ∷ []) (xs ++ x ∷ [])

@@ -4,9 +4,12 @@ use Rattle.okws_base.specs.Turns.{of}
 use Rattle.okws_base.specs.declared.journal.Entry.{Entry}
 use Rattle.okws_plan.specs.declared.configuration.Config.{Config}
 use Rattle.okws_plan.specs.declared.event.ProxyEvent.{ProxyEvent}
+use Rattle.monitor_model.specs.Booting.{AllFollow}
 use Rattle.monitor_model.specs.Cell.{CellLaw}
 use Rattle.monitor_model.specs.Columns.{OkdLaw, ProxyLaw, PubdLaw, LogLaw}
+use Rattle.monitor_model.specs.Installed.{EachFollows, LogFollows, PubdFollows}
 use Rattle.monitor_model.specs.Launcher.{LauncherLaw}
+use Rattle.monitor_model.specs.Placed.{EachFrom}
 use Rattle.monitor_model.specs.Sent.{AreSent}
 use Rattle.monitor_model.specs.Standing.{okd_grant, proxy_grant, pubd_grant, log_grant}
 use Rattle.monitor_model.specs.declared.record.CellEvent.{CellEvent}
@@ -30,13 +33,16 @@ AllCells C seed s [] (x ∷ xs) = ⊥
 AllCells C seed s (J ∷ Js) [] = ⊥
 AllCells C seed s (J ∷ Js) (x ∷ xs) = CellLaw J × AreSent C seed s J x × AllCells C seed (suc s) Js xs
 
--- Each journal keeps its own law, whoever entered into it meanwhile.
+-- Each journal keeps its own law, whoever entered into it meanwhile, and what an incarnation asks stands above its Install: at each proxy where its service has a grant an Open and a Call, at pubd a Drain and a Get, at oklogd a Log.
 pub record KeepLaws (C : Config) (seed : List ℕ) (n : ℕ) (R : Record) : Type 0 where
   pub okd : OkdLaw R.okd × LaunchedBy okd_grant n R.okd
   pub proxies : AllProxies C seed n 0 R.proxies
+  pub follows : EachFrom (λ (p : ℕ) (J : List (Entry ProxyEvent)). AllFollow C p J) 0 R.proxies
   pub proxies_are : length R.proxies ≡ length C.proxies
   pub pubd : PubdLaw C R.pubd × LaunchedBy pubd_grant n R.pubd
+  pub drains : EachFollows PubdFollows R.pubd
   pub oklogd : LogLaw R.oklogd × LaunchedBy log_grant n R.oklogd
+  pub logs : EachFollows LogFollows R.oklogd
   pub launcher : LauncherLaw C R.launcher
   pub cells : AllCells C seed 0 R.cells R.sents
   pub cells_are : length R.cells ≡ length C.services

@@ -26,6 +26,9 @@ ghost use Rattle.site_locks.specs.Closing.{AllSaw, SomeIs};
 ghost use Rattle.site_locks.specs.Sat.{RiseFrom};
 ghost use Rattle.turn_lock.specs.Rows.{AllCount, NoneFrom};
 ghost use Rattle.turn_lock.specs.Seats.{AllClosed, AllRest, SomeHas};
+ghost use Rattle.monitor_model.specs.Booting.{AllFollow};
+ghost use Rattle.monitor_model.specs.Installed.{EachFollows, LogFollows, PubdFollows};
+ghost use Rattle.monitor_model.specs.Placed.{EachFrom};
 ghost use Rattle.site_run.specs.Journals.{AllProxies, AllCells};
 ghost use Rattle.site_making.specs.Keepers.{keeper_of};
 ghost use Rattle.site_run.specs.Rooms.{HasRoom};
@@ -59,6 +62,7 @@ use site_locks::closing::close;
 use site_locks::locks::{Locks, Seats};
 use site_locks::named::Site;
 use site_locks::note::OkdNote;
+use site_locks::noted_link::Noted;
 use site_making::order::turned;
 use std::marker::Model;
 use std::sync::Wait;
@@ -99,6 +103,7 @@ pub(crate) struct PubdEnd {
 fn end_pubd<N: Backed>(pubd: SitePubd<N>) -> PubdEnd
     ensures past { result.past ≡ pubd.past }
     ensures law { PubdLaw N.site result.past × LaunchedBy pubd_grant N.launcher result.past }
+    ensures follows { EachFollows PubdFollows result.past }
     ensures publications { result.publications ≡ capped (publications result.past) }
 {
     let publications = pubd.publications();
@@ -130,6 +135,7 @@ fn lacks(written: WriteOut) -> bool
 fn end_log<N: Backed, S: Sink>(log: SiteLog<N, S>) -> LogEnd<S>
     ensures past { result.past ≡ log.past }
     ensures law { LogLaw result.past × LaunchedBy log_grant N.launcher result.past }
+    ensures follows { EachFollows LogFollows result.past }
     ensures logged { result.logged ≡ capped (logged N.site result.past) }
     ensures written { WritesLog N.site result.past (S.given result.sink) N.sink_faults (S.faults result.sink) result.failed }
 {
@@ -163,6 +169,7 @@ fn end_proxies<N: Backed, K: Keeper>(
     requires numbered { RiseFrom 0 (reverse (map (λ (x : HeldProxy). x.number) proxies.items)) }
     ensures pasts { result.pasts.items ≡ reverse (map (λ (x : HeldProxy). x.past) proxies.items) }
     ensures laws { AllProxies N.site N.run_seed N.launcher 0 result.pasts.items }
+    ensures follows { EachFrom (λ p J. AllFollow N.site p J) 0 result.pasts.items }
     ensures kept { AllKept N.site N.tells N.steady N.keeper_faults 0 (map (keeper_of K.tables K.told K.faults K.steady) result.keepers.items) result.pasts.items }
 {
     let mut end = room;
@@ -221,11 +228,14 @@ pub(crate) fn end_columns<N: Backed, J: Site, K: Keeper, S: Sink>(
     ensures accepts { result.okd.accepts ≡ capped (accepts result.okd.past) }
     ensures launches { result.okd.launches ≡ capped (ups result.okd.past) }
     ensures proxies { AllProxies N.site N.run_seed N.launcher 0 result.proxies.pasts.items × NoneFrom by_entry count result.proxies.pasts.items }
+    ensures follows { EachFrom (λ p J. AllFollow N.site p J) 0 result.proxies.pasts.items }
     ensures many { vec_len result.proxies.pasts ≡ length N.site.proxies }
     ensures kept { AllKept N.site N.tells N.steady N.keeper_faults 0 (map (keeper_of K.tables K.told K.faults K.steady) result.proxies.keepers.items) result.proxies.pasts.items }
     ensures pubd { PubdLaw N.site result.pubd.past × LaunchedBy pubd_grant N.launcher result.pubd.past × ((k : ℕ) → count ≤ k → of by_entry k result.pubd.past ≡ []) }
+    ensures drains { EachFollows PubdFollows result.pubd.past }
     ensures publications { result.pubd.publications ≡ capped (publications result.pubd.past) }
     ensures oklogd { LogLaw result.oklogd.past × LaunchedBy log_grant N.launcher result.oklogd.past × ((k : ℕ) → count ≤ k → of by_entry k result.oklogd.past ≡ []) }
+    ensures logs { EachFollows LogFollows result.oklogd.past }
     ensures logged { result.oklogd.logged ≡ capped (logged N.site result.oklogd.past) }
     ensures written { WritesLog N.site result.oklogd.past (S.given result.oklogd.sink) N.sink_faults (S.faults result.oklogd.sink) result.oklogd.failed }
     ensures workers { vec_len result.workers ≡ N.launcher }
@@ -326,7 +336,7 @@ pub(crate) fn end_launcher<
 >(
     rt: &R,
     locks: &Locks<N, J, K, S>,
-    cells: &CellLocks<N, C, F::Link>,
+    cells: &CellLocks<N, C, Noted<N, J, K, S, F>>,
     turn: Turn<Resting<N, J, C, K, S, F>>,
     turns: Vec<Seat<Resting<N, J, C, K, S, F>>>,
     okd: OkdNote<N, J>,

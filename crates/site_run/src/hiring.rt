@@ -18,6 +18,7 @@ use site_cells::lock_names::CellNames;
 use site_cells::seats::CellSeats;
 use site_locks::locks::Seats;
 use site_locks::named::Site;
+use site_locks::noted_link::Noted;
 use site_making::order::turned;
 use std::alloc::Global;
 use turn_lock::{Seat, Turn};
@@ -34,7 +35,7 @@ pub(crate) fn hire<N: Staffed, J: Site, C: CellNames, K: Keeper, S: Sink, F: Chi
     alloc: Global,
     papers: Papers,
     seats: Seats<N, J, K, S>,
-    cells: CellSeats<N, C, F::Link>,
+    cells: CellSeats<N, C, Noted<N, J, K, S, F>>,
     children: F,
     workers: u16,
     keeps: bool,

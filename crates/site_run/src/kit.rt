@@ -1,12 +1,11 @@
 //! What a run needs in memory, taken before it begins.
 
-ghost use Rattle.std.specs.Prelude.{◌≡◌, ◌≤◌, ◌<◌, ◌+◌, [], length, map, IfOk, vec_len, IfSome, IfErr};
+ghost use Rattle.std.specs.Prelude.{◌≡◌, ◌≤◌, ◌<◌, ◌+◌, [], length, map, IfOk, vec_len, IfErr};
 ghost use Rattle.std.specs.Arc.{arc_value};
 ghost use Rattle.okws_base.specs.declared.limit.TheConstants.{MOST_DOORS};
 ghost use Rattle.turn_lock.specs.BoardSeats.{IsFresh};
 ghost use Rattle.turn_lock.specs.Rows.{AllCount};
 ghost use Rattle.site_locks.specs.Sat.{ids_of};
-ghost use Rattle.site_making.specs.Keepers.{keeper_of, AreBacked};
 ghost use Rattle.site_making.specs.Making.{IsServable};
 ghost use Rattle.site_run.specs.Places.{AllIdle};
 ghost use Rattle.site_run.specs.Rooms.{IsStock};
@@ -29,14 +28,15 @@ use site_cells::making::NewCells;
 use site_columns::opening::shared;
 use site_locks::making::Made;
 use site_locks::named::Site;
-use site_making::making::{make_cell_locks, make_columns};
+use site_locks::noted_link::Noted;
+use site_making::making::make_cell_locks;
 use std::alloc::{AllocError, Global};
 use std::marker::Model;
 use std::sync::Arc;
 use token_core::Seed;
 
-/// Memory that a run takes before it begins: its columns and its cells, whose locks have no names yet, and
-/// what is needed beside them.
+/// Memory that a run takes before it begins: its columns and its cells, whose locks are there but not named to
+/// it yet, and what is needed beside them. The cells' links tell of the columns' locks.
 pub struct Kit<N: Backed, K: Keeper, S: Sink, L: Link> {
     pub columns: Made<N, K, S>,
     pub cells: NewCells<N, L>,
@@ -154,28 +154,23 @@ fn make_stock<N: Backed, K: Keeper + Drop, L: Link + Drop>(
     })
 }
 
-/// The memory of a run with so many doors. Where memory is refused, the keepers and the sink are let go.
+/// The memory of a run with so many doors, whose columns have locks. Where memory is refused, these are let go.
 pub fn make_kit<N: Backed, K: Keeper + Drop, S: Sink + Drop, L: Link + Drop>(
     alloc: Global,
     site: &Arc<Config, Global>,
     seed: &Seed,
     doors: u16,
     keeps: bool,
-    keepers: Vec<K>,
-    sink: S,
+    columns: Made<N, K, S>,
 ) -> Result<Kit<N, K, S, L>, AllocError>
     requires site { arc_value site.now ≡ N.site }
     requires seed { seed.now ≡ N.run_seed }
     requires servable { IsServable N.site }
     requires doors { (0 < doors) × (doors ≤ MOST_DOORS) × (N.launcher ≡ doors + 1) }
-    requires declared { vec_len keepers ≡ length N.site.proxies }
-    requires keepers { AreBacked N.site N.steady N.keeper_faults 0 (map (keeper_of K.tables K.told K.faults K.steady) keepers.items) }
-    requires log { IfSome (S.given sink) (λ given. given ≡ []) }
-    requires faults { N.sink_faults ≡ S.faults sink }
+    ensures columns { IfOk result (λ k. k.columns ≡ columns) }
     ensures cells { IfOk result (λ k. (k.cells.numbers ≡ N.launcher + 1) × AllCount (N.launcher + 1) k.cells.turns × (length k.cells.turns ≡ length N.site.services)) }
     ensures stock { IfOk result (λ k. IsStock N.site N.run_seed doors k.stock) }
 {
-    let columns = make_columns(alloc, site, seed, doors + 1, keeps, keepers, sink)?;
     let cells = make_cell_locks(alloc, site, seed, doors + 2, keeps)?;
     let stock = make_stock(alloc, site, seed, doors, keeps)?;
     Ok(Kit {
@@ -190,7 +185,7 @@ pub struct Begun<N: Staffed, J: Site, C: CellNames, K: Keeper, S: Sink, F: Child
     pub run: Run<N, J, C, K, S, F, D>,
     pub site: Arc<Config, Global>,
     pub reader: Reader,
-    pub room: Room<N, K, F::Link>,
+    pub room: Room<N, K, Noted<N, J, K, S, F>>,
 }
 
 /// Gives the locks their names, and begins the run. Where memory is refused, the doors and the children come
@@ -205,7 +200,7 @@ pub fn begin<
     D: Door,
 >(
     alloc: Global,
-    kit: Kit<N, K, S, F::Link>,
+    kit: Kit<N, K, S, Noted<N, J, K, S, F>>,
     doors: Vec<D>,
     children: F,
     keeps: bool,
@@ -226,7 +221,7 @@ pub fn begin<
 {
     let (columns, cells, stock) = kit.into_parts();
     let (site, papers, office, reader, room) = stock.into_parts();
-    match name::<N, J, C, K, S, F::Link>(alloc, columns, cells, keeps) {
+    match name::<N, J, C, K, S, Noted<N, J, K, S, F>>(alloc, columns, cells, keeps) {
         Err(_) => Err((doors, children)),
         Ok(named) => {
             let run = Run::new(alloc, named, papers, office, doors, children, keeps)?;

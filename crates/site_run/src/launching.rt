@@ -33,6 +33,7 @@ use site_cells::seats::CellSeats;
 use site_locks::locks::Seats;
 use site_locks::named::Site;
 use site_locks::note::OkdNote;
+use site_locks::noted_link::Noted;
 use std::sync::Wait;
 use turn_lock::{Seat, Turn};
 
@@ -142,7 +143,7 @@ fn launch_first<
 >(
     ground: &Ground<'_, R, G, N, J, C, K, S, F>,
     seats: &mut Seats<N, J, K, S>,
-    cells: &mut Vec<CellSeats<N, C, F::Link>>,
+    cells: &mut Vec<CellSeats<N, C, Noted<N, J, K, S, F>>>,
     seat: &mut Seat<Resting<N, J, C, K, S, F>>,
 ) -> OkdNote<N, J>
     requires site { ground.now.site.now ≡ N.site }

@@ -24,6 +24,7 @@ use site_cells::seats::CellSeats;
 use site_locks::locks::{Locks, Seats};
 use site_locks::named::Site;
 use site_locks::note::OkdNote;
+use site_locks::noted_link::Noted;
 use std::sync::Wait;
 use turn_lock::Seat;
 
@@ -56,7 +57,7 @@ pub(crate) fn meet_cells<
     F: Children,
 >(
     ground: &Ground<'_, R, G, N, J, C, K, S, F>,
-    rows: &mut Vec<CellSeats<N, C, F::Link>>,
+    rows: &mut Vec<CellSeats<N, C, Noted<N, J, K, S, F>>>,
     seat: &mut Seat<Resting<N, J, C, K, S, F>>,
 )
     requires site { ground.now.site.now ≡ N.site }

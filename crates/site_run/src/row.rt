@@ -18,6 +18,7 @@ use site_cells::locks::CellLocks;
 use site_cells::seats::CellSeats;
 use site_locks::locks::{Locks, Seats};
 use site_locks::named::Site;
+use site_locks::noted_link::Noted;
 use site_worker::worker::{Shared, Worker};
 use std::alloc::Global;
 use std::marker::Model;
@@ -44,7 +45,7 @@ pub struct Ground<
     pub gate: &'a G,
     pub site: &'a Config,
     pub locks: &'a Locks<N, J, K, S>,
-    pub cells: &'a CellLocks<N, C, F::Link>,
+    pub cells: &'a CellLocks<N, C, Noted<N, J, K, S, F>>,
     pub turn: &'a Turn<Resting<N, J, C, K, S, F>>,
     pub numbers: &'a Board,
     pub most: u64,
@@ -54,7 +55,7 @@ pub struct Ground<
 #[derive(Drop)]
 pub struct Chairs<N: Staffed, J: Site, C: CellNames, K: Keeper, S: Sink, F: Children> {
     pub(crate) seats: Vec<Seats<N, J, K, S>>,
-    pub(crate) cells: Vec<CellSeats<N, C, F::Link>>,
+    pub(crate) cells: Vec<CellSeats<N, C, Noted<N, J, K, S, F>>>,
     pub(crate) turns: Vec<Seat<Resting<N, J, C, K, S, F>>>,
 }
 
@@ -72,7 +73,7 @@ impl<N: Staffed, J: Site, C: CellNames, K: Keeper, S: Sink, F: Children> Chairs<
     /// The seats in these rows.
     pub(crate) fn of(
         seats: Vec<Seats<N, J, K, S>>,
-        cells: Vec<CellSeats<N, C, F::Link>>,
+        cells: Vec<CellSeats<N, C, Noted<N, J, K, S, F>>>,
         turns: Vec<Seat<Resting<N, J, C, K, S, F>>>,
     ) -> Self
         ensures { result ≡ record { seats = seats.items; cells = cells.items; turns = turns.items; seats_room = vec_capacity seats; cells_room = vec_capacity cells; turns_room = vec_capacity turns } }

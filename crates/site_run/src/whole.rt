@@ -45,6 +45,7 @@ use site_locks::locks::{Locks, Seats};
 use site_locks::making::Made;
 use site_locks::named::Site;
 use site_locks::note::OkdNote;
+use site_locks::noted_link::Noted;
 use site_making::order::turned;
 use site_worker::worker::TURN_ITEMS;
 use std::alloc::{AllocError, Global};
@@ -95,7 +96,7 @@ pub(crate) fn name<
 /// What the workers of a run share: its locks, and the board of its connections' numbers.
 pub struct Hall<N: Staffed, J: Site, C: CellNames, K: Keeper, S: Sink, F: Children> {
     pub locks: Locks<N, J, K, S>,
-    pub cells: CellLocks<N, C, F::Link>,
+    pub cells: CellLocks<N, C, Noted<N, J, K, S, F>>,
     pub turn: Turn<Resting<N, J, C, K, S, F>>,
     pub numbers: Board,
 }
@@ -121,7 +122,7 @@ impl<
     /// A run in which nothing happened. Where memory is refused, the doors and the children come back.
     pub(crate) fn new(
         alloc: Global,
-        named: Named<N, J, C, K, S, F::Link>,
+        named: Named<N, J, C, K, S, Noted<N, J, K, S, F>>,
         papers: Papers,
         office: Office,
         doors: Vec<D>,
@@ -214,7 +215,7 @@ impl<N: Staffed, J: Site, C: CellNames, K: Keeper, S: Sink, F: Children, D: Door
         self,
         rt: &R,
         alloc: Global,
-        room: Room<N, K, F::Link>,
+        room: Room<N, K, Noted<N, J, K, S, F>>,
         connections: u64,
         okd: OkdNote<N, J>,
     ) -> Ended<K, S, F, D>

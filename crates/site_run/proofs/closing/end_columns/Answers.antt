@@ -79,3 +79,9 @@ returns-clause-lists g c =
 
 pub returns-clause-saw : goal.returns-clause-saw
 returns-clause-saw g c = c.close-closed.ensures.saw
+
+pub returns-clause-drains : goal.returns-clause-drains
+returns-clause-drains g c = c.end_pubd.ensures.follows
+
+pub returns-clause-logs : goal.returns-clause-logs
+returns-clause-logs g c = c.end_log.ensures.follows

@@ -2,7 +2,9 @@ use Rattle.std.proofs.Common.{rules, ◌≡◌, ◌≤◌, ◌+◌, ◌++◌, �
 use Rattle.okws_base.specs.declared.journal.Entry.{Entry}
 use Rattle.okws_outer.specs.Streams.{counted}
 use Rattle.okws_plan.specs.declared.event.ProxyEvent.{ProxyEvent}
+use Rattle.monitor_model.specs.Booting.{AllFollow}
 use Rattle.monitor_model.specs.Columns.{faults}
+use Rattle.monitor_model.specs.Placed.{EachFrom}
 use Rattle.named_columns.specs.Held.{HeldProxy}
 use Rattle.site_locks.specs.Sat.{RiseFrom}
 use Rattle.turn_lock.proofs.Rows.{pushed_map, turned_push}
@@ -10,7 +12,7 @@ use Rattle.turn_lock.proofs.Spots.{empty_of}
 use Rattle.site_run.specs.Journals.{AllProxies}
 use Rattle.site_making.specs.Keepers.{keeper_of}
 use Rattle.site_run.specs.Closing.{AllKept}
-use Rattle.site_run.proofs.Lists.{kept_push, proxies_push}
+use Rattle.site_run.proofs.Lists.{follows_push, kept_push, proxies_push}
 use Rattle.site_run.proofs.Making.{moved}
 use Rattle.site_run.proofs.Seating.{push_length}
 use Rattle.site_run.proofs.closing.end_proxies.Goals as goal
@@ -24,6 +26,7 @@ loop-proxy-init g c =
       pasts = ap (λ l. l ++ reverse (map (λ (x : HeldProxy). x.past) c.args.proxies.items)) none;
       numbered = subst (λ l. RiseFrom (length l) (reverse (map (λ (x : HeldProxy). x.number) c.args.proxies.items))) (sym none) c.requires.numbered;
       laws = subst (AllProxies g.N.Numbered.site g.N.Numbered.run_seed g.N.Numbered.launcher 0) (sym none) tt;
+      follows = subst (EachFrom (λ (p : ℕ) (J : List (Entry ProxyEvent)). AllFollow g.N.Numbered.site p J) 0) (sym none) tt;
       kept = subst (AllKept g.N.Numbered.site g.N.Backed.tells g.N.Backed.steady g.N.Backed.keeper_faults 0 (map f c.args.room.keepers.items)) (sym none)
           (subst (λ l. AllKept g.N.Numbered.site g.N.Backed.tells g.N.Backed.steady g.N.Backed.keeper_faults 0 (map f l) []) (sym alone) tt);
       many = search rules;
@@ -60,6 +63,7 @@ loop-proxy-preserved g c =
       pasts = moved past more left x pasts pasts_now J _ e put c.close-past.ensures.past i.pasts;
       numbered = subst (λ k. RiseFrom k (reverse (map number left))) (sym size) rise.1;
       laws = subst (AllProxies C seed n 0) (sym put) (proxies_push C seed n 0 (number x) pasts J at i.laws c.close-past.ensures.law c.close-past.ensures.launched);
+      follows = subst (EachFrom (λ (p : ℕ) (K : List (Entry ProxyEvent)). AllFollow C p K) 0) (sym put) (follows_push (λ (p : ℕ) (K : List (Entry ProxyEvent)). AllFollow C p K) 0 (number x) pasts J at i.follows c.close-past.ensures.follows);
       kept = subst (AllKept C g.N.Backed.tells g.N.Backed.steady g.N.Backed.keeper_faults 0 (map f keepers_now)) (sym put)
           (subst (λ ls. AllKept C g.N.Backed.tells g.N.Backed.steady g.N.Backed.keeper_faults 0 ls (pasts ++ J ∷ [])) (sym (pushed_map f keepers_now keepers keeper held))
           (kept_push C g.N.Backed.tells g.N.Backed.steady g.N.Backed.keeper_faults 0 (number x) (map f keepers) (f keeper) pasts J at i.kept (record {

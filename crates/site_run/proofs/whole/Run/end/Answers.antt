@@ -103,6 +103,9 @@ returns-clause-laws g c =
     (record {
       okd = (columns.ensures.okd.0, columns.ensures.okd.1);
       proxies = columns.ensures.proxies.0;
+      follows = columns.ensures.follows;
+      drains = columns.ensures.drains;
+      logs = columns.ensures.logs;
       proxies_are = proxies;
       pubd = (columns.ensures.pubd.0, columns.ensures.pubd.1);
       oklogd = (columns.ensures.oklogd.0, columns.ensures.oklogd.1);

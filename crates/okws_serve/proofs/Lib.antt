@@ -20,3 +20,4 @@ pub mod Connected
 pub mod Lawful
 pub mod Before
 pub mod Legal
+pub mod Booted

@@ -7,6 +7,7 @@ use Rattle.okws_outer.specs.Conns.{ConnWire}
 use Rattle.okws_outer.specs.Doors.{Entrance}
 use Rattle.okws_outer.specs.Families.{Family}
 use Rattle.monitor_model.specs.declared.record.Connection.{Connection}
+use Rattle.monitor_model.specs.Booting.{BootsComeFirst}
 use Rattle.monitor_model.specs.Legality.{IsLegal}
 use Rattle.monitor_model.specs.Outside.{Ordered, Outside}
 use Rattle.monitor_model.specs.Pieces.{is_accept_item, is_ordered}
@@ -50,7 +51,7 @@ outside_of start doors left orders failed = record {
   console_failed = failed;
 }
 
--- A run of a site with tokens of this seed, in which number n launched and at most `most` connections were begun, or as many as were begun when it was stopped, from doors and a console as they were to objects as they are then. Its record, with the connections that its doors finished, is legal by what the outside tells. It is the record in which the lives of its workers ended: door w is number w's, and the console that of the number behind them.
+-- A run of a site with tokens of this seed, in which number n launched and at most `most` connections were begun, or as many as were begun when it was stopped, from doors and a console as they were to objects as they are then. Its record, with the connections that its doors finished, is legal by what the outside tells, and no service asks a proxy before it was installed there. It is the record in which the lives of its workers ended: door w is number w's, and the console that of the number behind them.
 pub record Runs {X : Type 0} (wire : X → ConnWire) (C : Config) (seed : List ℕ) (n most : ℕ) (start : StartIs) (doors : List Entrance) (console : ConnWire) (ran : Ran) (left : ObjectsAre) : Type 0 where
   pub stopped : Option ℕ
   pub served : ServesDoors wire C n most ran.record (ended_among left.children.finished) doors left.entrances ran.counts.connections ran.starved stopped
@@ -61,6 +62,7 @@ pub record Runs {X : Type 0} (wire : X → ConnWire) (C : Config) (seed : List �
   pub connections : List (List Connection)
   pub finish : AllFinish wire doors left.entrances connections
   pub legal : IsLegal C seed (outside_of start doors left orders.orders ran.console_failed) (record ran.record { doors = connections })
+  pub booted : BootsComeFirst C seed ran.record
   pub first : BeginsWithLaunches C ran.record
   pub laws : KeepLaws C seed n ran.record
   pub numbers : NameNumbers n ran.record

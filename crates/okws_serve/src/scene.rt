@@ -33,6 +33,7 @@ use okws_plan::configuration::Config;
 use site_cells::lock_names::CellNames;
 use site_locks::named::Site;
 use site_locks::note::OkdNote;
+use site_locks::noted_link::Noted;
 use site_run::ended::Ended;
 use site_run::kit::{Begun, Kit, begin};
 use site_run::places::Doors;
@@ -98,7 +99,7 @@ pub(crate) struct Staged<
     pub(crate) chairs: Chairs<N, J, C, K, S, F>,
     pub(crate) places: Doors<D>,
     pub(crate) console: Console<O>,
-    pub(crate) room: Room<N, K, F::Link>,
+    pub(crate) room: Room<N, K, Noted<N, J, K, S, F>>,
 }
 
 /// Stages a run over what stands outside. Where memory is refused, that comes back.
@@ -116,7 +117,7 @@ pub(crate) fn stage<
 >(
     rt: R,
     alloc: Global,
-    kit: Kit<N, K, S, F::Link>,
+    kit: Kit<N, K, S, Noted<N, J, K, S, F>>,
     outside: Outside<D, O, F, G>,
     keeps: bool,
 ) -> Result<Staged<R, N, J, C, K, S, F, G, D, O>, Outside<D, O, F, G>>
@@ -241,7 +242,7 @@ pub(crate) fn end_run<
     alloc: Global,
     chairs: Chairs<N, J, C, K, S, F>,
     places: Doors<D>,
-    room: Room<N, K, F::Link>,
+    room: Room<N, K, Noted<N, J, K, S, F>>,
     console: O,
     served: Served,
     ending: Ending,

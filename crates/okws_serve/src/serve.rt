@@ -24,7 +24,10 @@ use okws_outer::keeper::Keeper;
 use okws_outer::stream::{Link, Sink};
 use okws_plan::configuration::Config;
 use site_cells::lock_names::CellNames;
+use site_locks::making::Made;
 use site_locks::named::Site;
+use site_locks::noted_link::Noted;
+use site_making::making::make_columns;
 use site_run::kit::{Kit, make_kit};
 use std::alloc::Global;
 use std::marker::Brand;
@@ -135,16 +138,75 @@ where
         children,
         gate,
     };
-    match make_kit::<N, K, S, F::Link>(alloc, site, seed, count, limits.keeps, keepers, log) {
+    match make_columns::<N, K, S>(alloc, site, seed, count + 1, limits.keeps, keepers, log) {
+        Err(_) => outside.unused(alloc),
+        Ok(columns) => serve_named::<&R, N, Brand, D, O, F, K, S, G>(
+            rt, alloc, site, seed, limits, columns, outside,
+        ),
+    }
+}
+
+// The same in a run whose columns' locks have names, of which the cells' links tell.
+fn serve_named<
+    R: Threads + Wait + Sync + Copy,
+    N: Staffed + Send + Sync,
+    J: Site + Send + Sync,
+    D: Door + Send + Drop,
+    O: Conn + Send + Drop,
+    F: Children + Send + Drop,
+    K: Keeper + Send + Drop,
+    S: Sink + Send + Drop,
+    G: Gate + Sync,
+>(
+    rt: R,
+    alloc: Global,
+    site: &Arc<Config, Global>,
+    seed: &Seed,
+    limits: Limits,
+    columns: Made<N, K, S>,
+    outside: Outside<D, O, F, G>,
+) -> Left<D, O, F, K, S, G>
+where
+    D::Conn: Send,
+    F::Child: Send,
+    F::Link: Send,
+    K::Pin: Send,
+    requires names { ids_of columns ≡ J.ids }
+    requires site { arc_value site.now ≡ N.site }
+    requires seed { seed.now ≡ N.run_seed }
+    requires tells { N.tells ≡ true }
+    requires limit { limits.connections ≤ MOST_BEGUN }
+    requires launcher { N.launcher ≡ vec_len outside.doors + 1 }
+    requires servable { IsServable N.site }
+    requires doors { (0 < vec_len outside.doors) × (vec_len outside.doors ≤ MOST_DOORS) }
+    requires idle { AllIdle (map D.entrance outside.doors.items) }
+    requires children { F.family outside.children ≡ N.children }
+    ensures idle { AllIdle (map D.entrance result.doors.items) }
+    ensures ran { IfSome result.ran (λ ran. IfSome result.log (λ log.
+        Runs D.Conn.wire N.site N.run_seed N.launcher limits.connections (record { steady = N.steady; keeper_faults = N.keeper_faults; sink_faults = N.sink_faults; children = N.children })
+        (map D.entrance outside.doors.items) (O.wire outside.console) ran
+        (record { entrances = map D.entrance result.doors.items; console = O.wire result.console; children = F.family result.children; keepers = map (keeper_of K.tables K.told K.faults K.steady) result.keepers.items; given = S.given log; faults = S.faults log }))) }
+    ensures log { IsSome result.ran → IsSome result.log }
+    ensures unserved { IfNone result.ran ((map D.entrance result.doors.items ≡ map D.entrance outside.doors.items) × (O.wire result.console ≡ O.wire outside.console) × (F.family result.children ≡ F.family outside.children)) }
+{
+    let count = outside.doors.len() as u16;
+    match make_kit::<N, K, S, Noted<N, J, K, S, F>>(
+        alloc,
+        site,
+        seed,
+        count,
+        limits.keeps,
+        columns,
+    ) {
         Err(_) => outside.unused(alloc),
         Ok(kit) => {
-            serve_named::<&R, N, Brand, Brand, D, O, F, K, S, G>(rt, alloc, limits, kit, outside)
+            serve_locked::<R, N, J, Brand, D, O, F, K, S, G>(rt, alloc, limits, kit, outside)
         }
     }
 }
 
-// The same in a run whose locks have names.
-fn serve_named<
+// The same in a run whose locks all have names.
+fn serve_locked<
     R: Threads + Wait + Sync + Copy,
     N: Staffed + Send + Sync,
     J: Site + Send + Sync,
@@ -159,7 +221,7 @@ fn serve_named<
     rt: R,
     alloc: Global,
     limits: Limits,
-    kit: Kit<N, K, S, F::Link>,
+    kit: Kit<N, K, S, Noted<N, J, K, S, F>>,
     outside: Outside<D, O, F, G>,
 ) -> Left<D, O, F, K, S, G>
 where

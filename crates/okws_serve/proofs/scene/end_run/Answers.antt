@@ -26,6 +26,7 @@ use Rattle.okws_serve.proofs.Connected.{ServesConnections, connects_doors, doors
 use Rattle.okws_serve.proofs.Launches.{go_so, have_causes, lists_end}
 use Rattle.okws_serve.proofs.Leading.{all_lead}
 use Rattle.okws_serve.proofs.Lawful.{are_lawful, keepers_told}
+use Rattle.okws_serve.proofs.Booted.{boots_first}
 use Rattle.okws_serve.proofs.Legal.{is_legal}
 use Rattle.okws_serve.proofs.Listing.{Told, all_told}
 use Rattle.okws_serve.proofs.Opened.{begins_with_launches}
@@ -121,6 +122,7 @@ returns-clause-ran g c =
       connections = finished.connections;
       finish = finished.finish;
       legal = legal;
+      booted = boots_first C seed T R finished.connections legal c.end-ended.ensures.laws.follows;
       first = opened;
       laws = c.end-ended.ensures.laws;
       numbers = c.end-ended.ensures.numbers;

@@ -8,7 +8,7 @@ use crate::weather::{Weather, orders, rage};
 use okws_outer::child::Ended;
 use record_judge::judge::{Part, broken};
 use record_lines::case::Case;
-use record_lines::plain::{Line, Plain};
+use record_lines::plain::{At, Deed, Line, Plain, has};
 use std::alloc::Global;
 use std::process::Abort;
 use std::sync::Wait;
@@ -90,13 +90,46 @@ pub fn judged<'a>(
     parts.expect(rt, MEMORY)
 }
 
-/// Whether a storm of this weather, which ended well, has a legal record.
+/// Whether an Open of a token or a Call stands behind the Install of its incarnation, and behind the Revoke of that where
+/// it isn't the last Install; and whether the token was issued to its service.
+fn follows(before: &[Line<'_>], line: &Line<'_>) -> bool {
+    if !matches!(line.deed, Deed::Open | Deed::Call) {
+        return true;
+    }
+    let mut known = line.deed == Deed::Call;
+    let mut last = 0;
+    for other in before {
+        if other.does(Deed::Install, line.service) {
+            last = other.incarnation;
+            known = known || other.bytes == line.bytes;
+        }
+    }
+    let installed = has(before, Deed::Install, line.service, line.incarnation);
+    let revoked = has(before, Deed::Revoke, line.service, line.incarnation);
+    known && installed && (revoked || last == line.incarnation)
+}
+
+/// Whether all lines of a proxy's journal do.
+fn all_follow(lines: &[Line<'_>]) -> bool {
+    for (place, line) in lines.iter().enumerate() {
+        match lines.get(..place) {
+            Some(before) if follows(before, line) => {}
+            _ => return false,
+        }
+    }
+    true
+}
+
+/// Whether a storm of this weather, which ended well, has a legal record, in which no service asks
+/// before it was installed.
 fn is_lawful(rt: &impl Abort, alloc: Global, weather: &Weather<'_>, storm: &Storm) -> bool {
     let ran = &storm.ran;
     holds(rt, !ran.starved, "starved");
     holds(rt, !ran.console_failed, "the console");
     holds(rt, !ran.log_failed, "the log");
     let plain = storm.plain(rt, alloc);
+    let followed = all_follow(plain.journal(At::Proxy(0)));
+    holds(rt, followed, "a service asked before it was installed");
     let orders = orders(rt, alloc, weather);
     judged(rt, alloc, storm, &orders, &plain).is_empty()
 }

@@ -8,6 +8,7 @@ ghost use Rattle.okws_plan.specs.declared.event.LogEvent.TheVariants as event;
 ghost use Rattle.monitor_model.specs.Logd.{log_verdict};
 ghost use Rattle.monitor_model.specs.Installed.{HasStood};
 ghost use Rattle.monitor_model.specs.Standing.{log_grant};
+ghost use Rattle.named_columns.specs.Counts.{capped, logged};
 ghost use Rattle.site_locks.specs.Sat.{AreSeats, sat_of};
 ghost use Rattle.site_locks.specs.Steps.{NotesLog, EntersLog, SeesLog, RevokesLog};
 ghost use Rattle.named_columns.specs.Turns.{Stays};
@@ -68,6 +69,16 @@ impl<N: Backed, J: Site, K: Keeper, S: Sink> Seats<N, J, K, S> {
         let answer = oklogd.write_out();
         locks.oklogd.give(&mut self.oklogd, oklogd);
         answer
+    }
+
+    /// How many texts were logged, counted in a turn. Enters nothing, and takes no memory.
+    pub fn count_at_log<R: Wait>(&mut self, rt: &R, locks: &Locks<N, J, K, S>) -> u64
+        ensures { (before : List (Entry LogEvent)) × (result ≡ capped (logged N.site before)) × SeesLog before self.old self.new }
+    {
+        let oklogd = locks.oklogd.take(rt, &mut self.oklogd);
+        let lines = oklogd.logged();
+        locks.oklogd.give(&mut self.oklogd, oklogd);
+        lines
     }
 
     /// The launcher installs an incarnation at oklogd, and notes nothing here. Where memory is refused,

@@ -7,6 +7,7 @@ ghost use Rattle.okws_plan.specs.declared.event.OkdEvent.TheVariants as event;
 ghost use Rattle.monitor_model.specs.Okd.{accept_verdict};
 ghost use Rattle.monitor_model.specs.Script.{goes_of};
 ghost use Rattle.monitor_model.specs.Standing.{up_at_okd, okd_grant};
+ghost use Rattle.named_columns.specs.Counts.{capped, accepts, ups};
 ghost use Rattle.site_locks.specs.Sat.{AreSeats, sat_of};
 ghost use Rattle.site_locks.specs.Steps.{NotesOkd, EntersOkd, SeesOkd, DownsOkd};
 ghost use Rattle.named_columns.specs.Turns.{Stays};
@@ -71,5 +72,17 @@ impl<N: Backed, J: Site, K: Keeper, S: Sink> Seats<N, J, K, S> {
         ensures { (before : List (Entry OkdEvent)) × Stays okd_grant self.old.okd before × (result ≡ up_at_okd before service) × DownsOkd (λ k. event.Down service k) result before self.old self.new }
     {
         okd_turn::down(rt, &locks.okd, &mut self.okd, service)
+    }
+
+    /// How many requests were accepted, and how many incarnations came up, counted in one turn. Enters
+    /// nothing, and takes no memory.
+    pub fn count_at_okd<R: Wait>(&mut self, rt: &R, locks: &Locks<N, J, K, S>) -> (u64, u64)
+        ensures { (before : List (Entry OkdEvent)) × (result.0 ≡ capped (accepts before)) × (result.1 ≡ capped (ups before)) × SeesOkd before self.old self.new }
+    {
+        let okd = locks.okd.take(rt, &mut self.okd);
+        let accepted = okd.accepts();
+        let raised = okd.ups();
+        locks.okd.give(&mut self.okd, okd);
+        (accepted, raised)
     }
 }

@@ -11,6 +11,7 @@ ghost use Rattle.monitor_model.specs.declared.record.Own.TheVariants as own;
 ghost use Rattle.monitor_model.specs.Pubd.{drain_verdict, get_verdict, publish_at};
 ghost use Rattle.monitor_model.specs.Installed.{HasStood};
 ghost use Rattle.monitor_model.specs.Standing.{pubd_grant};
+ghost use Rattle.named_columns.specs.Counts.{capped, publications};
 ghost use Rattle.service_cell.specs.Asking.{IsShortPush, IsShortGot};
 ghost use Rattle.site_locks.specs.Calls.{Publishes};
 ghost use Rattle.site_locks.specs.Sat.{AreSeats, sat_of};
@@ -140,5 +141,15 @@ impl<N: Backed, J: Site, K: Keeper, S: Sink> Seats<N, J, K, S> {
         ensures { (before : List (Entry PubdEvent)) × Stays pubd_grant self.old.pubd before × (result ≡ standing_by pubd_grant before service) × RevokesPubd (λ k. event.Revoke service k) result before self.old self.new }
     {
         pubd_turn::revoke(rt, &locks.pubd, &mut self.pubd, service)
+    }
+
+    /// How many editions were published, counted in a turn. Enters nothing, and takes no memory.
+    pub fn count_at_pubd<R: Wait>(&mut self, rt: &R, locks: &Locks<N, J, K, S>) -> u64
+        ensures { (before : List (Entry PubdEvent)) × (result ≡ capped (publications before)) × SeesPubd before self.old self.new }
+    {
+        let pubd = locks.pubd.take(rt, &mut self.pubd);
+        let published = pubd.publications();
+        locks.pubd.give(&mut self.pubd, pubd);
+        published
     }
 }

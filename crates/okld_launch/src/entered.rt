@@ -61,8 +61,8 @@ impl Entered {
         }
     }
 
-    // Of a turn that enters nothing.
-    pub(crate) fn nothing(service: u16) -> Self
+    /// Of a turn that enters nothing.
+    pub fn nothing(service: u16) -> Self
         ensures { result ≡ [] }
     {
         Entered::new(None, service, 1, 0, None)

@@ -145,7 +145,7 @@ impl<N: Staffed, J: Site, C: CellNames, K: Keeper, S: Sink, F: Children> Launche
     }
 
     /// After how many tries the service was given up, where nobody has asked for it since.
-    pub(crate) fn given_up(&self, service: u16) -> Option<u32>
+    pub fn given_up(&self, service: u16) -> Option<u32>
         ensures { result ≡ given_up self.now.journal.past service }
     {
         self.journal.given_up(service)

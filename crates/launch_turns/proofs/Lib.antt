@@ -1,3 +1,4 @@
 pub mod Deeds
 pub mod Rests
 pub mod Standing
+pub mod Counted

@@ -32,3 +32,9 @@ one_turn old mid found d left seat who is = subst (λ (a : SeatIs Deed). AddsBy 
 -- none was taken
 pub rests_new : (C : Config) (seed : List ℕ) (deeds : List Deed) (l : LauncherIs) → deeds ≡ [] → l.journal.past ≡ [] → IsClosed C seed (λ s k. false) (λ s k. false) l → Rests C seed deeds l
 rests_new C seed deeds l none empty h = subst (λ (ds : List Deed). Rests C seed ds l) (sym none) (record { entries_are = sym empty; closed = h })
+
+-- a turn in which nothing was entered
+pub rests_looked : (C : Config) (seed : List ℕ) (w : ℕ) (entered : List LauncherEvent) (deeds : List Deed) (l m : LauncherIs) → Rests C seed deeds l → entered ≡ [] → m ≡ l → Rests C seed (record { worker = w; entered = entered; up = false; tended = false } ∷ deeds) m
+rests_looked C seed w entered deeds l m rests none same =
+    subst (λ (x : List LauncherEvent). Rests C seed (record { worker = w; entered = x; up = false; tended = false } ∷ deeds) m) (sym none)
+    (subst (λ (x : LauncherIs). Rests C seed (record { worker = w; entered = []; up = false; tended = false } ∷ deeds) x) (sym same) (record { entries_are = rests.entries_are; closed = rests.closed }))

@@ -3,3 +3,4 @@ pub mod Resting
 pub mod Turns
 pub mod Papers
 pub mod Standing
+pub mod Looking

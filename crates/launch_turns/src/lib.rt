@@ -3,6 +3,7 @@
 #![tactic(auto)]
 
 pub mod deed;
+pub mod looking;
 pub mod notes;
 pub mod papers;
 pub mod resting;

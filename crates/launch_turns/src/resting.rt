@@ -12,7 +12,7 @@ ghost use Rattle.okld_launch.specs.Kin.{AreKin};
 ghost use Rattle.okld_launch.specs.Pieces.{EndsAreTold, IsClosed, IsWhole};
 ghost use Rattle.launch_turns.specs.Resting.{Rests};
 
-use crate::deed::{Deed, Took};
+use crate::deed::{Deed, Deeds, Took};
 use launch_crew::crew::Crew;
 use okld_launch::launcher::Launcher;
 use okld_launch::named::Staffed;
@@ -27,19 +27,20 @@ use site_locks::named::Site;
 use std::marker::Model;
 use turn_lock::Journaled;
 
-/// A launcher that launches nothing right now, with the turns that were taken at it, which have no bytes.
+/// A launcher that launches nothing right now, with the turns that were taken at it.
 /// By its type its list is made of whole pieces, one for each Begun of its journal, each of which went as
 /// the turns tell, and of each child that has ended by what they tell, that is told of the children.
 pub struct Resting<N: Staffed, J: Site, C: CellNames, K: Keeper, S: Sink, F: Children> {
     launcher: Launcher<N, J, C, K, S, F>,
-    deeds: Told<Deed>,
+    deeds: Deeds,
 }
 
 impl<N: Staffed, J: Site, C: CellNames, K: Keeper, S: Sink, F: Children + Drop> Drop
     for Resting<N, J, C, K, S, F> {
     fn drop(self) {
-        let Resting { launcher, deeds: _ } = self;
+        let Resting { launcher, deeds } = self;
         drop(launcher);
+        drop(deeds);
     }
 }
 
@@ -56,7 +57,7 @@ impl<N: Staffed, J: Site, C: CellNames, K: Keeper, S: Sink, F: Children> Model
 
 impl<N: Staffed, J: Site, C: CellNames, K: Keeper, S: Sink, F: Children> Resting<N, J, C, K, S, F> {
     /// The launcher as it rests behind these turns.
-    pub(crate) fn new(launcher: Launcher<N, J, C, K, S, F>, deeds: Told<Deed>) -> Self
+    pub(crate) fn new(launcher: Launcher<N, J, C, K, S, F>, deeds: Deeds) -> Self
         requires { Rests N.site N.run_seed deeds.past launcher }
         ensures { result ≡ record { launcher = launcher; deeds = deeds.past } }
     {
@@ -69,13 +70,13 @@ impl<N: Staffed, J: Site, C: CellNames, K: Keeper, S: Sink, F: Children> Resting
         requires closed { IsClosed N.site N.run_seed (λ s k. false) (λ s k. false) launcher }
         ensures { result ≡ record { launcher = launcher; deeds = [] } }
     {
-        Resting::new(launcher, Told::new())
+        Resting::new(launcher, Deeds::new())
     }
 
     /// The launcher behind one turn more.
     pub(crate) fn after(
         launcher: Launcher<N, J, C, K, S, F>,
-        deeds: &Told<Deed>,
+        deeds: &Deeds,
         took: &Took<'_>,
     ) -> Self
         requires { Rests N.site N.run_seed (record { worker = took.now.worker; entered = took.now.entered.now; up = took.now.up; tended = took.now.tended } ∷ deeds.now.past) launcher }
@@ -88,7 +89,7 @@ impl<N: Staffed, J: Site, C: CellNames, K: Keeper, S: Sink, F: Children> Resting
     }
 
     /// The launcher, for a turn at it, and the turns before.
-    pub(crate) fn into_parts(self) -> (Launcher<N, J, C, K, S, F>, Told<Deed>)
+    pub(crate) fn into_parts(self) -> (Launcher<N, J, C, K, S, F>, Deeds)
         ensures launcher { result.0 ≡ self.launcher }
         ensures deeds { result.1.past ≡ self.deeds }
         ensures rests { Rests N.site N.run_seed result.1.past result.0 }
@@ -126,7 +127,7 @@ impl<N: Staffed, J: Site, C: CellNames, K: Keeper, S: Sink, F: Children> Resting
     {
         let Resting { launcher, deeds } = self;
         let (past, crew) = launcher.close();
-        (past, crew, deeds)
+        (past, crew, deeds.into_told())
     }
 }
 

@@ -1,4 +1,4 @@
-use Rattle.std.proofs.Common.{◌≡◌, ◌∙◌, refl, sym, subst}
+use Rattle.std.proofs.Common.{◌≡◌, ◌∙◌, sym, subst}
 use Rattle.launch_crew.specs.Crews.{crew_of}
 use Rattle.launch_crew.specs.Ended.{Attended}
 use Rattle.launch_turns.specs.Deeds.{ended_in, entries, up_in}
@@ -24,4 +24,4 @@ returns-clause-ended g c = subst (λ (r : RestingIs). EndsAreTold (ended_in r.de
     (subst (EndsAreTold (ended_in c.self.inside.deeds.past)) (sym c.close-past.ensures.crew) c.self.invariant.closed.told)
 
 pub returns-clause-deeds : goal.returns-clause-deeds
-returns-clause-deeds g c = subst (λ (r : RestingIs). c.self.inside.deeds.past ≡ r.deeds) c.self.view_is refl
+returns-clause-deeds g c = subst (λ (r : RestingIs). c.into_told.result.past ≡ r.deeds) c.self.view_is c.into_told.ensures

@@ -113,6 +113,7 @@ commands_are_read = record {
       let short = short_name name named in
       let fits : length (relaunch_text name) ≤ LONGEST_COMMAND = omega (arith, short.short) in
       read_words C (relaunch_text name) _ fits (words_joined (codes "relaunch") (name ∷ []) (record { some = lit< tt; graphic = refl }) (short.plain, tt));
+  surveys = λ C. read_words C (codes "status") _ (omega arith) (words_joined (codes "status") [] (record { some = lit< tt; graphic = refl }) tt);
   ends = λ C. read_words C (codes "end") _ (omega arith) (words_joined (codes "end") [] (record { some = lit< tt; graphic = refl }) tt);
   stops = λ C. read_words C (codes "stop") _ (omega arith) (words_joined (codes "stop") [] (record { some = lit< tt; graphic = refl }) tt);
 }

@@ -9,7 +9,7 @@ use Rattle.plain_text.specs.Words.{words, one_word, two_words}
 use Rattle.plain_text.specs.Decimals.{number}
 use Rattle.admin_console.specs.declared.order.TheConstants.{LONGEST_COMMAND}
 use Rattle.admin_console.specs.declared.order.Order.{Order}
-use Rattle.admin_console.specs.declared.order.Order.TheVariants.{Publish, Relaunch, End, Stop, Refused}
+use Rattle.admin_console.specs.declared.order.Order.TheVariants.{Publish, Relaunch, Status, End, Stop, Refused}
 use Rattle.admin_console.specs.declared.rule.Rule.{Rule}
 use Rattle.admin_console.specs.declared.rule.Rule.TheVariants.{NoCommand, Undeclared, TooLong, CutShort, EditionsSpent, IncarnationsSpent}
 
@@ -66,6 +66,7 @@ words_order C [] = no_command
 words_order C (word ∷ parts) =
     if same_bytes word (codes "publish") then publish_order C (two_words parts)
     else if same_bytes word (codes "relaunch") then relaunch_order C (one_word parts)
+    else if same_bytes word (codes "status") then alone_order Status parts
     else if same_bytes word (codes "end") then alone_order End parts
     else if same_bytes word (codes "stop") then alone_order Stop parts
     else no_command
@@ -78,6 +79,7 @@ order_of C line = if nat_lt LONGEST_COMMAND (length line) then no_command else w
 abbrev pub OrderFits : Config → Order → Type 0
 OrderFits C (Publish t size) = (t < length C.templates) × (size ≤ LONGEST_TEMPLATE)
 OrderFits C (Relaunch s) = s < length C.services
+OrderFits C Status = ⊤
 OrderFits C End = ⊤
 OrderFits C Stop = ⊤
 OrderFits C (Refused rule size) = ⊤

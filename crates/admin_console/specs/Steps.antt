@@ -17,6 +17,7 @@ use Rattle.admin_console.specs.declared.answer.Answer.{Answer}
 use Rattle.admin_console.specs.declared.answer.Answer.TheVariants as answer
 use Rattle.admin_console.specs.declared.controls.Publishing.{Publishing}
 use Rattle.admin_console.specs.declared.controls.Relaunching.{Relaunching}
+use Rattle.admin_console.specs.declared.controls.Status.{Status}
 use Rattle.admin_console.specs.declared.step.Stepped.{Stepped}
 use Rattle.admin_console.specs.declared.step.Stepped.TheVariants.{Answered, Finished, Stop, ConsoleFault}
 use Rattle.admin_console.specs.declared.step.Done.{Done}
@@ -30,6 +31,7 @@ AreFollowing size bytes left = (length bytes ≡ size) ⊎ ((length bytes < size
 abbrev pub size_said : Order → ℕ
 size_said (order.Publish t size) = size
 size_said (order.Relaunch s) = 0
+size_said order.Status = 0
 size_said order.End = 0
 size_said order.Stop = 0
 size_said (order.Refused broken size) = size
@@ -43,28 +45,29 @@ IsPublished publishes line t size bytes left J a now =
 
 -- What became of a command of this line, with the bytes that follow it, where these are left: what was done in the site, and the answer.
 -- A refused command does nothing, and its bytes are dropped.
-abbrev pub IsDone : {S : Type 0} → (S → ℕ → List ℕ → Publishing → S → Type 0) → (S → ℕ → Relaunching → S → Type 0) → ℕ → Order → List ℕ → Option (List ℕ) → S → Answer → S → Type 0
-IsDone publishes relaunches line (order.Publish t size) bytes left J a now = IsPublished publishes line t size bytes left J a now
-IsDone publishes relaunches line (order.Relaunch s) bytes left J a now = (bytes ≡ []) × (r : Relaunching) × relaunches J s r now × (a ≡ relaunching_answer line r)
-IsDone publishes relaunches line order.End bytes left J a now = ⊥
-IsDone publishes relaunches line order.Stop bytes left J a now = ⊥
-IsDone publishes relaunches line (order.Refused broken size) bytes left J a now = AreFollowing size bytes left × (a ≡ answer.Refused line broken) × (now ≡ J)
+abbrev pub IsDone : {S : Type 0} → (S → ℕ → List ℕ → Publishing → S → Type 0) → (S → ℕ → Relaunching → S → Type 0) → (S → Status → S → Type 0) → ℕ → Order → List ℕ → Option (List ℕ) → S → Answer → S → Type 0
+IsDone publishes relaunches surveys line (order.Publish t size) bytes left J a now = IsPublished publishes line t size bytes left J a now
+IsDone publishes relaunches surveys line (order.Relaunch s) bytes left J a now = (bytes ≡ []) × (r : Relaunching) × relaunches J s r now × (a ≡ relaunching_answer line r)
+IsDone publishes relaunches surveys line order.Status bytes left J a now = (bytes ≡ []) × (t : Status) × surveys J t now × (a ≡ answer.Status t)
+IsDone publishes relaunches surveys line order.End bytes left J a now = ⊥
+IsDone publishes relaunches surveys line order.Stop bytes left J a now = ⊥
+IsDone publishes relaunches surveys line (order.Refused broken size) bytes left J a now = AreFollowing size bytes left × (a ≡ answer.Refused line broken) × (now ≡ J)
 
 -- What carrying out a command does to the console and the site.
-abbrev pub Carries : {S : Type 0} → (S → ℕ → List ℕ → Publishing → S → Type 0) → (S → ℕ → Relaunching → S → Type 0) → ConnWire → ConnWire → ℕ → Order → S → S → List ℕ → Done → Type 0
-Carries publishes relaunches old new line command J now bytes (done.Answered a) = IsDone publishes relaunches line command bytes new.left J a now
-Carries publishes relaunches old new line command J now bytes done.Ends = (command ≡ order.End) × (bytes ≡ []) × (now ≡ J)
-Carries publishes relaunches old new line command J now bytes done.Stops = (command ≡ order.Stop) × (bytes ≡ []) × (now ≡ J)
-Carries publishes relaunches old new line command J now bytes done.Failed = (now ≡ J) × (length bytes < size_said command) × Rose old.faults new.faults
+abbrev pub Carries : {S : Type 0} → (S → ℕ → List ℕ → Publishing → S → Type 0) → (S → ℕ → Relaunching → S → Type 0) → (S → Status → S → Type 0) → ConnWire → ConnWire → ℕ → Order → S → S → List ℕ → Done → Type 0
+Carries publishes relaunches surveys old new line command J now bytes (done.Answered a) = IsDone publishes relaunches surveys line command bytes new.left J a now
+Carries publishes relaunches surveys old new line command J now bytes done.Ends = (command ≡ order.End) × (bytes ≡ []) × (now ≡ J)
+Carries publishes relaunches surveys old new line command J now bytes done.Stops = (command ≡ order.Stop) × (bytes ≡ []) × (now ≡ J)
+Carries publishes relaunches surveys old new line command J now bytes done.Failed = (now ≡ J) × (length bytes < size_said command) × Rose old.faults new.faults
 
 -- The same, with the bytes that are taken behind the line.
-pub record CarriesOut {S : Type 0} (publishes : S → ℕ → List ℕ → Publishing → S → Type 0) (relaunches : S → ℕ → Relaunching → S → Type 0) (old new : ConnWire) (line : ℕ) (command : Order) (J now : S) (what : Done) : Type 0 where
+pub record CarriesOut {S : Type 0} (publishes : S → ℕ → List ℕ → Publishing → S → Type 0) (relaunches : S → ℕ → Relaunching → S → Type 0) (surveys : S → Status → S → Type 0) (old new : ConnWire) (line : ℕ) (command : Order) (J now : S) (what : Done) : Type 0 where
   pub bytes : List ℕ
   pub taken_are : Consumes old.left new.left bytes
   pub given : new.given ≡ old.given
   pub later : old.faults ≤ new.faults
   pub still : (what ≡ done.Failed → ⊥) → new.faults ≡ old.faults
-  pub is : Carries publishes relaunches old new line command J now bytes what
+  pub is : Carries publishes relaunches surveys old new line command J now bytes what
 
 -- What became of a refused command.
 abbrev pub IsRefused : ConnWire → ConnWire → ℕ → Rule → ℕ → List ℕ → Done → Type 0
@@ -107,11 +110,11 @@ pub record Command (old new : ConnWire) (before after : ℕ) (line : List ℕ) (
   pub count : after ≡ counted before (length blanks + 1)
 
 -- The next command was carried out, and this is its answer.
-pub record Does {S : Type 0} (publishes : S → ℕ → List ℕ → Publishing → S → Type 0) (relaunches : S → ℕ → Relaunching → S → Type 0) (C : Config) (old new : ConnWire) (before after : ℕ) (J now : S) (a : Answer) : Type 0 where
+pub record Does {S : Type 0} (publishes : S → ℕ → List ℕ → Publishing → S → Type 0) (relaunches : S → ℕ → Relaunching → S → Type 0) (surveys : S → Status → S → Type 0) (C : Config) (old new : ConnWire) (before after : ℕ) (J now : S) (a : Answer) : Type 0 where
   pub line : List ℕ
   pub bytes : List ℕ
   pub command : Command old new before after line bytes
-  pub is : IsDone publishes relaunches after (order_of C line) bytes new.left J a now
+  pub is : IsDone publishes relaunches surveys after (order_of C line) bytes new.left J a now
 
 -- The next command is `end`.
 abbrev pub Ends : Config → ConnWire → ConnWire → ℕ → ℕ → Type 0
@@ -150,14 +153,14 @@ CountsCut before after blanks text taken =
 -- Answered: the next command was carried out, and its answer was given. Finished: it is `end`, or the input ended before one was whole; nothing was done. In both no fault was counted.
 -- Stop: it is `stop`; nothing was done, no answer was given yet, and no fault was counted.
 -- ConsoleFault: the count rose, and a command was carried out of whose answer just a front was given; or the bytes that were taken are no whole command, whose lines are counted, and nothing was done.
-abbrev pub Steps : {S : Type 0} → (S → ℕ → List ℕ → Publishing → S → Type 0) → (S → ℕ → Relaunching → S → Type 0) → Config → ConnWire → ConnWire → ℕ → ℕ → S → S → Stepped → Type 0
-Steps publishes relaunches C old new before after J now (Answered a) =
-    Does publishes relaunches C old new before after J now a × Appends old.given new.given (answer_text a) × (new.faults ≡ old.faults)
-Steps publishes relaunches C old new before after J now Finished =
+abbrev pub Steps : {S : Type 0} → (S → ℕ → List ℕ → Publishing → S → Type 0) → (S → ℕ → Relaunching → S → Type 0) → (S → Status → S → Type 0) → Config → ConnWire → ConnWire → ℕ → ℕ → S → S → Stepped → Type 0
+Steps publishes relaunches surveys C old new before after J now (Answered a) =
+    Does publishes relaunches surveys C old new before after J now a × Appends old.given new.given (answer_text a) × (new.faults ≡ old.faults)
+Steps publishes relaunches surveys C old new before after J now Finished =
     (Ends C old new before after ⊎ RunsOut old new before after) × (new.given ≡ old.given) × (now ≡ J) × (new.faults ≡ old.faults)
-Steps publishes relaunches C old new before after J now Stop =
+Steps publishes relaunches surveys C old new before after J now Stop =
     Stops C old new before after × (new.given ≡ old.given) × (now ≡ J) × (new.faults ≡ old.faults)
-Steps publishes relaunches C old new before after J now (ConsoleFault (Some a)) =
-    Does publishes relaunches C old new before after J now a × AppendsPrefix old.given new.given (answer_text a) × Rose old.faults new.faults
-Steps publishes relaunches C old new before after J now (ConsoleFault None) =
+Steps publishes relaunches surveys C old new before after J now (ConsoleFault (Some a)) =
+    Does publishes relaunches surveys C old new before after J now a × AppendsPrefix old.given new.given (answer_text a) × Rose old.faults new.faults
+Steps publishes relaunches surveys C old new before after J now (ConsoleFault None) =
     (taken : List ℕ) × Consumes old.left new.left taken × (new.given ≡ old.given) × (now ≡ J) × Rose old.faults new.faults × (cut : IsCut C taken) × CountsCut before after cut.blanks cut.text taken

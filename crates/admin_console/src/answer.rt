@@ -1,9 +1,9 @@
 //! What commands are answered.
 
 ghost use Rattle.std.specs.Prelude.{◌≡◌, ◌≤◌, ◌+◌, ◌++◌, ◌∷◌, [], codes, decimal, length, vec_len, vec_capacity};
-ghost use Rattle.admin_console.specs.Answers.{answer_text, publishing_answer, relaunching_answer};
+ghost use Rattle.admin_console.specs.Answers.{answer_text, field, publishing_answer, relaunching_answer, with_counts, with_standing};
 
-use crate::controls::{Publishing, Relaunching};
+use crate::controls::{Publishing, Relaunching, Status};
 use crate::rule::Rule;
 use itoa::Buffer;
 
@@ -20,6 +20,8 @@ pub enum Answer {
     Refused { line: u64, rule: Rule },
     /// `no memory`: memory was refused.
     NoMemory,
+    /// `status`, and the numbers of what is told of the site, in its fields' order.
+    Status(Status),
     /// `stopping N`: no connection is begun behind so many.
     Stopping(u64),
 }
@@ -110,9 +112,59 @@ fn compose_no_memory(text: &mut Vec<u8>)
     push(text, b"no memory\n");
 }
 
+/// Puts a space and a number behind a text, for which there is room.
+fn push_field(text: &mut Vec<u8>, number: u64)
+    requires { vec_len text.old + 21 ≤ vec_capacity text.old }
+    ensures items { text.new.items ≡ text.old.items ++ field number }
+    ensures len { vec_len text.new ≤ vec_len text.old + 21 }
+    ensures room { vec_capacity text.old ≤ vec_capacity text.new }
+{
+    push(text, b" ");
+    push_number(text, number);
+}
+
+/// Puts the counts of a status behind a text.
+fn push_counts(text: &mut Vec<u8>, status: Status)
+    requires { vec_len text.old + 105 ≤ vec_capacity text.old }
+    ensures items { text.new.items ≡ with_counts text.old.items status }
+    ensures len { vec_len text.new ≤ vec_len text.old + 105 }
+    ensures room { vec_capacity text.old ≤ vec_capacity text.new }
+{
+    push_field(text, status.connections);
+    push_field(text, status.accepts);
+    push_field(text, status.launches);
+    push_field(text, status.publications);
+    push_field(text, status.logged);
+}
+
+/// Puts how the services stand by a status behind a text.
+fn push_standing(text: &mut Vec<u8>, status: Status)
+    requires { vec_len text.old + 63 ≤ vec_capacity text.old }
+    ensures items { text.new.items ≡ with_standing text.old.items status }
+    ensures len { vec_len text.new ≤ vec_len text.old + 63 }
+    ensures room { vec_capacity text.old ≤ vec_capacity text.new }
+{
+    push_field(text, u64::from(status.up));
+    push_field(text, u64::from(status.down));
+    push_field(text, u64::from(status.dead));
+}
+
+/// Makes a text that of a status.
+fn compose_status(text: &mut Vec<u8>, status: Status)
+    requires { 175 ≤ vec_capacity text.old }
+    ensures items { text.new.items ≡ with_standing (with_counts (codes "status") status) status ++ 10 ∷ [] }
+    ensures room { vec_capacity text.old ≤ vec_capacity text.new }
+{
+    text.clear();
+    push(text, b"status");
+    push_counts(text, status);
+    push_standing(text, status);
+    push(text, b"\n");
+}
+
 /// Makes a text that of an answer.
 pub(crate) fn compose(text: &mut Vec<u8>, answer: Answer)
-    requires { 50 ≤ vec_capacity text.old }
+    requires { 175 ≤ vec_capacity text.old }
     ensures items { text.new.items ≡ answer_text answer }
     ensures room { vec_capacity text.old ≤ vec_capacity text.new }
 {
@@ -122,6 +174,7 @@ pub(crate) fn compose(text: &mut Vec<u8>, answer: Answer)
         Answer::Dead(tries) => compose_number(text, b"dead ", u64::from(tries)),
         Answer::Refused { line, rule } => compose_refusal(text, line, rule.number()),
         Answer::NoMemory => compose_no_memory(text),
+        Answer::Status(status) => compose_status(text, status),
         Answer::Stopping(count) => compose_number(text, b"stopping ", count),
     }
 }

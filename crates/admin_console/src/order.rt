@@ -22,6 +22,8 @@ pub enum Order {
     Publish { template: u16, size: u32 },
     /// Relaunch the service.
     Relaunch(u16),
+    /// Tell how the site stands.
+    Status,
     /// The console ends.
     End,
     /// The run is to end once what has begun is answered, and the console ends.
@@ -96,8 +98,8 @@ fn read_publish(config: &Config, rest: &[u8]) -> Order
 }
 
 /// What a line without its end says under a configuration: `publish NAME LENGTH`, where LENGTH has 1 to
-/// 9 decimal digits and so many bytes follow the line, `relaunch SERVICE`, `stop` or `end`, the words parted
-/// by spaces or tabs. Anything else, and a line over 256 bytes, is no command.
+/// 9 decimal digits and so many bytes follow the line, `relaunch SERVICE`, `status`, `stop` or `end`, the
+/// words parted by spaces or tabs. Anything else, and a line over 256 bytes, is no command.
 #[tactic(auto, unfolding(crate::specs::Orders::order_of))]
 pub fn order_of(config: &Config, line: &[u8]) -> Order
     requires services { length config.now.services ≤ MOST_SERVICES }
@@ -115,6 +117,8 @@ pub fn order_of(config: &Config, line: &[u8]) -> Order
         read_publish(config, rest)
     } else if word == b"relaunch".as_slice() {
         read_relaunch(config, rest)
+    } else if word == b"status".as_slice() {
+        read_alone(Order::Status, rest)
     } else if word == b"end".as_slice() {
         read_alone(Order::End, rest)
     } else if word == b"stop".as_slice() {

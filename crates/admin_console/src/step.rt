@@ -58,7 +58,7 @@ pub fn step<R: Wait, C: Conn, O: Controls>(
     requires config { O.config controls.old ≡ config.now }
     requires services { length config.now.services ≤ MOST_SERVICES }
     requires templates { length config.now.templates ≤ MOST_TEMPLATES }
-    ensures step { Steps O.publishes O.relaunches config.now (C.wire console.old) (C.wire console.new) reader.old reader.new (O.state controls.old) (O.state controls.new) result }
+    ensures step { Steps O.publishes O.relaunches O.surveys config.now (C.wire console.old) (C.wire console.new) reader.old reader.new (O.state controls.old) (O.state controls.new) result }
     ensures config { O.config controls.new ≡ O.config controls.old }
 {
     let (taken, lines) = take_command(rt, console, reader.lines, &mut reader.text);
@@ -88,7 +88,7 @@ fn carry_out<C: Conn, O: Controls>(
 ) -> Done
     requires config { O.config controls.old ≡ config.now }
     requires fits { OrderFits config.now order }
-    ensures done { CarriesOut O.publishes O.relaunches (C.wire console.old) (C.wire console.new) line order (O.state controls.old) (O.state controls.new) result }
+    ensures done { CarriesOut O.publishes O.relaunches O.surveys (C.wire console.old) (C.wire console.new) line order (O.state controls.old) (O.state controls.new) result }
     ensures config { O.config controls.new ≡ O.config controls.old }
 {
     match order {
@@ -98,6 +98,7 @@ fn carry_out<C: Conn, O: Controls>(
             let relaunching = controls.relaunch(service);
             Done::Answered(answer_to_relaunching(relaunching, line))
         }
+        Order::Status => Done::Answered(Answer::Status(controls.status())),
         Order::Publish { template, size } => {
             publish(alloc, console, line, template, size, config, controls)
         }
@@ -117,7 +118,7 @@ fn publish<C: Conn, O: Controls>(
 ) -> Done
     requires config { O.config controls.old ≡ config.now }
     requires fits { OrderFits config.now (Order.Publish template size) }
-    ensures done { CarriesOut O.publishes O.relaunches (C.wire console.old) (C.wire console.new) line (Order.Publish template size) (O.state controls.old) (O.state controls.new) result }
+    ensures done { CarriesOut O.publishes O.relaunches O.surveys (C.wire console.old) (C.wire console.new) line (Order.Publish template size) (O.state controls.old) (O.state controls.new) result }
     ensures config { O.config controls.new ≡ O.config controls.old }
 {
     match take_content(alloc, console, size) {

@@ -3,8 +3,9 @@
 ghost use Rattle.std.specs.Prelude.{◌≡◌};
 
 use crate::holding::{MEMORY, holds, same};
+use crate::status::SHOWN;
 use admin_console::answer::Answer;
-use admin_console::controls::{Controls, Publishing, Relaunching};
+use admin_console::controls::{Controls, Publishing, Relaunching, Status};
 use admin_console::reader::Reader;
 use admin_console::rule::Rule;
 use admin_console::step::{Stepped, step, tell};
@@ -17,17 +18,19 @@ use std::alloc::Global;
 use std::process::Abort;
 use std::sync::Wait;
 
-/// The site that is steered: what publications and relaunches come to, and what was asked last.
+/// The site that is steered: what publications and relaunches come to, what is told of it, and what was asked last.
 #[derive(Drop)]
-struct Site<'a> {
+pub(crate) struct Site<'a> {
     config: &'a Config,
     publishing: Publishing,
     relaunching: Relaunching,
+    pub(crate) status: Status,
     content: Option<Items<u8>>,
     template: u16,
     service: u16,
     published: u8,
-    relaunched: u8,
+    pub(crate) relaunched: u8,
+    pub(crate) surveyed: u8,
 }
 
 impl<'a> Controls for Site<'a> {
@@ -43,6 +46,8 @@ impl<'a> Controls for Site<'a> {
 
     ghost relaunches = { λ _ _ _ _. ⊤ };
 
+    ghost surveys = { λ _ _ _. ⊤ };
+
     fn publish(&mut self, template: u16, content: Items<u8>) -> Publishing {
         self.template = template;
         self.content = Some(content);
@@ -54,6 +59,11 @@ impl<'a> Controls for Site<'a> {
         self.service = service;
         self.relaunched = self.relaunched.saturating_add(1);
         self.relaunching
+    }
+
+    fn status(&mut self) -> Status {
+        self.surveyed = self.surveyed.saturating_add(1);
+        self.status
     }
 }
 
@@ -88,7 +98,7 @@ fn services(rt: &impl Abort, alloc: Global, texts: [&[u8]; 2]) -> Items<ServiceP
 }
 
 /// A site with the services guest and other, and the templates page and secret.
-fn declared(rt: &impl Abort, alloc: Global) -> Config {
+pub(crate) fn declared(rt: &impl Abort, alloc: Global) -> Config {
     Config {
         proxies: none(alloc),
         services: services(rt, alloc, [b"guest", b"other"]),
@@ -101,21 +111,23 @@ fn declared(rt: &impl Abort, alloc: Global) -> Config {
     }
 }
 
-fn site_of(config: &Config) -> Site<'_> {
+pub(crate) fn site_of(config: &Config) -> Site<'_> {
     Site {
         config,
         publishing: Publishing::Edition(1),
         relaunching: Relaunching::Up(2),
+        status: SHOWN,
         content: None,
         template: 9,
         service: 9,
         published: 0,
         relaunched: 0,
+        surveyed: 0,
     }
 }
 
 /// One step.
-fn next<R: Wait>(
+pub(crate) fn next<R: Wait>(
     rt: &R,
     alloc: Global,
     console: &mut MemoryConn<'_>,
@@ -133,7 +145,7 @@ fn next<R: Wait>(
 }
 
 /// A console of these bytes, with room for so many that are given to it, whose calls of these numbers fail.
-fn conn<'a>(
+pub(crate) fn conn<'a>(
     rt: &impl Abort,
     alloc: Global,
     bytes: &'a [u8],

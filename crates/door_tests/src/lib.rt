@@ -8,3 +8,5 @@ mod console;
 mod doors;
 #[cfg(test)]
 mod holding;
+#[cfg(test)]
+mod status;

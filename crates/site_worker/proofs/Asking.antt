@@ -66,11 +66,11 @@ publishes_at t content NoSuchTemplate before s now verdict h = (verdict ∙ ap (
 publishes_at t content TooLong before s now verdict h = (verdict ∙ ap (λ J. publish_at J (Some t) content) (sym (seen_then s now before h)), pubd_same s now before h)
 publishes_at t content EditionsSpent before s now verdict h = (verdict ∙ ap (λ J. publish_at J (Some t) content) (sym (seen_then s now before h)), pubd_same s now before h)
 
--- what was seen of pubd only grows
-past_kept : {E : Type 0} (J now : List E) → now ≡ J → KeepsPasts J now
+-- what was seen of a column only grows
+pub past_kept : {E : Type 0} (J now : List E) → now ≡ J → KeepsPasts J now
 past_kept J now e = λ past b. subst (Behind past) (sym e) b
 
-past_on : {E : Type 0} (J now : List E) → Behind J now → KeepsPasts J now
+pub past_on : {E : Type 0} (J now : List E) → Behind J now → KeepsPasts J now
 past_on J now g = λ past b. (g.0 ++ b.0, g.1 ∙ ap (λ l. g.0 ++ l) b.1 ∙ sym (append_assoc g.0 b.0 past))
 
 pub okd_keeps : (event : OkdEvent) (before : List (Entry OkdEvent)) (s now : Sat) → NotesOkd event before s now → KeepsPasts s.pubd now.pubd
@@ -78,6 +78,43 @@ okd_keeps event before s now h = past_kept s.pubd now.pubd (ap (λ (x : Sat). x.
 
 pub okd_seen_keeps : (before : List (Entry OkdEvent)) (s now : Sat) → SeesOkd before s now → KeepsPasts s.pubd now.pubd
 okd_seen_keeps before s now h = past_kept s.pubd now.pubd (ap (λ (x : Sat). x.pubd) h.is)
+
+-- the same of okd, and of oklogd
+pub okd_on : (event : OkdEvent) (before : List (Entry OkdEvent)) (s now : Sat) → NotesOkd event before s now → KeepsPasts s.okd now.okd
+okd_on event before s now h =
+    let e : Entry OkdEvent = record { worker = s.number; event = event } in
+    past_on s.okd now.okd (e ∷ h.grows.0, ap (λ (x : Sat). x.okd) h.is ∙ ap (λ J. e ∷ J) h.grows.2)
+
+pub okd_seen_on : (before : List (Entry OkdEvent)) (s now : Sat) → SeesOkd before s now → KeepsPasts s.okd now.okd
+okd_seen_on before s now h = past_on s.okd now.okd (h.grows.0, ap (λ (x : Sat). x.okd) h.is ∙ h.grows.2)
+
+pub log_of_okd : (event : OkdEvent) (before : List (Entry OkdEvent)) (s now : Sat) → NotesOkd event before s now → KeepsPasts s.oklogd now.oklogd
+log_of_okd event before s now h = past_kept s.oklogd now.oklogd (ap (λ (x : Sat). x.oklogd) h.is)
+
+pub log_of_okd_seen : (before : List (Entry OkdEvent)) (s now : Sat) → SeesOkd before s now → KeepsPasts s.oklogd now.oklogd
+log_of_okd_seen before s now h = past_kept s.oklogd now.oklogd (ap (λ (x : Sat). x.oklogd) h.is)
+
+pub log_on : (before : List (Entry LogEvent)) (s now : Sat) → SeesLog before s now → KeepsPasts s.oklogd now.oklogd
+log_on before s now h = past_on s.oklogd now.oklogd (h.grows.0, ap (λ (x : Sat). x.oklogd) h.is ∙ h.grows.2)
+
+-- where something was done at pubd
+pub okd_of_pubd : (before : List (Entry PubdEvent)) (s now : Sat) → SeesPubd before s now → KeepsPasts s.okd now.okd
+okd_of_pubd before s now h = past_kept s.okd now.okd (ap (λ (x : Sat). x.okd) h.is)
+
+pub log_of_pubd : (before : List (Entry PubdEvent)) (s now : Sat) → SeesPubd before s now → KeepsPasts s.oklogd now.oklogd
+log_of_pubd before s now h = past_kept s.oklogd now.oklogd (ap (λ (x : Sat). x.oklogd) h.is)
+
+pub okd_of_published : (t : ℕ) (content : List ℕ) (v : Published) (before : List (Entry PubdEvent)) (s now : Sat) → Publishes t content v before s now → KeepsPasts s.okd now.okd
+okd_of_published t content (Edition n) before s now h = past_kept s.okd now.okd (ap (λ (x : Sat). x.okd) h.is)
+okd_of_published t content NoSuchTemplate before s now h = okd_of_pubd before s now h
+okd_of_published t content TooLong before s now h = okd_of_pubd before s now h
+okd_of_published t content EditionsSpent before s now h = okd_of_pubd before s now h
+
+pub log_of_published : (t : ℕ) (content : List ℕ) (v : Published) (before : List (Entry PubdEvent)) (s now : Sat) → Publishes t content v before s now → KeepsPasts s.oklogd now.oklogd
+log_of_published t content (Edition n) before s now h = past_kept s.oklogd now.oklogd (ap (λ (x : Sat). x.oklogd) h.is)
+log_of_published t content NoSuchTemplate before s now h = log_of_pubd before s now h
+log_of_published t content TooLong before s now h = log_of_pubd before s now h
+log_of_published t content EditionsSpent before s now h = log_of_pubd before s now h
 
 pub pubd_keeps : (before : List (Entry PubdEvent)) (s now : Sat) → SeesPubd before s now → KeepsPasts s.pubd now.pubd
 pubd_keeps before s now h = past_on s.pubd now.pubd (h.grows.0, seen_then s now before h ∙ h.grows.2)

@@ -7,7 +7,7 @@ use Rattle.admin_console.specs.declared.answer.Answer.{Answer}
 use Rattle.admin_console.specs.declared.step.Stepped.{Stepped}
 use Rattle.admin_console.specs.declared.step.Stepped.TheVariants as stepped
 use Rattle.site_worker.specs.Lives.{Life, SameWorker}
-use Rattle.site_worker.specs.Steering.{Publishes, Relaunches}
+use Rattle.site_worker.specs.Steering.{Publishes, Relaunches, Surveys}
 use Rattle.site_worker.specs.Commands.{StepsAt, Commands, Oversees, ends_by}
 use Rattle.site_worker.specs.declared.console.Overseen.{Overseen}
 use Rattle.site_worker.proofs.Same.{same_at_once, same_on, same_step}
@@ -18,8 +18,8 @@ pub record Overseeing (C : Config) (w x : ConnWire) (before after : ℕ) (J K : 
   pub same : SameWorker J K
 
 -- a step by the configuration that is at hand, which is the site's
-pub step_here : (C D : Config) (w x : ConnWire) (before after : ℕ) (J K : Life) (what : Stepped) → D ≡ C → Steps Publishes (Relaunches C) D w x before after J K what → StepsAt C w x before after J K what
-step_here C D w x before after J K what e s = subst (λ (y : Config). Steps Publishes (Relaunches C) y w x before after J K what) e s
+pub step_here : (C D : Config) (w x : ConnWire) (before after : ℕ) (J K : Life) (what : Stepped) → D ≡ C → Steps Publishes (Relaunches C) (Surveys C) D w x before after J K what → StepsAt C w x before after J K what
+step_here C D w x before after J K what e s = subst (λ (y : Config). Steps Publishes (Relaunches C) (Surveys C) y w x before after J K what) e s
 
 module _ (C : Config) (w : ConnWire) (before : ℕ) (J : Life) where
   pub overseeing_first : Overseeing C w w before before J J

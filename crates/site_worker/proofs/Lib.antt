@@ -7,3 +7,4 @@ mod Same
 mod Spending
 mod Rounds
 mod Commands
+mod Counting

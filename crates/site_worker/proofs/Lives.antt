@@ -9,6 +9,7 @@ use Rattle.site_locks.specs.Sat.{Sat, seen_of}
 use Rattle.site_locks.specs.Steps.{NotesSpare}
 use Rattle.turn_lock.specs.Seats.{SeatIs}
 use Rattle.launch_turns.specs.declared.deed.Deed.{Deed}
+use Rattle.site_worker.specs.Asking.{KeepsPasts, SameBoard}
 use Rattle.site_worker.specs.Lives.{Life, Working, Sees, Starves, life_of}
 
 pub sees_on : (J M K : Life) (now : Seen) → Sees J.seen J M → Sees now M K → Sees now J K
@@ -17,7 +18,9 @@ sees_on J M K now a b = record {
   cells_is = b.cells_is ∙ a.cells_is;
   launcher_is = b.launcher_is ∙ a.launcher_is;
   board = λ s k l. b.board s k (a.board s k l);
+  okd = λ past h. b.okd past (a.okd past h);
   pubd = λ past h. b.pubd past (a.pubd past h);
+  oklogd = λ past h. b.oklogd past (a.oklogd past h);
 }
 
 -- a note in a spare place, by what the number has seen at the columns and at the cells
@@ -28,7 +31,22 @@ noted_starves s now cells launcher h = record {
   cells_is = refl;
   launcher_is = refl;
   board = λ t k l. subst (λ (b : List ℕ). k ≤ slice_index b t) (sym (ap (λ (x : Sat). x.board) h.0)) l;
+  okd = λ past b. subst (Behind past) (sym (ap (λ (x : Sat). x.okd) h.0)) b;
   pubd = λ past b. subst (Behind past) (sym (ap (λ (x : Sat). x.pubd) h.0)) b;
+  oklogd = λ past b. subst (Behind past) (sym (ap (λ (x : Sat). x.oklogd) h.0)) b;
+}
+
+-- nothing was entered at the columns, of which more may be seen
+pub sees_columns : (s now : Sat) (cells : CellsSeen) (launcher : SeatIs Deed) → seen_of now ≡ seen_of s → SameBoard s now → KeepsPasts s.okd now.okd → KeepsPasts s.pubd now.pubd → KeepsPasts s.oklogd now.oklogd
+    → Sees (seen_of s) (life_of s cells launcher) (life_of now cells launcher)
+sees_columns s now cells launcher seen same okd pubd oklogd = record {
+  seen_is = seen;
+  cells_is = refl;
+  launcher_is = refl;
+  board = λ t k l. subst (λ (b : List ℕ). k ≤ slice_index b t) (sym same.board_is) l;
+  okd = okd;
+  pubd = pubd;
+  oklogd = oklogd;
 }
 
 -- the worker of these seats

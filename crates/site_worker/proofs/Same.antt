@@ -1,5 +1,5 @@
 -- A worker stays the same whatever it does.
-use Rattle.std.proofs.Common.{◌≡◌, inl, inr, ℕ, Bool, true, false, List, Option, Some, None, sym, ap, ◌∙◌}
+use Rattle.std.proofs.Common.{◌≡◌, inl, inr, ℕ, Bool, true, false, List, [], Option, Some, None, sym, ap, ◌∙◌}
 use Rattle.okws_plan.specs.declared.configuration.Config.{Config}
 use Rattle.okws_plan.specs.declared.event.LauncherEvent.{LauncherEvent}
 use Rattle.okws_plan.specs.declared.event.LauncherEvent.{LauncherEvent}
@@ -24,6 +24,7 @@ use Rattle.admin_console.specs.Orders.{order_of}
 use Rattle.admin_console.specs.declared.answer.Answer.{Answer}
 use Rattle.admin_console.specs.declared.controls.Publishing.{Publishing}
 use Rattle.admin_console.specs.declared.controls.Publishing.TheVariants as publishing
+use Rattle.admin_console.specs.declared.controls.Status.{Status}
 use Rattle.admin_console.specs.declared.order.Order.{Order}
 use Rattle.admin_console.specs.declared.order.Order.TheVariants as order
 use Rattle.admin_console.specs.declared.step.Stepped.{Stepped}
@@ -32,8 +33,8 @@ use Rattle.launch_turns.specs.declared.deed.Deed.{Deed}
 use Rattle.site_worker.specs.Lives.{Life, number_of, Sees, Starves, StarvesWhere, SameWorker}
 use Rattle.site_worker.specs.Launching.{OnlyLauncher, Reports, Tends}
 use Rattle.site_worker.specs.Handling.{Talks, Follows, Goes, Handles}
-use Rattle.site_worker.specs.Steering.{Publishes, Relaunches}
-use Rattle.site_worker.specs.Rounds.{TendsNext, TendsAfter, Round}
+use Rattle.site_worker.specs.Steering.{Publishes, Relaunches, Surveys}
+use Rattle.site_worker.specs.Rounds.{GoesRound, TendsNext, TendsAfter, Round}
 use Rattle.site_worker.specs.Commands.{StepsAt}
 
 -- the same seat, which has seen other entries
@@ -105,10 +106,13 @@ same_next : (C : Config) (c : ℕ) (J K : Life) → TendsNext C c J K → SameWo
 same_next C c J K (inl h) = same_at_once J K h.1
 same_next C c J K (inr h) = same_tends C _ J K h.1
 
+same_goes_round : (C : Config) (c : ℕ) (J K : Life) → GoesRound C c J K → SameWorker J K
+same_goes_round C c J K h = same_on J h.0 K (same_next C c J h.0 h.1) (same_sees _ h.0 K h.2)
+
 same_after : (C : Config) (c : ℕ) (what : Serving) (J K : Life) → TendsAfter C c what J K → SameWorker J K
-same_after C c (serving.Served a) J K h = same_next C c J K h
-same_after C c (serving.ConnFault a) J K h = same_next C c J K h
-same_after C c serving.NoConn J K h = same_next C c J K h
+same_after C c (serving.Served a) J K h = same_goes_round C c J K h
+same_after C c (serving.ConnFault a) J K h = same_goes_round C c J K h
+same_after C c serving.NoConn J K h = same_goes_round C c J K h
 same_after C c serving.NoneCame J K h = same_at_once J K h
 same_after C c serving.NoMemory J K h = same_at_once J K h
 
@@ -130,9 +134,13 @@ same_published line t size bytes left J a K (inl h) = same_publishes J t bytes h
 same_published line t size bytes left J a K (inr (inl h)) = same_at_once J K h.3
 same_published line t size bytes left J a K (inr (inr h)) = same_at_once J K h.2
 
-same_done : (C : Config) (line : ℕ) (o : Order) (bytes : List ℕ) (left : Option (List ℕ)) (J : Life) (a : Answer) (K : Life) → IsDone Publishes (Relaunches C) line o bytes left J a K → SameWorker J K
+same_surveys : (C : Config) (J : Life) (told : Status) (K : Life) → Surveys C J told K → SameWorker J K
+same_surveys C J told K h = same_on J h.mid K (same_launcher [] J h.mid h.only) (same_sees _ h.mid K h.counts.sees)
+
+same_done : (C : Config) (line : ℕ) (o : Order) (bytes : List ℕ) (left : Option (List ℕ)) (J : Life) (a : Answer) (K : Life) → IsDone Publishes (Relaunches C) (Surveys C) line o bytes left J a K → SameWorker J K
 same_done C line (order.Publish t size) bytes left J a K h = same_published line t size bytes left J a K h
 same_done C line (order.Relaunch s) bytes left J a K h = same_asks C J s h.1 K h.2
+same_done C line order.Status bytes left J a K h = same_surveys C J h.1 K h.2
 same_done C line order.End bytes left J a K h = absurd h
 same_done C line order.Stop bytes left J a K h = absurd h
 same_done C line (order.Refused broken size) bytes left J a K h = same_at_once J K h.2

@@ -7,13 +7,13 @@ use Rattle.admin_console.specs.declared.answer.Answer.{Answer}
 use Rattle.admin_console.specs.declared.step.Stepped.{Stepped}
 use Rattle.admin_console.specs.declared.step.Stepped.TheVariants as stepped
 use Rattle.site_worker.specs.Lives.{Life}
-use Rattle.site_worker.specs.Steering.{Publishes, Relaunches}
+use Rattle.site_worker.specs.Steering.{Publishes, Relaunches, Surveys}
 use Rattle.site_worker.specs.declared.console.Overseen.{Overseen}
 use Rattle.site_worker.specs.declared.console.Overseen.TheVariants as overseen
 
 -- One step of the console of a site, of which `before` and then `after` lines were read.
 abbrev pub StepsAt : Config → ConnWire → ConnWire → ℕ → ℕ → Life → Life → Stepped → Type 0
-StepsAt C w x before after J K what = Steps Publishes (Relaunches C) C w x before after J K what
+StepsAt C w x before after J K what = Steps Publishes (Relaunches C) (Surveys C) C w x before after J K what
 
 -- Commands with these answers, the last one first, each carried out and answered.
 abbrev pub Commands : Config → List Answer → ConnWire → ConnWire → ℕ → ℕ → Life → Life → Type 0

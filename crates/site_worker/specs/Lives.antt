@@ -3,6 +3,8 @@ use Rattle.std.specs.Prelude.{◌≡◌, ◌≤◌, ◌+◌, ℕ, Bool, true, fa
 use Rattle.okws_base.specs.declared.journal.Entry.{Entry}
 use Rattle.okws_base.specs.declared.limit.TheConstants.{GREATEST_RETRY}
 use Rattle.okws_plan.specs.declared.configuration.Config.{Config}
+use Rattle.okws_plan.specs.declared.event.LogEvent.{LogEvent}
+use Rattle.okws_plan.specs.declared.event.OkdEvent.{OkdEvent}
 use Rattle.okws_plan.specs.declared.event.PubdEvent.{PubdEvent}
 use Rattle.monitor_model.specs.declared.record.Own.TheVariants as own
 use Rattle.monitor_model.specs.Seen.{Seen, noted}
@@ -13,17 +15,19 @@ use Rattle.site_worker.specs.Asking.{KeepsPasts}
 use Rattle.site_locks.specs.Sat.{Sat, seen_of}
 use Rattle.launch_turns.specs.declared.deed.Deed.{Deed}
 
--- What it has seen of each column at its own last entry there, with its own items; what it has seen of each cell, of each service on the board, and of pubd in all, also where it entered nothing; and its seat at the launcher's lock.
+-- What it has seen of each column at its own last entry there, with its own items; what it has seen of each cell, of each service on the board, and of okd, pubd and oklogd in all, also where it entered nothing; and its seat at the launcher's lock.
 pub record Life : Type 0 where
   pub seen : Seen
   pub cells : CellsSeen
   pub board : List ℕ
+  pub okd : List (Entry OkdEvent)
   pub pubd : List (Entry PubdEvent)
+  pub oklogd : List (Entry LogEvent)
   pub launcher : SeatIs Deed
 
 -- The same, of its seats at the columns, at the cells and at the launcher's lock.
 abbrev pub life_of : Sat → CellsSeen → SeatIs Deed → Life
-life_of s cells launcher = record { seen = seen_of s; cells = cells; board = s.board; pubd = s.pubd; launcher = launcher }
+life_of s cells launcher = record { seen = seen_of s; cells = cells; board = s.board; okd = s.okd; pubd = s.pubd; oklogd = s.oklogd; launcher = launcher }
 
 -- A worker: what it has seen and done, and how many items it may note without memory.
 pub record Working : Type 0 where
@@ -42,13 +46,15 @@ number_of J = J.cells.number
 abbrev pub Rises : List ℕ → List ℕ → Type 0
 Rises old new = (s k : ℕ) → k ≤ slice_index old s → k ≤ slice_index new s
 
--- The worker has seen this of the columns, and may have seen more of the board, and of pubd in all; everything else is the same.
+-- The worker has seen this of the columns, and may have seen more of the board, and of okd, pubd and oklogd in all; everything else is the same.
 pub record Sees (now : Seen) (J K : Life) : Type 0 where
   pub seen_is : K.seen ≡ now
   pub cells_is : K.cells ≡ J.cells
   pub launcher_is : K.launcher ≡ J.launcher
   pub board : Rises J.board K.board
+  pub okd : KeepsPasts J.okd K.okd
   pub pubd : KeepsPasts J.pubd K.pubd
+  pub oklogd : KeepsPasts J.oklogd K.oklogd
 
 -- Want of memory was noted.
 abbrev pub Starves : Life → Life → Type 0

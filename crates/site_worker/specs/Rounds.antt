@@ -9,7 +9,7 @@ use Rattle.http_front.specs.Replies.{Replied}
 use Rattle.door_worker.specs.Serving.{Serves}
 use Rattle.door_worker.specs.declared.serving.Serving.{Serving}
 use Rattle.door_worker.specs.declared.serving.Serving.TheVariants as serving
-use Rattle.site_worker.specs.Lives.{Life, Starves}
+use Rattle.site_worker.specs.Lives.{Life, Sees, Starves}
 use Rattle.site_worker.specs.Launching.{Tends}
 use Rattle.site_worker.specs.Handling.{Handles}
 use Rattle.site_worker.specs.declared.door.Attended.{Attended}
@@ -18,6 +18,10 @@ use Rattle.site_worker.specs.declared.door.Attended.{Attended}
 abbrev pub TendsNext : Config → ℕ → Life → Life → Type 0
 TendsNext C c J K =
     ((length C.services ≡ 0) × (K ≡ J)) ⊎ ((0 < length C.services) × Tends C (c % length C.services) J K)
+
+-- The same; then the log is written out, where more may be seen of it.
+abbrev pub GoesRound : Config → ℕ → Life → Life → Type 0
+GoesRound C c J K = (M : Life) × TendsNext C c J M × Sees M.seen M K
 
 -- Memory was refused before a connection was accepted.
 abbrev pub is_starved : Serving → Bool
@@ -51,11 +55,11 @@ taken serving.NoConn = 0
 taken serving.NoneCame = 0
 taken serving.NoMemory = 0
 
--- After the door was served so, a service is looked after, unless no connection came so far or memory was refused.
+-- After the door was served so, a service is looked after and the log written out, unless no connection came so far or memory was refused.
 abbrev pub TendsAfter : Config → ℕ → Serving → Life → Life → Type 0
-TendsAfter C c (serving.Served a) J K = TendsNext C c J K
-TendsAfter C c (serving.ConnFault a) J K = TendsNext C c J K
-TendsAfter C c serving.NoConn J K = TendsNext C c J K
+TendsAfter C c (serving.Served a) J K = GoesRound C c J K
+TendsAfter C c (serving.ConnFault a) J K = GoesRound C c J K
+TendsAfter C c serving.NoConn J K = GoesRound C c J K
 TendsAfter C c serving.NoneCame J K = K ≡ J
 TendsAfter C c serving.NoMemory J K = K ≡ J
 

@@ -4,7 +4,7 @@ ghost use Rattle.std.specs.Prelude.{◌≡◌};
 ghost use Rattle.site_worker.specs.Steering.{told_of};
 
 use crate::worker::{TURN_ITEMS, Worker};
-use admin_console::controls::{Controls, Publishing, Relaunching};
+use admin_console::controls::{Controls, Publishing, Relaunching, Status};
 use monitor_model::verdict::Published;
 use okld_launch::answer::Launched;
 use okld_launch::named::Staffed;
@@ -41,7 +41,7 @@ impl<
     F: Children,
 > Controls for Worker<'a, R, G, N, J, C, K, S, F> {
     ghost use Rattle.site_worker.specs.Lives.{Life};
-    ghost use Rattle.site_worker.specs.Steering.{Publishes, Relaunches};
+    ghost use Rattle.site_worker.specs.Steering.{Publishes, Relaunches, Surveys};
 
     ghost State = { Life };
 
@@ -52,6 +52,8 @@ impl<
     ghost publishes = { Publishes };
 
     ghost relaunches = { Relaunches N.site };
+
+    ghost surveys = { Surveys N.site };
 
     fn publish(&mut self, template: u16, content: Items<u8>) -> Publishing {
         if self.make_spare(TURN_ITEMS).is_err() {
@@ -73,5 +75,20 @@ impl<
             return Relaunching::NoMemory;
         }
         told_of(self.ask(service))
+    }
+
+    fn status(&mut self) -> Status {
+        let (connections, standing, note) = self.look_turn();
+        let counted = self.count(note);
+        Status {
+            connections,
+            accepts: counted.accepts,
+            launches: counted.launches,
+            publications: counted.publications,
+            logged: counted.logged,
+            up: standing.up,
+            down: standing.down,
+            dead: standing.dead,
+        }
     }
 }

@@ -1,10 +1,10 @@
 //! A worker at its door.
 
 ghost use Rattle.std.specs.Prelude.{◌≡◌, ◌<◌, ◌≤◌, ◌+◌, IsNone, length, slice_index};
-ghost use Rattle.site_worker.specs.Lives.{SameWorker};
+ghost use Rattle.site_worker.specs.Lives.{SameWorker, Sees};
 ghost use Rattle.turn_lock.specs.Board.{most_drawn};
 ghost use Rattle.turn_lock.specs.BoardSeats.{MayDraw};
-ghost use Rattle.site_worker.specs.Rounds.{Attends, Round, TendsAfter, TendsNext, WhereAwaited, is_awaited, is_starved, taken};
+ghost use Rattle.site_worker.specs.Rounds.{Attends, GoesRound, Round, TendsAfter, WhereAwaited, is_awaited, is_starved, taken};
 ghost use Rattle.site_worker.specs.declared.worker.TheConstants.{TURN_ITEMS};
 
 use crate::worker::{ROUND_ITEMS, Worker};
@@ -75,13 +75,20 @@ impl<
     S: Sink,
     F: Children,
 > Worker<'a, R, G, N, J, C, K, S, F> {
+    // Writes the log out.
+    fn write_log(&mut self)
+        ensures { Sees self.old.life.seen self.old.life self.new.life }
+    {
+        self.hands.write_out();
+    }
+
     // Looks after a service, and writes the log out.
     fn look_round(&mut self, number: u64)
         requires { TURN_ITEMS ≤ self.old.spare }
-        ensures { TendsNext N.site number self.old.life self.new.life }
+        ensures { GoesRound N.site number self.old.life self.new.life }
     {
         self.tend_next(number);
-        self.hands.write_out();
+        self.write_log();
     }
 
     // What follows when the door was served so under a connection's number.

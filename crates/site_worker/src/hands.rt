@@ -12,7 +12,7 @@ ghost use Rattle.monitor_model.specs.Script.{goes_of};
 ghost use Rattle.monitor_model.specs.Seen.{AtOkd};
 ghost use Rattle.site_locks.specs.Sat.{seen_of};
 ghost use Rattle.site_locks.specs.Steps.{NotesSpare};
-ghost use Rattle.site_worker.specs.Asking.{KeepsPasts, PublishesAt, SameBoard};
+ghost use Rattle.site_worker.specs.Asking.{CountsAt, KeepsPasts, PublishesAt, SameBoard};
 
 use log_daemon::WriteOut;
 use monitor_model::record::Own;
@@ -27,11 +27,25 @@ use okws_plan::event::Call;
 use service_cell::columns::{Columns, Hears};
 use site_locks::locks::{Locks, Seats};
 use site_locks::named::Site;
+use site_locks::note::OkdNote;
 use site_locks::noted_link::NotedLink;
 use started_call::Started;
 use std::alloc::AllocError;
 use std::marker::Model;
 use std::sync::Wait;
+
+/// What is counted of the columns' journals.
+#[derive(Clone, Copy)]
+pub struct Counted {
+    /// Requests that were accepted.
+    pub accepts: u64,
+    /// Incarnations that came up.
+    pub launches: u64,
+    /// Editions that were published.
+    pub publications: u64,
+    /// Texts that were logged.
+    pub logged: u64,
+}
 
 /// The seats of one number, with the locks that they are at and a gate, in a run whose keepers tell their
 /// rows.
@@ -93,7 +107,9 @@ impl<'a, R: Wait, G: Gate, N: Backed, J: Site, K: Keeper, S: Sink> Hands<'a, R, 
         ensures ok { IfOk result (λ way. (before : List (Entry OkdEvent)) × (way ≡ accept_verdict N.site before path) × AtOkd self.old.number (okd_event.Accept path) (seen_of self.old) before (seen_of self.new)) }
         ensures goes { IfOk result (λ way. IfSome (goes_of way) (λ (at : ℕ × ℕ). (at.0 < length N.site.services) × (0 < at.1))) }
         ensures err { OnErr result (seen_of self.new ≡ seen_of self.old) }
+        ensures okd { KeepsPasts self.old.okd self.new.okd }
         ensures pubd { KeepsPasts self.old.pubd self.new.pubd }
+        ensures oklogd { KeepsPasts self.old.oklogd self.new.oklogd }
         ensures same { SameBoard self.old self.new }
     {
         self.seats.accept(self.rt, self.locks, path)
@@ -106,16 +122,38 @@ impl<'a, R: Wait, G: Gate, N: Backed, J: Site, K: Keeper, S: Sink> Hands<'a, R, 
         requires short { length content ≤ LONGEST_TEMPLATE }
         ensures ok { IfOk result (λ v. PublishesAt template content v self.old self.new) }
         ensures err { OnErr result (seen_of self.new ≡ seen_of self.old) }
+        ensures okd { KeepsPasts self.old.okd self.new.okd }
         ensures pubd { KeepsPasts self.old.pubd self.new.pubd }
+        ensures oklogd { KeepsPasts self.old.oklogd self.new.oklogd }
         ensures same { SameBoard self.old self.new }
     {
         self.seats.publish(self.rt, self.locks, template, content)
     }
 
+    /// Takes in what another number has seen at okd, and counts what stands in the journals of okd, pubd and
+    /// oklogd, each in one turn. Enters nothing, and takes no memory.
+    pub fn count(&mut self, note: OkdNote<N, J>) -> Counted
+        ensures counts { CountsAt N.site note result self.old self.new }
+        ensures same { SameBoard self.old self.new }
+    {
+        self.seats.meet_okd(self.locks, note);
+        let (accepts, launches) = self.seats.count_at_okd(self.rt, self.locks);
+        let publications = self.seats.count_at_pubd(self.rt, self.locks);
+        let logged = self.seats.count_at_log(self.rt, self.locks);
+        Counted {
+            accepts,
+            launches,
+            publications,
+            logged,
+        }
+    }
+
     /// Gives the log's sink what it wasn't given yet of the log's text. Enters nothing, and takes no memory.
     pub fn write_out(&mut self) -> WriteOut
         ensures seen { seen_of self.new ≡ seen_of self.old }
-        ensures pubd { self.new.pubd ≡ self.old.pubd }
+        ensures okd { KeepsPasts self.old.okd self.new.okd }
+        ensures pubd { KeepsPasts self.old.pubd self.new.pubd }
+        ensures oklogd { KeepsPasts self.old.oklogd self.new.oklogd }
         ensures same { SameBoard self.old self.new }
     {
         self.seats.write_out(self.rt, self.locks)

@@ -9,4 +9,5 @@ pub mod door;
 pub mod handling;
 pub mod hands;
 mod launching;
+mod surveying;
 pub mod worker;

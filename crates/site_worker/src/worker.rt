@@ -186,7 +186,7 @@ impl<
         CellSeats<N, C, Noted<N, J, K, S, F>>,
         Seat<Resting<N, J, C, K, S, F>>,
     )
-        ensures columns { (seen_of result.0 ≡ self.entry.life.seen) × (result.0.board ≡ self.entry.life.board) × (result.0.pubd ≡ self.entry.life.pubd) }
+        ensures columns { (seen_of result.0 ≡ self.entry.life.seen) × (result.0.board ≡ self.entry.life.board) × (result.0.okd ≡ self.entry.life.okd) × (result.0.pubd ≡ self.entry.life.pubd) × (result.0.oklogd ≡ self.entry.life.oklogd) }
         ensures cells { result.1 ≡ self.entry.life.cells }
         ensures launcher { result.2 ≡ self.entry.life.launcher }
         ensures number { result.0.number ≡ self.entry.life.cells.number }

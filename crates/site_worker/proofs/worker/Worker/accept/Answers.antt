@@ -14,4 +14,4 @@ returns-clause-ok g c =
     let is : c.of.result ≡ path_text c.args.request.now = search rules in
     subst (λ (x : Working). IfOk c.accept.result (λ goes. Accepts C path goes x.life (life_of now c.self.inside.at_cells c.self.inside.at_launcher))) c.self.view_is
     (IfOk-weaker c.accept.result _ _
-    (λ goes h. accepts_of C c.of.result path goes c.self.inside.hands now c.self.inside.at_cells c.self.inside.at_launcher c.self.invariant.number_is is c.accept.ensures.pubd c.accept.ensures.same h) c.accept.ensures.ok)
+    (λ goes h. accepts_of C c.of.result path goes c.self.inside.hands now c.self.inside.at_cells c.self.inside.at_launcher c.self.invariant.number_is is c.accept.ensures.okd c.accept.ensures.pubd c.accept.ensures.oklogd c.accept.ensures.same h) c.accept.ensures.ok)

@@ -28,7 +28,7 @@ use Rattle.okld_launch.specs.declared.answer.Launched.{Launched as Launch}
 use Rattle.site_worker.specs.Commands.{Commands, Oversees, StepsAt, ends_by}
 use Rattle.site_worker.specs.Launching.{Asks, launch_starved}
 use Rattle.site_worker.specs.Lives.{Life}
-use Rattle.site_worker.specs.Steering.{Publishes, Relaunches, told_of}
+use Rattle.site_worker.specs.Steering.{Publishes, Relaunches, Surveys, told_of}
 use Rattle.site_worker.specs.declared.console.Overseen.{Overseen}
 use Rattle.site_worker.specs.declared.console.Overseen.TheVariants as overseen
 use Rattle.round_lives.specs.Laws.{is_accepted, is_order}
@@ -37,7 +37,7 @@ use Rattle.round_lives.specs.Orders.{AreAnswered, AreBehind, EndsBehind, Reads, 
 use Rattle.round_lives.proofs.Awaited.{with_wants}
 use Rattle.round_lives.proofs.Coming.{come_then, comes_alone, filter_map-both, filter_map-reverse}
 use Rattle.round_lives.proofs.Entered.{BeginsWithAsked, Behind, asked_entered, is_asked}
-use Rattle.round_lives.proofs.Stepped.{asks_lives, asks_lives_by, lives_then, lives_then_by, publishes_lives, publishes_lives_by, same_lives, sees_lives, starves_lives, unasked_pieces}
+use Rattle.round_lives.proofs.Stepped.{asks_lives, asks_lives_by, lives_then, lives_then_by, publishes_lives, publishes_lives_by, same_lives, sees_lives, starves_lives, surveys_lives, unasked_pieces}
 
 -- ---- pieces that carry nothing out
 
@@ -169,7 +169,7 @@ module _ (C : Config) (w : ℕ) where
   published_as t bytes a whole =
       cons_option (option_map (λ (order : Order). record { order = order; became = became_of a }) (if whole then Some (Publication t bytes) else None)) []
 
-  done : (line : ℕ) (says : Said) (text bytes : List ℕ) (left : Option (List ℕ)) (J : Life) (a : Answer) (K : Life) → IsOf w J → IsDone Publishes (Relaunches C) line says bytes left J a K
+  done : (line : ℕ) (says : Said) (text bytes : List ℕ) (left : Option (List ℕ)) (J : Life) (a : Answer) (K : Life) → IsOf w J → IsDone Publishes (Relaunches C) (Surveys C) line says bytes left J a K
       → AreBehind says bytes left × Steers C w (orders_by says (record { line = text; bytes = bytes; answer = a })) J K
   done line (said.Publish t size) text bytes left J a K of (inl h) = (
     inl h.0,
@@ -185,6 +185,7 @@ module _ (C : Config) (w : ℕ) where
   )
   done line (said.Relaunch s) text bytes left J a K of h =
       (h.0, subst (λ (x : Answer). Steers C w (record { order = Relaunch s; became = became_of x } ∷ []) J K) (sym h.3) (relaunches_steers s line h.1 J K of h.2))
+  done line said.Status text bytes left J a K of h = (h.0, idles [] J K refl (surveys_lives C w is_busy h.1 J K refl of h.2))
   done line said.End text bytes left J a K of h = absurd h
   done line said.Stop text bytes left J a K of h = absurd h
   done line (said.Refused broken size) text bytes left J a K of h = (h.0, same_steers [] J K refl of h.2)
@@ -196,7 +197,7 @@ module _ (C : Config) (w : ℕ) where
     takes : Takes C x y before after one
     steers : Steers C w (orders_in C (one ∷ [])) J K
 
-  did : (x y : ConnWire) (before after : ℕ) (J K : Life) (a : Answer) → IsOf w J → Does Publishes (Relaunches C) C x y before after J K a → Did x y before after J K a
+  did : (x y : ConnWire) (before after : ℕ) (J K : Life) (a : Answer) → IsOf w J → Does Publishes (Relaunches C) (Surveys C) C x y before after J K a → Did x y before after J K a
   did x y before after J K a of h =
       let it = done after (order_of C h.line) h.line h.bytes y.left J a K of h.is in
       record { one = record { line = h.line; bytes = h.bytes; answer = a }; answer_is = refl; takes = record { command = h.command; behind = it.0 }; steers = it.1 }

@@ -25,16 +25,16 @@ use Rattle.admin_console.specs.declared.step.Stepped.TheVariants as stepped
 use Rattle.site_worker.specs.Commands.{Commands, Oversees, StepsAt}
 use Rattle.site_worker.specs.Handling.{Handles}
 use Rattle.site_worker.specs.Lives.{Life, Starves}
-use Rattle.site_worker.specs.Rounds.{Attends, Rounds, TendsAfter, TendsNext}
-use Rattle.site_worker.specs.Steering.{Publishes, Relaunches}
+use Rattle.site_worker.specs.Rounds.{Attends, GoesRound, Rounds, TendsAfter, TendsNext}
+use Rattle.site_worker.specs.Steering.{Publishes, Relaunches, Surveys}
 use Rattle.site_worker.specs.declared.console.Overseen.{Overseen}
 use Rattle.site_worker.specs.declared.door.Attended.{Attended}
 use Rattle.round_lives.specs.Living.{IsOf, LivesOn}
 use Rattle.round_lives.specs.Laws.{is_accepted, is_order}
 use Rattle.round_lives.specs.Serving.{IsFinished, LivesFor, ServesAll}
 use Rattle.round_lives.proofs.Connected.{CourseIs, counts_cut, counts_whole, course_is, none_serves, served_cut, served_whole, serves_more, serves_then, told_given}
-use Rattle.round_lives.proofs.Stepped.{asks_lives, lives_then, publishes_lives, same_lives, sees_lives, starves_lives}
-use Rattle.round_lives.proofs.Visiting.{same_visits, tends_visits}
+use Rattle.round_lives.proofs.Stepped.{asks_lives, lives_then, publishes_lives, same_lives, sees_lives, starves_lives, surveys_lives}
+use Rattle.round_lives.proofs.Visiting.{same_visits, sees_visits, tends_visits, visits_then}
 
 -- ---- at a door
 
@@ -43,10 +43,15 @@ module _ (C : Config) (n w : ℕ) {X : Type 0} (wire : X → ConnWire) where
   tends_next c J K of (inl h) = same_visits C w J K of h.1
   tends_next c J K of (inr h) = tends_visits C w (c % length C.services) J K of h.1
 
+  goes_round : (c : ℕ) (J K : Life) → IsOf w J → GoesRound C c J K → LivesFor C w [] J K
+  goes_round c J K of h =
+      let first : LivesFor C w [] J h.0 = tends_next c J h.0 of h.1 in
+      visits_then C w [] [] J h.0 K first (sees_visits C w h.0 K first.lives.same h.2)
+
   tends_after : (c : ℕ) (what : Serving) (J K : Life) → IsOf w J → TendsAfter C c what J K → LivesFor C w [] J K
-  tends_after c (serving.Served a) J K of h = tends_next c J K of h
-  tends_after c (serving.ConnFault a) J K of h = tends_next c J K of h
-  tends_after c serving.NoConn J K of h = tends_next c J K of h
+  tends_after c (serving.Served a) J K of h = goes_round c J K of h
+  tends_after c (serving.ConnFault a) J K of h = goes_round c J K of h
+  tends_after c serving.NoConn J K of h = goes_round c J K of h
   tends_after c serving.NoneCame J K of h = same_visits C w J K of h
   tends_after c serving.NoMemory J K of h = same_visits C w J K of h
 
@@ -124,11 +129,12 @@ module _ (C : Config) (w : ℕ) where
   relaunches s r J K of (inl h) = asks_lives C w s h.0 J K of h.2
   relaunches s r J K of (inr h) = same_lives C w is_accepted J K of h.1
 
-  done : (line : ℕ) (o : Order) (bytes : List ℕ) (left : Option (List ℕ)) (J : Life) (a : Told) (K : Life) → IsOf w J → IsDone Publishes (Relaunches C) line o bytes left J a K → LivesOn C w is_accepted J K
+  done : (line : ℕ) (o : Order) (bytes : List ℕ) (left : Option (List ℕ)) (J : Life) (a : Told) (K : Life) → IsOf w J → IsDone Publishes (Relaunches C) (Surveys C) line o bytes left J a K → LivesOn C w is_accepted J K
   done line (order.Publish t size) bytes left J a K of (inl h) = publishes J t bytes h.1 K of h.2
   done line (order.Publish t size) bytes left J a K of (inr (inl h)) = same_lives C w is_accepted J K of h.3
   done line (order.Publish t size) bytes left J a K of (inr (inr h)) = same_lives C w is_accepted J K of h.2
   done line (order.Relaunch s) bytes left J a K of h = relaunches s h.1 J K of h.2
+  done line order.Status bytes left J a K of h = surveys_lives C w is_accepted h.1 J K refl of h.2
   done line order.End bytes left J a K of h = absurd h
   done line order.Stop bytes left J a K of h = absurd h
   done line (order.Refused broken size) bytes left J a K of h = same_lives C w is_accepted J K of h.2

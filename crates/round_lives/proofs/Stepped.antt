@@ -26,10 +26,12 @@ use Rattle.site_cells.specs.Held.{by_event}
 use Rattle.site_cells.specs.Row.{CellsSeen, seen_at}
 use Rattle.door_worker.specs.Asking.{Asked}
 use Rattle.launch_turns.specs.Deeds.{entries}
+use Rattle.admin_console.specs.declared.controls.Status.{Status}
 use Rattle.okld_launch.specs.declared.answer.Launched.{Launched as Launch}
 use Rattle.site_worker.specs.Handling.{Accepts, Talks, asker_of}
 use Rattle.site_worker.specs.Launching.{Asks, OnlyLauncher, launch_starved, with_launches}
 use Rattle.site_worker.specs.Lives.{Life, Sees, Starves, StarvesWhere, number_of}
+use Rattle.site_worker.specs.Steering.{Surveys}
 use Rattle.worker_lives.specs.Going.{GoesOn, entries_by}
 use Rattle.worker_lives.specs.Listing.{are_told, first_item, outcome_is_told}
 use Rattle.worker_lives.specs.Talking.{Had, SpokeLast, with_want}
@@ -230,6 +232,14 @@ asks_lives C w s answer J K of h =
 pub asks_lives_by : (C : Config) (w s : ℕ) (answer : Launch) (J K : Life) (of : IsOf w J) (h : Asks C s answer J K) → (asks_lives C w s answer J K of h).pieces ≡ with_wants (launch_starved answer) (map Launched h.events)
 unfolding asks_lives turned_lives
 asks_lives_by C w s answer J K of h = refl
+
+-- where the site was looked at, no piece is made
+pub surveys_lives : (C : Config) (w : ℕ) (forbidden : Piece → Bool) (told : Status) (J K : Life) → forbidden Wants ≡ false → IsOf w J → Surveys C J told K → LivesOn C w forbidden J K
+surveys_lives C w forbidden told J K wants of h =
+    let t = h.looks.turn in
+    let ends = turn_ends t false [] J.launcher.seen (ends_none J.launcher.seen) (λ before. refl) (calm_came false [] [] refl) in
+    let first : LivesOn C w forbidden J h.mid = turned_lives C w forbidden false [] J h.mid h.mid h.looks.before.journal.past wants refl of h.only (turn_grows t) (turn_enters t) refl ends refl in
+    lives_then C w forbidden J h.mid K first (sees_lives C w forbidden h.mid K first.same h.counts.sees)
 
 -- ---- a request
 

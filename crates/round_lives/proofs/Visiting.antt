@@ -25,7 +25,7 @@ use Rattle.launch_turns.specs.Turns.{TendsBy}
 use Rattle.okld_launch.specs.declared.answer.Crashed.{Crashed}
 use Rattle.site_worker.specs.Handling.{Accepts}
 use Rattle.site_worker.specs.Launching.{Reports, Tends, crash_starved, tend_starved}
-use Rattle.site_worker.specs.Lives.{Life, Starves}
+use Rattle.site_worker.specs.Lives.{Life, Sees, Starves}
 use Rattle.worker_lives.specs.Ending.{is_crash_there}
 use Rattle.worker_lives.specs.Going.{GoesOn}
 use Rattle.worker_lives.specs.Leading.{GoesBy, spoken as spoken_in}
@@ -36,7 +36,7 @@ use Rattle.worker_lives.proofs.Steps.{accepts_are_pieces, goings_join, rests_are
 use Rattle.round_lives.specs.Living.{EndsWell, IsOf, LivesOn, sights_of}
 use Rattle.round_lives.specs.Laws.{is_order}
 use Rattle.round_lives.specs.Serving.{LivesFor}
-use Rattle.round_lives.proofs.Awaited.{item_leads, turn_leads_on, want_leads, with_wants}
+use Rattle.round_lives.proofs.Awaited.{item_leads, same_leads, turn_leads_on, want_leads, with_wants}
 use Rattle.round_lives.proofs.Closing.{crash_ends, tend_ends}
 use Rattle.round_lives.proofs.Ended.{Came, calm_came, ends_none, ends_one, ends_seen, spoken_came, told_came, turn_ends, turn_enters, turn_grows, turn_past}
 use Rattle.round_lives.proofs.Entered.{BeginsWithCrash, Entered, Looks, crash_entered, is_crashed, tended_looks}
@@ -57,6 +57,20 @@ same_visits C w J K of is = subst (LivesFor C w [] J) (sym is) (record {
   lives = record { pieces = []; goes = rests_are_no_pieces C w (sights_of J) (sights_of J) refl ([], refl, refl) (λ s. refl); same = of; told = refl; allowed = refl; ends = ends_none J.launcher.seen; leads = λ items h. h };
   had = refl;
 })
+
+pub sees_visits : (C : Config) (w : ℕ) (J K : Life) → IsOf w J → Sees J.seen J K → LivesFor C w [] J K
+sees_visits C w J K of h = record {
+  lives = record {
+    pieces = [];
+    goes = subst (GoesOn C w [] (sights_of J)) (sym (sees_sights J K J.seen h)) (rests_are_no_pieces C w (sights_of J) (sights_of J) refl ([], refl, refl) (λ s. refl));
+    same = sees_of w J K J.seen h of;
+    told = refl;
+    allowed = refl;
+    ends = ends_seen J.launcher.seen J.launcher K.launcher [] h.launcher_is (ends_none J.launcher.seen);
+    leads = same_leads w J K h.launcher_is;
+  };
+  had = refl;
+}
 
 pub starves_visits : (C : Config) (w : ℕ) (visits : List Visit) (J K : Life) → AreVisits visits (visit.Starved ∷ []) → IsOf w J → Starves J K → LivesFor C w visits J K
 starves_visits C w visits J K had of h = record {

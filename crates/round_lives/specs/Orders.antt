@@ -28,10 +28,11 @@ pub record Taken : Type 0 where
   pub bytes : List ℕ
   pub answer : Answer
 
--- What a line that says this orders, with the bytes that follow it: nothing where it ends the console or the run, is refused by its words, or fewer bytes follow than it says.
+-- What a line that says this orders, with the bytes that follow it: nothing where it asks how the site stands, ends the console or the run, is refused by its words, or fewer bytes follow than it says.
 abbrev pub ordered_by : Said → List ℕ → Option Order
 ordered_by (said.Publish t size) bytes = if length bytes == size then Some (Publishes t bytes) else None
 ordered_by (said.Relaunch s) bytes = Some (Relaunches s)
+ordered_by said.Status bytes = None
 ordered_by said.End bytes = None
 ordered_by said.Stop bytes = None
 ordered_by (said.Refused rule size) bytes = None
@@ -43,6 +44,7 @@ became_of (answer.Relaunched k) = Obeyed
 became_of (answer.Dead tries) = Obeyed
 became_of (answer.Refused line rule) = Refused
 became_of answer.NoMemory = Starved
+became_of (answer.Status t) = Obeyed
 became_of (answer.Stopping n) = Obeyed
 
 -- The order of a command whose line says this, with what became of it, if it is one.
@@ -61,6 +63,7 @@ orders_in C commands = filter_map (order_in C) (reverse commands)
 abbrev pub AreBehind : Said → List ℕ → Option (List ℕ) → Type 0
 AreBehind (said.Publish t size) bytes left = AreFollowing size bytes left
 AreBehind (said.Relaunch s) bytes left = bytes ≡ []
+AreBehind said.Status bytes left = bytes ≡ []
 AreBehind said.End bytes left = ⊥
 AreBehind said.Stop bytes left = ⊥
 AreBehind (said.Refused rule size) bytes left = AreFollowing size bytes left

@@ -160,8 +160,8 @@ module _ (R : Record) (s : Sat) where
 
 module _ (C : Config) (t : TurnIs) (cells n : ℕ) (R : Record) (ended : ℕ → ℕ → Bool) (deeds : List Deed) (told : IsTold C n deeds R ended) where
   life_ends : (w : ℕ) (J : Life) (s : Sat) (c : CellsSeen) (a : SeatIs Deed) → IsChair t cells w s c a → IsChairOf J s c a → EndsIn R w (seen_of s)
-      → GrowsBy by_entry s.number s.pubd R.pubd → CellsGrow n c.number c.cells R.cells → GrowsBy by_deed a.number a.seen deeds → list_of R w ≡ s.own → ((u : ℕ) → u < length R.cells → slice_index s.board u ≤ begun R.launcher u) → LifeEnds n w J R ended
-  life_ends w J s c a h o columns pubd grown launcher list board =
+      → GrowsBy by_entry s.number s.okd R.okd → GrowsBy by_entry s.number s.pubd R.pubd → GrowsBy by_entry s.number s.oklogd R.oklogd → CellsGrow n c.number c.cells R.cells → GrowsBy by_deed a.number a.seen deeds → list_of R w ≡ s.own → ((u : ℕ) → u < length R.cells → slice_index s.board u ≤ begun R.launcher u) → LifeEnds n w J R ended
+  life_ends w J s c a h o columns okd pubd oklogd grown launcher list board =
       let seen : J.launcher.seen ≡ a.seen = ap (λ (x : SeatIs Deed). x.seen) o.launcher_is in
       let behind : Behind J.launcher.seen deeds = (launcher.0, launcher.2 ∙ ap (λ l. launcher.0 ++ l) (sym seen)) in
       let entered : Grows w (entries a.seen) R.launcher = subst (Grows w (entries a.seen)) (sym told.entries_are)
@@ -170,7 +170,9 @@ module _ (C : Config) (t : TurnIs) (cells n : ℕ) (R : Record) (ended : ℕ →
         number_is = ap (λ (x : CellsSeen). x.number) o.cells_is ∙ h.cells_number;
         own_is = ap (λ (S : Seen). S.own) o.seen_is ∙ sym list;
         columns = subst (EndsIn R w) (sym o.seen_is) columns;
+        okd = subst (λ I. Grows w I R.okd) (sym o.okd_is) (grows_foreign w s.okd R.okd (subst (λ k. GrowsBy by_entry k s.okd R.okd) h.sat_number okd));
         pubd = subst (λ I. Grows w I R.pubd) (sym o.pubd_is) (grows_foreign w s.pubd R.pubd (subst (λ k. GrowsBy by_entry k s.pubd R.pubd) h.sat_number pubd));
+        oklogd = subst (λ I. Grows w I R.oklogd) (sym o.oklogd_is) (grows_foreign w s.oklogd R.oklogd (subst (λ k. GrowsBy by_entry k s.oklogd R.oklogd) h.sat_number oklogd));
         cells = subst (λ (x : CellsSeen). CellsGrow n w x.cells R.cells) (sym o.cells_is) (subst (λ k. CellsGrow n k c.cells R.cells) h.cells_number grown);
         launcher = subst (λ (l : List Deed). Grows w (entries l) R.launcher) (sym seen) entered;
         turns = λ k l. none_behind k J.launcher.seen deeds behind (told.none k l);
@@ -187,7 +189,7 @@ module _ (C : Config) (t : TurnIs) (cells n : ℕ) (R : Record) (ended : ℕ →
   all_end w (J ∷ Js) (s ∷ ss) [] as' last h o g i j list board = absurd o
   all_end w (J ∷ Js) (s ∷ ss) (c ∷ cs) [] last h o g i j list board = absurd o
   all_end w (J ∷ Js) (s ∷ ss) (c ∷ cs) (a ∷ as') last h o g i j list board = (
-    life_ends w J s c a h.0 o.0 (columns_end R s w h.0.sat_number g.okd_grown.0 g.proxies_grown.0 g.pubd_grown.0 g.log_grown.0) g.pubd_grown.0 i.0 j.0.0 (list 0 w (omega arith)) board.0,
+    life_ends w J s c a h.0 o.0 (columns_end R s w h.0.sat_number g.okd_grown.0 g.proxies_grown.0 g.pubd_grown.0 g.log_grown.0) g.okd_grown.0 g.pubd_grown.0 g.log_grown.0 i.0 j.0.0 (list 0 w (omega arith)) board.0,
     all_end (suc w) Js ss cs as' last h.1 o.1 (record { okd_grown = g.okd_grown.1; proxies_grown = g.proxies_grown.1; pubd_grown = g.pubd_grown.1; log_grown = g.log_grown.1 }) i.1 j.1 (λ k m e. list (suc k) m (omega arith)) board.1,
   )
 

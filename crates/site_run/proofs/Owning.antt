@@ -287,7 +287,7 @@ module _ (C : Config) (n w : ℕ) where
 
   -- each thing that a worker does keeps it so
   pub owns_kept : IsKept C n (Owns C n w)
-  owns_kept = record { starves = starves_owned; turns = turns_owned; accepts = accepts_owned; talks = talks_owned; publishes = publishes_owned }
+  owns_kept = record { starves = starves_owned; sees = λ J K h o. sees_owned J K J.seen h o.columns (λ s. refl) o; turns = turns_owned; accepts = accepts_owned; talks = talks_owned; publishes = publishes_owned }
 
 -- ---- at last
 

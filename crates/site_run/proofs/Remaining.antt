@@ -24,7 +24,7 @@ use Rattle.admin_console.specs.declared.controls.Publishing.{Publishing}
 use Rattle.admin_console.specs.declared.controls.Publishing.TheVariants as publishing
 use Rattle.site_worker.specs.Handling.{Accepts, Talks, asker_of}
 use Rattle.site_worker.specs.Launching.{TakesTurn}
-use Rattle.site_worker.specs.Lives.{Life, Starves, number_of}
+use Rattle.site_worker.specs.Lives.{Life, Sees, Starves, number_of}
 use Rattle.site_worker.specs.Steering.{Publishes}
 use Rattle.site_run.proofs.Leaving.{cell_at}
 use Rattle.site_run.proofs.Rounding.{IsKept}
@@ -46,6 +46,9 @@ module _ (C : Config) (n r : ℕ) (I : List CellEvent) where
 
   starves_remains : (J K : Life) → Starves J K → Remains J → Remains K
   starves_remains J K h o = same_cells J K h.cells_is o
+
+  sees_remains : (J K : Life) → Sees J.seen J K → Remains J → Remains K
+  sees_remains J K h o = same_cells J K h.cells_is o
 
   turns_remains : (events : List LauncherEvent) (J K : Life) → TakesTurn events J K → Remains J → Remains K
   turns_remains events J K h o = same_cells J K (ap (λ (L : Life). L.cells) h.only) o
@@ -84,7 +87,7 @@ module _ (C : Config) (n r : ℕ) (I : List CellEvent) where
 
   -- each thing that a worker does keeps it so
   pub remains_kept : IsKept C n Remains
-  remains_kept = record { starves = starves_remains; turns = turns_remains; accepts = accepts_remains; talks = talks_remains; publishes = publishes_remains }
+  remains_kept = record { starves = starves_remains; sees = sees_remains; turns = turns_remains; accepts = accepts_remains; talks = talks_remains; publishes = publishes_remains }
 
 -- and so it stands in the record
 pub remained : (n w r : ℕ) (I : List CellEvent) (J : Life) (R : Record) (ended : ℕ → ℕ → Bool) → Behind I (seen_at J.cells r) → LifeEnds n w J R ended → Behind I (cell_past R r)

@@ -30,7 +30,7 @@ use Rattle.launch_turns.specs.Deeds.{entries, up_in}
 use Rattle.launch_turns.proofs.Deeds.{entries_behind, entries_both}
 use Rattle.site_worker.specs.Handling.{Accepts, Talks, asker_of}
 use Rattle.site_worker.specs.Launching.{TakesTurn}
-use Rattle.site_worker.specs.Lives.{Life, Starves, number_of}
+use Rattle.site_worker.specs.Lives.{Life, Sees, Starves, number_of}
 use Rattle.site_worker.specs.Steering.{Publishes}
 use Rattle.turn_lock.specs.Seats.{SeatIs}
 use Rattle.launch_turns.specs.declared.deed.Deed.{Deed}
@@ -63,6 +63,9 @@ module _ (C : Config) (n w : ℕ) (items : List Own) (seen : List Deed) where
 
   starves_more : (J K : Life) → Starves J K → Remembers C n w items seen J → Remembers C n w items seen K
   starves_more J K h r = noted_more J K (own.NoMemory ∷ []) h.launcher_is (ap (λ (S : Seen). S.own) h.seen_is) ((owns_kept C n w).starves J K h r.owns) r
+
+  sees_more : (J K : Life) → Sees J.seen J K → Remembers C n w items seen J → Remembers C n w items seen K
+  sees_more J K h r = noted_more J K [] h.launcher_is (ap (λ (S : Seen). S.own) h.seen_is) ((owns_kept C n w).sees J K h r.owns) r
 
   turns_more : (events : List LauncherEvent) (J K : Life) → TakesTurn events J K → Remembers C n w items seen J → Remembers C n w items seen K
   turns_more events J K h r =
@@ -115,7 +118,7 @@ module _ (C : Config) (n w : ℕ) (items : List Own) (seen : List Deed) where
 
   -- each thing that a worker does keeps it so
   pub remembers_kept : IsKept C n (Remembers C n w items seen)
-  remembers_kept = record { starves = starves_more; turns = turns_more; accepts = accepts_more; talks = talks_more; publishes = publishes_more }
+  remembers_kept = record { starves = starves_more; sees = sees_more; turns = turns_more; accepts = accepts_more; talks = talks_more; publishes = publishes_more }
 
   -- and so it stands in the record
   pub remembered : (K : Life) (R : Record) (ended : ℕ → ℕ → Bool) → Remembers C n w items seen K → LifeEnds n w K R ended → Behind items (list_of R w) × Behind (entries seen) R.launcher

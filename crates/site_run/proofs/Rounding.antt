@@ -19,6 +19,7 @@ use Rattle.door_worker.specs.declared.serving.Serving.TheVariants as serving
 use Rattle.admin_console.specs.Steps.{IsDone}
 use Rattle.admin_console.specs.declared.answer.Answer.{Answer}
 use Rattle.admin_console.specs.declared.controls.Publishing.{Publishing}
+use Rattle.admin_console.specs.declared.controls.Status.{Status}
 use Rattle.admin_console.specs.declared.order.Order.{Order}
 use Rattle.admin_console.specs.declared.order.Order.TheVariants as order
 use Rattle.admin_console.specs.declared.step.Stepped.{Stepped}
@@ -33,15 +34,16 @@ use Rattle.launch_turns.proofs.Deeds.{entries_grow}
 use Rattle.site_worker.specs.Commands.{Commands, Oversees, StepsAt}
 use Rattle.site_worker.specs.Handling.{Accepts, Follows, Goes, Handles, Talks}
 use Rattle.site_worker.specs.Launching.{Asks, OnlyLauncher, Reports, TakesTurn, Tends}
-use Rattle.site_worker.specs.Lives.{Life, Starves, StarvesWhere}
-use Rattle.site_worker.specs.Rounds.{Attends, Rounds, TendsAfter, TendsNext}
-use Rattle.site_worker.specs.Steering.{Publishes, Relaunches}
+use Rattle.site_worker.specs.Lives.{Life, Sees, Starves, StarvesWhere}
+use Rattle.site_worker.specs.Rounds.{Attends, GoesRound, Rounds, TendsAfter, TendsNext}
+use Rattle.site_worker.specs.Steering.{Publishes, Relaunches, Surveys}
 use Rattle.site_worker.specs.declared.console.Overseen.{Overseen}
 use Rattle.site_worker.specs.declared.door.Attended.{Attended}
 
 -- Each thing that a worker does keeps this of its life.
 pub record IsKept (C : Config) (n : ℕ) (P : Life → Type 0) : Type 0 where
   pub starves : (J K : Life) → Starves J K → P J → P K
+  pub sees : (J K : Life) → Sees J.seen J K → P J → P K
   pub turns : (events : List LauncherEvent) (J K : Life) → TakesTurn events J K → P J → P K
   pub accepts : (path : List ℕ) (goes : Way) (J K : Life) → Accepts C path goes J K → P J → P K
   pub talks : (asked : Asked) (s k : ℕ) (answer : Spoken) (J K : Life) → Talks C n asked s k answer J K → P J → P K
@@ -79,6 +81,9 @@ module _ (C : Config) (n : ℕ) (P : Life → Type 0) (kept : IsKept C n P) wher
   asks : (s : ℕ) (answer : Launched) (J K : Life) → Asks C s answer J K → P J → P K
   asks s answer J K h p = let t = h.relaunches in where_starved _ h.mid K h.notes (kept.turns h.events J h.mid (turned _ _ h.events J h.mid t.before t.after h.only t.turn) p)
 
+  surveys : (told : Status) (J K : Life) → Surveys C J told K → P J → P K
+  surveys told J K h p = kept.sees h.mid K h.counts.sees (kept.turns [] J h.mid (turned false false [] J h.mid h.looks.before h.looks.before h.only h.looks.turn) p)
+
   -- ---- a request
 
   follows : (s k : ℕ) (answer : Spoken) (became : Outcome) (reply : Replied) (J K : Life) → Follows C s k answer became reply J K → P J → P K
@@ -109,10 +114,13 @@ module _ (C : Config) (n : ℕ) (P : Life → Type 0) (kept : IsKept C n P) wher
   tends_next c J K (inl h) p = same J K h.1 p
   tends_next c J K (inr h) p = tends (c % length C.services) J K h.1 p
 
+  goes_round : (c : ℕ) (J K : Life) → GoesRound C c J K → P J → P K
+  goes_round c J K h p = kept.sees h.0 K h.2 (tends_next c J h.0 h.1 p)
+
   tends_after : (c : ℕ) (what : Serving) (J K : Life) → TendsAfter C c what J K → P J → P K
-  tends_after c (serving.Served a) J K h p = tends_next c J K h p
-  tends_after c (serving.ConnFault a) J K h p = tends_next c J K h p
-  tends_after c serving.NoConn J K h p = tends_next c J K h p
+  tends_after c (serving.Served a) J K h p = goes_round c J K h p
+  tends_after c (serving.ConnFault a) J K h p = goes_round c J K h p
+  tends_after c serving.NoConn J K h p = goes_round c J K h p
   tends_after c serving.NoneCame J K h p = same J K h p
   tends_after c serving.NoMemory J K h p = same J K h p
 
@@ -140,11 +148,12 @@ module _ (C : Config) (n : ℕ) (P : Life → Type 0) (kept : IsKept C n P) wher
   relaunches s r J K (inl h) p = asks s h.0 J K h.2 p
   relaunches s r J K (inr h) p = same J K h.1 p
 
-  done : (line : ℕ) (o : Order) (bytes : List ℕ) (left : Option (List ℕ)) (J : Life) (a : Answer) (K : Life) → IsDone Publishes (Relaunches C) line o bytes left J a K → P J → P K
+  done : (line : ℕ) (o : Order) (bytes : List ℕ) (left : Option (List ℕ)) (J : Life) (a : Answer) (K : Life) → IsDone Publishes (Relaunches C) (Surveys C) line o bytes left J a K → P J → P K
   done line (order.Publish t size) bytes left J a K (inl h) p = kept.publishes J t bytes h.1 K h.2 p
   done line (order.Publish t size) bytes left J a K (inr (inl h)) p = same J K h.3 p
   done line (order.Publish t size) bytes left J a K (inr (inr h)) p = same J K h.2 p
   done line (order.Relaunch s) bytes left J a K h p = relaunches s h.1 J K h.2 p
+  done line order.Status bytes left J a K h p = surveys h.1 J K h.2 p
   done line order.End bytes left J a K h p = absurd h
   done line order.Stop bytes left J a K h p = absurd h
   done line (order.Refused broken size) bytes left J a K h p = same J K h.2 p

@@ -171,4 +171,4 @@ module _ (C : Config) (n w : ℕ) where
 
   -- each thing that a worker does keeps it so
   pub shows_kept : IsKept C n (Shows w)
-  shows_kept = record { starves = starves_shown; turns = turns_shown; accepts = accepts_shown; talks = talks_shown; publishes = publishes_shown }
+  shows_kept = record { starves = starves_shown; sees = λ J K h o. sees_shown J K J.seen h o; turns = turns_shown; accepts = accepts_shown; talks = talks_shown; publishes = publishes_shown }

@@ -28,7 +28,9 @@ pub chair_of : (J : Life) (s : Sat) (c : CellsSeen) (a : SeatIs Deed) → J ≡ 
 chair_of J s c a e = record {
   seen_is = ap (λ (K : Life). K.seen) e;
   board_is = ap (λ (K : Life). K.board) e;
+  okd_is = ap (λ (K : Life). K.okd) e;
   pubd_is = ap (λ (K : Life). K.pubd) e;
+  oklogd_is = ap (λ (K : Life). K.oklogd) e;
   cells_is = ap (λ (K : Life). K.cells) e;
   launcher_is = ap (λ (K : Life). K.launcher) e;
 }
@@ -148,7 +150,9 @@ life_begins C n w J s c a u h =
     record {
       seen_is = subst (λ (items : List Own). J.seen ≡ record (nothing_seen (length C.proxies)) { own = items }) (sym own_is) seen_is;
       board_is = h.board_is ∙ ap (λ (x : Sat). x.board) u.sat_is;
+      okd = ap (of by_entry w) h.okd_is ∙ u.okd;
       pubd_is = h.pubd_is ∙ ap (λ (x : Sat). x.pubd) u.sat_is;
+      oklogd_is = h.oklogd_is ∙ ap (λ (x : Sat). x.oklogd) u.sat_is;
       cells = subst (IsSilent n (length C.services) w) (sym h.cells_is) u.cells;
       seat = ap (λ (x : SeatIs Deed). x.number) h.launcher_is ∙ u.seat;
       launches = subst (λ (items : List Own). OnlyLaunches w items J.launcher.seen) (sym own_is) (subst (OnlyLaunches w s.own) (sym past_is) u.launches);

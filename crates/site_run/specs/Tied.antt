@@ -116,7 +116,9 @@ Waiting C n x = AreWaiting C n 0 x.seats x.cells x.turns
 pub record IsChairOf (J : Life) (s : Sat) (c : CellsSeen) (a : SeatIs Deed) : Type 0 where
   pub seen_is : J.seen ≡ seen_of s
   pub board_is : J.board ≡ s.board
+  pub okd_is : J.okd ≡ s.okd
   pub pubd_is : J.pubd ≡ s.pubd
+  pub oklogd_is : J.oklogd ≡ s.oklogd
   pub cells_is : J.cells ≡ c
   pub launcher_is : J.launcher ≡ a
 
@@ -149,7 +151,9 @@ pub record MoreOf (Js : List Life) (x y : ChairsAre) : Type 0 where
 pub record LifeBegins (C : Config) (n w : ℕ) (J : Life) : Type 0 where
   pub seen_is : J.seen ≡ record (nothing_seen (length C.proxies)) { own = J.seen.own }
   pub board_is : J.board ≡ none_begun
+  pub okd : of by_entry w J.okd ≡ []
   pub pubd_is : J.pubd ≡ []
+  pub oklogd_is : J.oklogd ≡ []
   pub cells : IsSilent n (length C.services) w J.cells
   pub seat : J.launcher.number ≡ w
   pub launches : OnlyLaunches w J.seen.own J.launcher.seen
@@ -164,12 +168,14 @@ AllBegin C n w (J ∷ Js) = LifeBegins C n w J × AllBegin C n (suc w) Js
 abbrev pub has_begun : List (Entry LauncherEvent) → ℕ → ℕ → Bool
 has_begun J s k = list_any (λ (e : Entry LauncherEvent). is_begun_of s k e.event) J
 
--- A life of number w ends in a record: its own items are that number's list there, and each journal and each cell went on by entries of others alone from what it had seen there at last, pubd's also from what it saw where it entered nothing. The turns that it saw at the launcher are those of workers. What was begun in them has its Up in okd's journal just where it came up by them; and which child has ended by them, `ended` tells. It saw no incarnation on the board that was not begun.
+-- A life of number w ends in a record: its own items are that number's list there, and each journal and each cell went on by entries of others alone from what it had seen there at last, okd's, pubd's and oklogd's also from what it saw where it entered nothing. The turns that it saw at the launcher are those of workers. What was begun in them has its Up in okd's journal just where it came up by them; and which child has ended by them, `ended` tells. It saw no incarnation on the board that was not begun.
 pub record LifeEnds (n w : ℕ) (J : Life) (R : Record) (ended : ℕ → ℕ → Bool) : Type 0 where
   pub number_is : number_of J ≡ w
   pub own_is : J.seen.own ≡ list_of R w
   pub columns : EndsIn R w J.seen
+  pub okd : Grows w J.okd R.okd
   pub pubd : Grows w J.pubd R.pubd
+  pub oklogd : Grows w J.oklogd R.oklogd
   pub cells : CellsGrow n w J.cells.cells R.cells
   pub launcher : Grows w (entries J.launcher.seen) R.launcher
   pub turns : (k : ℕ) → n ≤ k → of by_deed k J.launcher.seen ≡ []

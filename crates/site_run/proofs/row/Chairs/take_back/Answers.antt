@@ -26,4 +26,4 @@ returns-clause-whose g c =
     (c.push_reserved.ensures.items ∙ ap (λ (x : ChairsAre). x.seats ++ s ∷ []) c.self.view_is)
     (c.push_reserved-2.ensures.items ∙ ap (λ (x : ChairsAre). x.cells ++ a ∷ []) c.self.view_is)
     (c.push_reserved-3.ensures.items ∙ ap (λ (x : ChairsAre). x.turns ++ b ∷ []) c.self.view_is)
-    (record { seen_is = sym e.columns.0; board_is = sym e.columns.1; pubd_is = sym e.columns.2; cells_is = sym e.cells; launcher_is = sym e.launcher })
+    (record { seen_is = sym e.columns.0; board_is = sym e.columns.1; okd_is = sym e.columns.2; pubd_is = sym e.columns.3; oklogd_is = sym e.columns.4; cells_is = sym e.cells; launcher_is = sym e.launcher })

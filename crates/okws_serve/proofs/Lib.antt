@@ -8,6 +8,7 @@ pub mod Running
 pub mod Finishing
 pub mod Stationing
 pub mod Spent
+pub mod Surveyed
 pub mod Serving
 pub mod Surviving
 pub mod Listing

@@ -32,6 +32,7 @@ use Rattle.okws_serve.specs.Posts.{DoorIs, AttendedBy, Concludes}
 use Rattle.okws_serve.specs.declared.outfit.Ending.{Ending}
 use Rattle.okws_serve.specs.Manned.{AllAttended, ConsoleDone, DoorsDone, lives_of, served_of}
 use Rattle.okws_serve.proofs.Spent.{oversees_spent}
+use Rattle.okws_serve.proofs.Surveyed.{oversees_surveyed, past_ended}
 use Rattle.okws_serve.proofs.Finishing.{attended_same}
 use Rattle.okws_serve.proofs.Counting.{one_below, below, below-all, below-from, one-below, none-below, sum_below, sum-all, sum-last, last-below}
 
@@ -368,6 +369,7 @@ console_ends C n R ended w z most life old new last e d end = record {
   goes_out = goes_out most d.how d.mid new d.place last e d.concludes;
   left = end;
   spent = oversees_spent C R w old d.mid 0 d.lines d.before life d.how d.oversees end.pubd;
+  surveyed = oversees_surveyed C R old d.mid 0 d.lines d.before life d.how d.oversees (past_ended n w life R ended end);
 }
 
 -- there are as many doors as before

@@ -20,13 +20,14 @@ use Rattle.admin_console.specs.declared.answer.Answer.{Answer}
 use Rattle.admin_console.specs.declared.controls.Publishing.{Publishing}
 use Rattle.admin_console.specs.declared.controls.Publishing.TheVariants as publishing
 use Rattle.admin_console.specs.declared.controls.Relaunching.{Relaunching}
+use Rattle.admin_console.specs.declared.controls.Status.{Status}
 use Rattle.admin_console.specs.declared.order.Order.{Order}
 use Rattle.admin_console.specs.declared.order.Order.TheVariants as order
 use Rattle.admin_console.specs.declared.step.Stepped.{Stepped}
 use Rattle.admin_console.specs.declared.step.Stepped.TheVariants as stepped
 use Rattle.site_worker.specs.Commands.{Commands, Oversees, StepsAt}
 use Rattle.site_worker.specs.Lives.{Life, Starves, StarvesWhere}
-use Rattle.site_worker.specs.Steering.{Publishes, Relaunches}
+use Rattle.site_worker.specs.Steering.{Publishes, Relaunches, Surveys}
 use Rattle.site_worker.specs.declared.console.Overseen.{Overseen}
 use Rattle.okws_serve.specs.Spent.{IsSpent, IsSpentFor, StepSpent, AllSpent, OverseesSpent}
 
@@ -92,6 +93,11 @@ relaunches_then C J s r K P (inl h) b =
     subst (λ I. Behind I P) (ap (λ (x : Life). x.pubd) h.2.only) mid
 relaunches_then C J s r K P (inr h) b = same_then J K P h.1 b
 
+surveys_then : (C : Config) (J : Life) (told : Status) (K : Life) (P : List (Entry PubdEvent)) → Surveys C J told K → Behind K.pubd P → Behind J.pubd P
+surveys_then C J told K P h b =
+    let mid : Behind h.mid.pubd P = behind_then h.mid.pubd K.pubd P (h.counts.sees.pubd h.mid.pubd ([], refl)) b in
+    subst (λ I. Behind I P) (ap (λ (x : Life). x.pubd) h.only) mid
+
 published_then : (line t size : ℕ) (bytes : List ℕ) (left : Option (List ℕ)) (J : Life) (a : Answer) (K : Life) (P : List (Entry PubdEvent))
     → IsPublished Publishes line t size bytes left J a K → Behind K.pubd P → Behind J.pubd P
 published_then line t size bytes left J a K P (inl h) b = publishes_then J t bytes h.1 K P h.2 b
@@ -99,9 +105,10 @@ published_then line t size bytes left J a K P (inr (inl h)) b = same_then J K P 
 published_then line t size bytes left J a K P (inr (inr h)) b = same_then J K P h.2 b
 
 done_then : (C : Config) (line : ℕ) (o : Order) (bytes : List ℕ) (left : Option (List ℕ)) (J : Life) (a : Answer) (K : Life) (P : List (Entry PubdEvent))
-    → IsDone Publishes (Relaunches C) line o bytes left J a K → Behind K.pubd P → Behind J.pubd P
+    → IsDone Publishes (Relaunches C) (Surveys C) line o bytes left J a K → Behind K.pubd P → Behind J.pubd P
 done_then C line (order.Publish t size) bytes left J a K P h b = published_then line t size bytes left J a K P h b
 done_then C line (order.Relaunch s) bytes left J a K P h b = relaunches_then C J s h.1 K P h.2 b
+done_then C line order.Status bytes left J a K P h b = surveys_then C J h.1 K P h.2 b
 done_then C line order.End bytes left J a K P h b = absurd h
 done_then C line order.Stop bytes left J a K P h b = absurd h
 done_then C line (order.Refused broken size) bytes left J a K P h b = same_then J K P h.2 b
@@ -126,9 +133,10 @@ module _ (C : Config) (R : Record) where
   published_spent line t size bytes left J a K (inr (inl h)) b = subst (IsSpentFor R t) (sym h.2) tt
   published_spent line t size bytes left J a K (inr (inr h)) b = subst (IsSpentFor R t) (sym h.1) tt
 
-  done_spent : (line : ℕ) (o : Order) (bytes : List ℕ) (left : Option (List ℕ)) (J : Life) (a : Answer) (K : Life) → IsDone Publishes (Relaunches C) line o bytes left J a K → Behind K.pubd R.pubd → IsSpent R o a
+  done_spent : (line : ℕ) (o : Order) (bytes : List ℕ) (left : Option (List ℕ)) (J : Life) (a : Answer) (K : Life) → IsDone Publishes (Relaunches C) (Surveys C) line o bytes left J a K → Behind K.pubd R.pubd → IsSpent R o a
   done_spent line (order.Publish t size) bytes left J a K h b = published_spent line t size bytes left J a K h b
   done_spent line (order.Relaunch s) bytes left J a K h b = tt
+  done_spent line order.Status bytes left J a K h b = tt
   done_spent line order.End bytes left J a K h b = tt
   done_spent line order.Stop bytes left J a K h b = tt
   done_spent line (order.Refused broken size) bytes left J a K h b = tt

@@ -19,6 +19,7 @@ use Rattle.admin_console.specs.declared.step.Stepped.{Stepped}
 use Rattle.site_run.specs.Tied.{LifeBegins, LifeEnds}
 use Rattle.okws_serve.specs.Posts.{is_cut}
 use Rattle.okws_serve.specs.Spent.{OverseesSpent}
+use Rattle.okws_serve.specs.Surveyed.{AllSurveyed, StepSurveyed}
 use Rattle.okws_serve.specs.declared.outfit.Ending.{Ending}
 
 -- What was done at a door: so many connections were served whole, so many were cut, and so many did not come; and so many were awaited when the run was stopped, and did not come.
@@ -106,7 +107,7 @@ GoesOut overseen.Finished mid new e = (new ≡ mid) × (e.stopped ≡ None) × (
 GoesOut overseen.ConsoleFault mid new e = (new ≡ mid) × (e.stopped ≡ None) × (e.failed ≡ true)
 GoesOut overseen.Stop mid new e = (n : ℕ) × (e.stopped ≡ Some n) × (what : Stepped) × Tells mid new (answer.Stopping n) what × (e.failed ≡ is_cut what)
 
--- A console of a site was overseen from its first line by a worker of number w, whose life began there and ended in the record: its commands were carried out and answered one after the other, to `end`, `stop` or its end, or until a call of it failed. Where a publication was refused since all editions of its template are spent, the record has as many as a template may have. Number n launches.
+-- A console of a site was overseen from its first line by a worker of number w, whose life began there and ended in the record: its commands were carried out and answered one after the other, to `end`, `stop` or its end, or until a call of it failed. Where a publication was refused since all editions of its template are spent, the record has as many as a template may have. Each number of a status is counted of what a journal of the record was before. Number n launches.
 pub record ServesConsole (C : Config) (n : ℕ) (R : Record) (ended : ℕ → ℕ → Bool) (w : ℕ) (old new : ConnWire) (e : Ending) : Type 0 where
   pub lines : ℕ
   pub before : Life
@@ -118,3 +119,4 @@ pub record ServesConsole (C : Config) (n : ℕ) (R : Record) (ended : ℕ → �
   pub goes_out : GoesOut how mid new e
   pub left : LifeEnds n w after R ended
   pub spent : OverseesSpent C R old mid 0 lines before after how oversees
+  pub surveyed : AllSurveyed C R oversees.answers × StepSurveyed C R oversees.last

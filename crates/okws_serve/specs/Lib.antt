@@ -1,5 +1,6 @@
 pub mod Posts
 pub mod Spent
+pub mod Surveyed
 pub mod Doors
 pub mod Opened
 pub mod Manned

@@ -122,7 +122,7 @@ fn all_follow(lines: &[Line<'_>]) -> bool {
 
 /// Whether a storm of this weather, which ended well, has a legal record, in which no service asks
 /// before it was installed.
-fn is_lawful(rt: &impl Abort, alloc: Global, weather: &Weather<'_>, storm: &Storm) -> bool {
+pub fn is_lawful(rt: &impl Abort, alloc: Global, weather: &Weather<'_>, storm: &Storm) -> bool {
     let ran = &storm.ran;
     holds(rt, !ran.starved, "starved");
     holds(rt, !ran.console_failed, "the console");

@@ -18,6 +18,8 @@ mod says;
 #[cfg(test)]
 mod site;
 #[cfg(test)]
+mod status;
+#[cfg(test)]
 mod storm;
 #[cfg(test)]
 mod tables;

@@ -688,6 +688,26 @@ def what_has_begun_is_answered_behind_a_stop():
         same(server.process.stdout.read().decode(), counts(sum(whole), sum(whole), 2, 0, 0))
         assert sum(whole) <= int(answer[1]) <= sum(whole) + doors, (sum(whole), answer)
 
+def a_status_tells_how_a_site_stands():
+    with Server(SITE % './svc_probe', 4) as server:
+        same(server.answers(b'status\n'), b'status 0 0 2 0 0 2 0 0\n')
+        same(get(server.port), ANN_AND_BOB)
+        same(post(server.port, 'id=3&who=cy&note=ho'), response('303 See Other', '', '/guest'))
+        same(get(server.port, '/nobody'), own('404 Not Found'))
+        same(server.answers(b'publish page 2\nab'), b'published 1\n')
+        same(server.answers(b'relaunch other\n'), b'relaunched 2\n')
+        # A client has its answer before a service is looked after behind it.
+        wait_until(lambda: server.answers(b'status\n') == b'status 3 3 3 1 1 2 0 0\n')
+        with socket.create_connection(('127.0.0.1', server.port), 30):
+            same(server.answers(b'status\n'), b'status 3 3 3 1 1 2 0 0\n')
+        same(server.ends(), (counts(4, 3, 3, 1, 1), 0))
+
+def a_status_tells_what_was_given_up():
+    with Server(SITE % './svc_none', 0) as server:
+        same(server.answers(b'status\n'), b'status 0 0 1 0 0 1 0 1\n')
+        same(server.answers(b'status now\n'), b'refused 2 1\n')
+        same(server.ends(), (counts(0, 0, 1, 0, 0), 0))
+
 def no_client_waits_behind_the_last_connection():
     with Server(SITE % './svc_probe', 2) as server:
         for _ in range(2):
@@ -713,6 +733,7 @@ CHECKS = [
     rows_of_tables_or_columns_in_another_order_are_refused, who_holds_a_file_of_rows_for_a_moment_is_waited_for, a_page_of_many_places_is_refused_soon,
     silent_clients_keep_no_door, a_slow_client_is_cut_off, a_client_may_take_its_time_within_its_patience, a_server_without_end_outlives_its_console,
     a_stop_ends_a_run_whose_console_is_open, a_stop_tells_no_more_than_were_asked_for, what_has_begun_is_answered_behind_a_stop, no_client_waits_behind_the_last_connection,
+    a_status_tells_how_a_site_stands, a_status_tells_what_was_given_up,
 ]
 passed = failed = 0
 for check in CHECKS:

@@ -144,31 +144,30 @@ begun_mode C R w s k path items d f goes next =
     rw (accept_mode C R w path items (way.To s k) f goes, eq-eqb s s refl, next, eq-eqb k k refl) refl
 
 -- a dialog fits the entries that follow it
-dialog_fits : (C : Config) (R : Record) (w s k : ℕ) (since left due head content : List ℕ) (S now : Seen) (d : Dialog) (next : Option Own) (taken : List Own) → length R.proxies ≡ length C.proxies
+dialog_fits : (C : Config) (R : Record) (w s k : ℕ) (since left head content : List ℕ) (S now : Seen) (d : Dialog) (next : Option Own) (taken : List Own) → length R.proxies ≡ length C.proxies
     → Kept C w (noted S (own.Dialog s)) → Kept C w now → Since (noted S (own.Dialog s)) (all_of R) → Since now (all_of R) → now.own ≡ taken ++ own.Dialog s ∷ S.own → next_dialog R w s S.own ≡ Some (k, d)
-    → IsDialog C (record { worker = w; service = s; incarnation = k }) since left due head content (noted S (own.Dialog s)) d.items d.end now
+    → IsDialog C (record { worker = w; service = s; incarnation = k }) since left d.due head content (noted S (own.Dialog s)) d.items d.end now
     → IsFitting C R w (record { service = s; earlier = S.own; until = taken ++ own.Dialog s ∷ S.own; next = next })
-dialog_fits C R w s k since left due head content S now d next taken many before after from_before from_after own_is found is =
+dialog_fits C R w s k since left head content S now d next taken many before after from_before from_after own_is found is =
     let first : seen_after R w (own.Dialog s ∷ S.own) ≡ noted S (own.Dialog s) = placed C R w (noted S (own.Dialog s)) many before from_before in
     let last : seen_after R w (taken ++ own.Dialog s ∷ S.own) ≡ now = ap (seen_after R w) (sym own_is) ∙ placed C R w now many after from_after in
     subst (FitsEntries C R w (record { service = s; earlier = S.own; until = taken ++ own.Dialog s ∷ S.own; next = next })) (sym found) (
       since,
       left,
-      due,
       head,
       content,
-      subst (λ (x : Seen). IsDialog C (record { worker = w; service = s; incarnation = k }) since left due head content x d.items d.end (seen_after R w (taken ++ own.Dialog s ∷ S.own))) (sym first)
-          (subst (λ (x : Seen). IsDialog C (record { worker = w; service = s; incarnation = k }) since left due head content (noted S (own.Dialog s)) d.items d.end x) (sym last) is),
+      subst (λ (x : Seen). IsDialog C (record { worker = w; service = s; incarnation = k }) since left d.due head content x d.items d.end (seen_after R w (taken ++ own.Dialog s ∷ S.own))) (sym first)
+          (subst (λ (x : Seen). IsDialog C (record { worker = w; service = s; incarnation = k }) since left d.due head content (noted S (own.Dialog s)) d.items d.end x) (sym last) is),
     )
 
-spoke_fits : (C : Config) (R : Record) (w s k : ℕ) (since left due head content path : List ℕ) (mid S now : Seen) (d : Dialog) → length R.proxies ≡ length C.proxies → Kept C w S
+spoke_fits : (C : Config) (R : Record) (w s k : ℕ) (since left head content path : List ℕ) (mid S now : Seen) (d : Dialog) → length R.proxies ≡ length C.proxies → Kept C w S
     → S.own ≡ own.Okd (okd.Accept path) ∷ mid.own → Fits C R w mid.own → way_at C R w mid.own path ≡ way.To s k → Since now (all_of R) → next_dialog R w s S.own ≡ Some (k, d)
-    → IsDialog C (record { worker = w; service = s; incarnation = k }) since left due head content (noted S (own.Dialog s)) d.items d.end now → Fits C R w now.own
-spoke_fits C R w s k since left due head content path mid S now d many kept own_is fits goes from_now found is =
+    → IsDialog C (record { worker = w; service = s; incarnation = k }) since left d.due head content (noted S (own.Dialog s)) d.items d.end now → Fits C R w now.own
+spoke_fits C R w s k since left head content path mid S now d many kept own_is fits goes from_now found is =
     let who : Speaker = record { worker = w; service = s; incarnation = k } in
     let begun : Steps (length C.proxies) w S (noted S (own.Dialog s)) = begun_steps (length C.proxies) w s S in
     let before : Kept C w (noted S (own.Dialog s)) = record { owns = begun.owns kept.owns; trimmed = begun.trimmed kept.trimmed } in
-    let went : Went C who (noted S (own.Dialog s)) now = went_of C w s k since left due head content S now d kept.owns is in
+    let went : Went C who (noted S (own.Dialog s)) now = went_of C w s k since left d.due head content S now d kept.owns is in
     let after : Kept C w now = record { owns = went.owns; trimmed = went.trimmed before.trimmed } in
     let from_before : Since (noted S (own.Dialog s)) (all_of R) = since_then (noted S (own.Dialog s)) now (all_of R) went.since from_now in
     let there : next_dialog R w s (own.Okd (okd.Accept path) ∷ mid.own) ≡ Some (k, d) = ap (next_dialog R w s) (sym own_is) ∙ found in
@@ -178,7 +177,7 @@ spoke_fits C R w s k since left due head content path mid S now d many kept own_
     subst (Fits C R w) (sym went.taken_is) (record {
       whole = ap is_whole (speaks_on C R w s (own.Dialog s ∷ S.own) went.taken speaking went.entries);
       each = λ next. subst (Each (IsFitting C R w)) (sym (talks_taken s next went.taken S.own went.entries))
-          (dialog_fits C R w s k since left due head content S now d next went.taken many before after from_before from_now went.taken_is found is, rest (Some (own.Dialog s)));
+          (dialog_fits C R w s k since left head content S now d next went.taken many before after from_before from_now went.taken_is found is, rest (Some (own.Dialog s)));
     })
 
 to_fits : (C : Config) (R : Record) (w s k : ℕ) (head content path : List ℕ) (mid S : Seen) (outcome : Outcome) (now : Seen) → length R.proxies ≡ length C.proxies → Kept C w S
@@ -191,7 +190,7 @@ to_fits C R w s k head content path mid S IsMissed now many kept own_is fits goe
 to_fits C R w s k head content path mid S WantsMemory now many kept own_is fits goes from_now f =
     let own_now : now.own ≡ own.NoMemory ∷ own.Okd (okd.Accept path) ∷ mid.own = ap (λ (x : Seen). x.own) f ∙ ap (λ (items : List Own). own.NoMemory ∷ items) own_is in
     subst (Fits C R w) (sym own_now) (starved_fits C R w s k path mid.own fits goes)
-to_fits C R w s k head content path mid S (Spoke t j d) now many kept own_is fits goes from_now f = spoke_fits C R w s k f.3 f.4 f.5 head content path mid S now d many kept own_is fits goes from_now f.2 f.6
+to_fits C R w s k head content path mid S (Spoke t j d) now many kept own_is fits goes from_now f = spoke_fits C R w s k f.3 f.4 head content path mid S now d many kept own_is fits goes from_now f.2 f.5
 
 follows_fit : (C : Config) (R : Record) (w : ℕ) (v : Way) (head content path : List ℕ) (mid S : Seen) (outcome : Outcome) (now : Seen) → length R.proxies ≡ length C.proxies → Kept C w S
     → S.own ≡ own.Okd (okd.Accept path) ∷ mid.own → Fits C R w mid.own → way_at C R w mid.own path ≡ v → Since now (all_of R) → Follows C R w v head content S outcome now → Fits C R w now.own

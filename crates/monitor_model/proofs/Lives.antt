@@ -88,7 +88,7 @@ to_steps C R w s k head content S IsMissed now o f = missed_steps (length C.prox
 to_steps C R w s k head content S WantsMemory now o f = wants_steps (length C.proxies) w S now f
 to_steps C R w s k head content S (Spoke t j d) now o f =
     then_steps (length C.proxies) w S (noted S (own.Dialog s)) now (begun_steps (length C.proxies) w s S)
-    (went_steps C (record { worker = w; service = s; incarnation = k }) (noted S (own.Dialog s)) now (went_of C w s k f.3 f.4 f.5 head content S now d o f.6))
+    (went_steps C (record { worker = w; service = s; incarnation = k }) (noted S (own.Dialog s)) now (went_of C w s k f.3 f.4 d.due head content S now d o f.5))
 
 pub follows_steps : (C : Config) (R : Record) (w : ℕ) (v : Way) (head content : List ℕ) (S : Seen) (outcome : Outcome) (now : Seen) → OwnsEntries (length C.proxies) w S → Follows C R w v head content S outcome now
     → Steps (length C.proxies) w S now

@@ -107,8 +107,8 @@ ended_same how how' n m is at = ap (λ (e : End). after_end e n) is ∙ ap (afte
 pub alike_closed : (s : ℕ) (opened opened' : Opened) (how how' : End) (S T : Stage) → how ≡ how' → Alike S T → Alike (closed s opened how S) (closed s opened' how' T)
 alike_closed s opened opened' how how' S T is a =
     let there : AlikeStand (stand S s) (stand T s) = alike_at s S T a in
-    let x : Stand = record (stand S s) { past = cell.Dialog (record { worker = 0; items = opened.items; end = how }) ∷ (stand S s).past; open_dialog = None } in
-    let y : Stand = record (stand T s) { past = cell.Dialog (record { worker = 0; items = opened'.items; end = how' }) ∷ (stand T s).past; open_dialog = None } in
+    let x : Stand = record (stand S s) { past = cell.Dialog (record { worker = 0; items = opened.items; end = how; due = [] }) ∷ (stand S s).past; open_dialog = None } in
+    let y : Stand = record (stand T s) { past = cell.Dialog (record { worker = 0; items = opened'.items; end = how'; due = [] }) ∷ (stand T s).past; open_dialog = None } in
     let now : AlikeStand x y
     = record { here = ended_same how how' (incarnation (stand S s).past) (incarnation (stand T s).past) is there.here; last = there.last; left = there.left; ended = there.ended; open_is = refl } in
     alike_stand s (Script.settled x) (Script.settled y) S T (alike_settled x y now) a

@@ -66,7 +66,7 @@ to_visits C R w s k head content path mid S WantsMemory now all kept own_is fits
     ∙ ap (λ (items : List Own). visits_to C R w (Some own.NoMemory) items) own_is
     ∙ rw (goes) (ap (λ (more : List Visit). visit.Accepted path WantsMemory ∷ more) (rest (Some (own.Okd (okd.Accept path)))))
 to_visits C R w s k head content path mid S (Spoke t j d) now all kept own_is fits goes rest f next =
-    let went = went_of C w s k f.3 f.4 f.5 head content S now d kept.owns f.6 in
+    let went = went_of C w s k f.3 f.4 d.due head content S now d kept.owns f.5 in
     let there : next_dialog R w s (own.Okd (okd.Accept path) ∷ mid.own) ≡ Some (k, d) = ap (next_dialog R w s) (sym own_is) ∙ f.2 in
     let accepted_visit : visits_to C R w (Some (own.Dialog s)) (own.Okd (okd.Accept path) ∷ mid.own) ≡ visit.Accepted path (Spoke s k d) ∷ all
     = rw (goes, there) (ap (λ (more : List Visit). visit.Accepted path (Spoke s k d) ∷ more) (rest (Some (own.Okd (okd.Accept path))))) in

@@ -12,6 +12,7 @@ use Rattle.okws_plan.specs.declared.event.PubdEvent.{PubdEvent}
 use Rattle.okws_plan.specs.declared.event.PubdEvent.TheVariants as pubd
 use Rattle.okws_plan.specs.declared.event.LogEvent.{LogEvent}
 use Rattle.okws_plan.specs.declared.event.LogEvent.TheVariants as oklogd
+use Rattle.frame_codec.specs.Spelling.{server_spelling}
 use Rattle.frame_codec.specs.declared.frame.ServiceFrame.{ServiceFrame}
 use Rattle.frame_codec.specs.declared.frame.ServiceFrame.TheVariants.{Open, Call, Get, Log, Reply}
 use Rattle.frame_codec.specs.declared.frame.ServerFrame.{ServerFrame}
@@ -24,7 +25,7 @@ use Rattle.monitor_model.specs.declared.record.Item.{Item}
 use Rattle.monitor_model.specs.declared.record.Item.TheVariants.{Heard, Said}
 use Rattle.monitor_model.specs.declared.record.Record.{Record}
 use Rattle.monitor_model.specs.Cell.{incarnation}
-use Rattle.monitor_model.specs.Course.{Speaker, EndsInReply, called, got_frame, is_declared, noted_frame, opening, said_count, verdict_frame}
+use Rattle.monitor_model.specs.Course.{Speaker, EndsInReply, IsNextOf, called, got_frame, is_declared, noted_frame, opening, said_count, verdict_frame}
 use Rattle.monitor_model.specs.Logd.{log_verdict}
 use Rattle.monitor_model.specs.Proxy.{call_verdict, open_verdict}
 use Rattle.monitor_model.specs.Pubd.{drain_verdict, get_verdict}
@@ -66,17 +67,17 @@ AreAnsweredIn C R w opened (Said said ∷ items) = ⊥
 abbrev pub IsFront : List Item → List Item → Type 0
 IsFront opened items = (rest : List Item) × (opened ≡ rest ++ items)
 
--- How the items, the newest first, fit the end of a dialog with this opening.
-abbrev pub EndsIn : Config → Record → Speaker → List Item → List Item → End → Type 0
-EndsIn C R w opened items end.Reply = (before : List Item) × EndsInReply items before × AreAnsweredIn C R w opened before × (said_count items ≤ MOST_FRAMES)
-EndsIn C R w opened items (end.Superseded shown) = (w.incarnation < shown) × AreAnsweredIn C R w opened items × (said_count items ≤ MOST_FRAMES)
-EndsIn C R w opened items end.BadFrame = AreAnsweredIn C R w opened items × (said_count items ≤ MOST_FRAMES)
-EndsIn C R w opened items end.Ended = AreAnsweredIn C R w opened items × (said_count items ≤ MOST_FRAMES)
-EndsIn C R w opened items end.FrameLimit = (said : ServiceFrame) × (before : List Item) × (items ≡ Said said ∷ before) × AreAnsweredIn C R w opened before × (said_count before ≡ MOST_FRAMES)
-EndsIn C R w opened items end.LinkFault =
-    (said_count items ≤ MOST_FRAMES) × (IsFront opened items ⊎ AreAnsweredIn C R w opened items
-    ⊎ ((said : ServiceFrame) × (heard : ServerFrame) × (before : List Item) × (items ≡ Said said ∷ before) × AreAnsweredIn C R w opened before × AnswersIn C R w said heard))
-EndsIn C R w opened items end.Starved =
+-- How the items, the newest first, fit the end of a dialog with this opening, and what was due as its link failed.
+abbrev pub EndsIn : Config → Record → Speaker → List ℕ → List Item → List Item → End → Type 0
+EndsIn C R w due opened items end.Reply = (before : List Item) × EndsInReply items before × AreAnsweredIn C R w opened before × (said_count items ≤ MOST_FRAMES)
+EndsIn C R w due opened items (end.Superseded shown) = (w.incarnation < shown) × AreAnsweredIn C R w opened items × (said_count items ≤ MOST_FRAMES)
+EndsIn C R w due opened items end.BadFrame = AreAnsweredIn C R w opened items × (said_count items ≤ MOST_FRAMES)
+EndsIn C R w due opened items end.Ended = AreAnsweredIn C R w opened items × (said_count items ≤ MOST_FRAMES)
+EndsIn C R w due opened items end.FrameLimit = (said : ServiceFrame) × (before : List Item) × (items ≡ Said said ∷ before) × AreAnsweredIn C R w opened before × (said_count before ≡ MOST_FRAMES)
+EndsIn C R w due opened items end.LinkFault =
+    (said_count items ≤ MOST_FRAMES) × ((IsFront opened items × IsNextOf opened items due) ⊎ (AreAnsweredIn C R w opened items × (due ≡ []))
+    ⊎ ((said : ServiceFrame) × (heard : ServerFrame) × (before : List Item) × (items ≡ Said said ∷ before) × AreAnsweredIn C R w opened before × AnswersIn C R w said heard × (due ≡ server_spelling heard)))
+EndsIn C R w due opened items end.Starved =
     (said_count items ≤ MOST_FRAMES) × (IsFront opened items ⊎ AreAnsweredIn C R w opened items
     ⊎ ((said : ServiceFrame) × (before : List Item) × (items ≡ Said said ∷ before) × AreAnsweredIn C R w opened before))
 
@@ -87,10 +88,10 @@ OpensIn C R w opened =
     × (opened ≡ opening (drain_verdict C before w.service w.incarnation) (frame.Request head content))
 
 -- A dialog of an incarnation was superseded before its Drain; or its Drain was entered, and what it heard and said fits its end.
-abbrev pub IsDialogIn : Config → Record → Speaker → List Item → End → Type 0
-IsDialogIn C R w items how =
+abbrev pub IsDialogIn : Config → Record → Speaker → List ℕ → List Item → End → Type 0
+IsDialogIn C R w due items how =
     ((shown : ℕ) × (how ≡ end.Superseded shown) × (w.incarnation < shown) × (items ≡ []))
-    ⊎ ((opened : List Item) × OpensIn C R w opened × EndsIn C R w opened items how)
+    ⊎ ((opened : List Item) × OpensIn C R w opened × EndsIn C R w due opened items how)
 
 -- A dialog that is open has its Drain, and each frame that was said in it has its answer.
 abbrev pub IsOpenIn : Config → Record → Speaker → List Item → Type 0
@@ -102,7 +103,7 @@ speaker_of w s J = record { worker = w; service = s; incarnation = incarnation J
 
 -- A dialog of cell s, on the events J before it, fits the record's journals.
 abbrev pub IsEventIn : Config → Record → ℕ → List CellEvent → CellEvent → Type 0
-IsEventIn C R s J (cell.Dialog d) = IsDialogIn C R (speaker_of d.worker s J) d.items d.end
+IsEventIn C R s J (cell.Dialog d) = IsDialogIn C R (speaker_of d.worker s J) d.due d.items d.end
 IsEventIn C R s J (cell.Speaking worker items) = IsOpenIn C R (speaker_of worker s J) items
 IsEventIn C R s J (cell.Boot k) = Unit {0}
 IsEventIn C R s J cell.Retired = Unit {0}

@@ -29,12 +29,12 @@ abbrev pub AllStandThere : List CellEvent → Type 0
 AllStandThere [] = Unit {0}
 AllStandThere (e ∷ J) = AllStandThere J × StandsThere J e
 
--- A worker's dialog, with its incarnation, is one of the entries that follow it in the worker's list: what it heard are the verdicts on them, and its items and entries fit its end.
+-- A worker's dialog, with its incarnation, is one of the entries that follow it in the worker's list: what it heard are the verdicts on them, and its items, what was due in it as its link failed, and its entries fit its end.
 abbrev pub FitsEntries : Config → Record → ℕ → Talk → Option (ℕ × Dialog) → Type 0
 FitsEntries C R w t None = ⊥
 FitsEntries C R w t (Some at) =
-    (since left due head content : List ℕ)
-    × IsDialog C (record { worker = w; service = t.service; incarnation = at.0 }) since left due head content (seen_after R w (own.Dialog t.service ∷ t.earlier)) at.1.items at.1.end (seen_after R w t.until)
+    (since left head content : List ℕ)
+    × IsDialog C (record { worker = w; service = t.service; incarnation = at.0 }) since left at.1.due head content (seen_after R w (own.Dialog t.service ∷ t.earlier)) at.1.items at.1.end (seen_after R w t.until)
 
 -- The dialog that this item of a worker's list stands for fits its entries: the i-th such item for cell s stands for the i-th dialog of that cell that names the worker.
 abbrev pub IsFitting : Config → Record → ℕ → Talk → Type 0

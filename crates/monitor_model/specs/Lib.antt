@@ -5,6 +5,7 @@ pub mod Logd
 pub mod Okd
 pub mod Launcher
 pub mod Seen
+pub mod Due
 pub mod Course
 pub mod Answering
 pub mod Cell

@@ -130,7 +130,7 @@ settled there = if incarnation there.past == 0 then record there { left = []; ha
 -- The open dialog of s ends, and its request is answered.
 abbrev pub closed : ℕ → Opened → End → Stage → Stage
 closed s opened how S =
-    with_stand S s (settled (record (stand S s) { past = cell.Dialog (record { worker = 0; items = opened.items; end = how }) ∷ (stand S s).past; open_dialog = None }))
+    with_stand S s (settled (record (stand S s) { past = cell.Dialog (record { worker = 0; items = opened.items; end = how; due = [] }) ∷ (stand S s).past; open_dialog = None }))
 
 -- What is printed where an open dialog ends: the answer to its request.
 abbrev pub closing_text : Opened → End → Stage → List ℕ

@@ -1,23 +1,14 @@
 -- What the links of a cell's incarnations were given, against what those heard.
-use Rattle.std.specs.Prelude.{◌≡◌, ℕ, Bool, true, false, List, [], ◌∷◌, ◌++◌, Option, Some, None, ◌==◌, ◌⊎◌, map, slice_index_or, IsSome, if◌then◌else◌}
+use Rattle.std.specs.Prelude.{◌≡◌, ℕ, Bool, true, false, List, [], ◌∷◌, ◌++◌, Option, Some, None, ◌==◌, map, slice_index_or, IsSome, if◌then◌else◌}
 use Rattle.okws_base.specs.Runs.{Each}
 use Rattle.okws_plan.specs.declared.configuration.Config.{Config}
-use Rattle.frame_codec.specs.Spelling.{server_spelling}
-use Rattle.frame_codec.specs.declared.frame.ServiceFrame.{ServiceFrame}
-use Rattle.frame_codec.specs.declared.frame.ServerFrame.{ServerFrame}
-use Rattle.frame_codec.specs.declared.frame.ServerFrame.TheVariants as frame
 use Rattle.monitor_model.specs.declared.record.CellEvent.{CellEvent}
 use Rattle.monitor_model.specs.declared.record.CellEvent.TheVariants as cell
 use Rattle.monitor_model.specs.declared.record.End.{End}
 use Rattle.monitor_model.specs.declared.record.End.TheVariants as end
-use Rattle.monitor_model.specs.declared.record.Item.{Item}
-use Rattle.monitor_model.specs.declared.record.Item.TheVariants.{Heard, Said}
 use Rattle.monitor_model.specs.declared.record.Record.{Record}
 use Rattle.monitor_model.specs.declared.sent.Sent.{Sent}
-use Rattle.monitor_model.specs.declared.verdict.Push.{Push}
 use Rattle.monitor_model.specs.Cell.{incarnation, heard}
-use Rattle.monitor_model.specs.Course.{Speaker, Answers, opening}
-use Rattle.monitor_model.specs.Seen.{Seen}
 
 -- A dialog ended by a fault of its link.
 abbrev pub is_link_fault : End → Bool
@@ -34,17 +25,17 @@ abbrev pub or_else : {A : Type 0} → Option A → Option A → Option A
 or_else (Some x) other = Some x
 or_else None other = other
 
--- The items of a dialog that ended so, where a fault of its link ended it.
-abbrev pub cut_items : End → List Item → Option (List Item)
-cut_items how items = if is_link_fault how then Some items else None
+-- What was due in a dialog that ended so, where a fault of its link ended it.
+abbrev pub cut_due : End → List ℕ → Option (List ℕ)
+cut_due how due = if is_link_fault how then Some due else None
 
--- The items of the dialog in which the link of incarnation k failed, where it did.
-abbrev pub broken_in : ℕ → List CellEvent → Option (List Item)
+-- What was due in the dialog in which the link of incarnation k failed, where it did.
+abbrev pub broken_in : ℕ → List CellEvent → Option (List ℕ)
 broken_in k [] = None
 broken_in k (cell.Boot j ∷ J) = broken_in k J
 broken_in k (cell.Retired ∷ J) = broken_in k J
 broken_in k (cell.Missed worker wanted is ∷ J) = broken_in k J
-broken_in k (cell.Dialog d ∷ J) = if incarnation J == k then or_else (cut_items d.end d.items) (broken_in k J) else broken_in k J
+broken_in k (cell.Dialog d ∷ J) = if incarnation J == k then or_else (cut_due d.end d.due) (broken_in k J) else broken_in k J
 broken_in k (cell.Speaking worker items ∷ J) = broken_in k J
 
 -- The incarnations that were booted, the last one first.
@@ -56,23 +47,13 @@ all_booted (cell.Missed worker wanted is ∷ J) = all_booted J
 all_booted (cell.Dialog d ∷ J) = all_booted J
 all_booted (cell.Speaking worker items ∷ J) = all_booted J
 
--- The frame may answer what was said.
-abbrev pub MayAnswer : ServiceFrame → ServerFrame → Type 0
-MayAnswer said heard = (C : Config) × (w : Speaker) × (J now : Seen) × Answers C w said J heard now
-
--- The frame may be heard next in a dialog with these items: it is the next one of an opening, or may answer what was said last.
-abbrev pub MayBeNext : List Item → ServerFrame → Type 0
-MayBeNext items next =
-    ((pushes : List Push) × (head content : List ℕ) × (rest : List Item) × (opening pushes (frame.Request head content) ≡ rest ++ Heard next ∷ items))
-    ⊎ ((said : ServiceFrame) × (before : List Item) × (items ≡ Said said ∷ before) × MayAnswer said next)
-
--- What was put behind all that was heard: nothing; where the link failed in a dialog with these items, what it took of the next frame.
-abbrev pub IsCut : Option (List Item) → List ℕ → Type 0
+-- What was put behind all that was heard: nothing; where the link failed, what it took of what was due.
+abbrev pub IsCut : Option (List ℕ) → List ℕ → Type 0
 IsCut None front = front ≡ []
-IsCut (Some items) front = (front ≡ []) ⊎ ((next : ServerFrame) × (rest : List ℕ) × MayBeNext items next × (front ++ rest ≡ server_spelling next))
+IsCut (Some due) front = (rest : List ℕ) × (front ++ rest ≡ due)
 
--- A link, where it tells, was given this text; where it failed, and what it took of the next frame.
-abbrev pub IsGiven : List ℕ → Option (List Item) → Option (List ℕ) → Type 0
+-- A link, where it tells, was given this text; where it failed, and what it took of what was due.
+abbrev pub IsGiven : List ℕ → Option (List ℕ) → Option (List ℕ) → Type 0
 IsGiven text broken None = Unit {0}
 IsGiven text broken (Some given) = (front : List ℕ) × (given ≡ text ++ front) × IsCut broken front
 

@@ -47,11 +47,12 @@ first_dialog seed n = record {
   items = Said (said.Reply 200 (codes "text/plain") [] (codes "ok")) ∷ Heard (heard.Changed 1) ∷ Said (said.Call 0 0 3 (int 1 ∷ [])) ∷ Heard (heard.Opened n) ∷ Said (said.Open 0 (token_one seed))
       ∷ Heard (heard.Request guest_request []) ∷ Heard (heard.Push (codes "page") 1 (codes "hi")) ∷ [];
   end = end.Reply;
+  due = [];
 }
 
 -- The second dialog, in which the service ends.
 abbrev pub second_dialog : Dialog
-second_dialog = record { worker = 0; items = Heard (heard.Request guest_request []) ∷ []; end = end.Ended }
+second_dialog = record { worker = 0; items = Heard (heard.Request guest_request []) ∷ []; end = end.Ended; due = [] }
 
 -- What the door's worker did.
 abbrev pub door_list : List ℕ → List Own

@@ -51,8 +51,8 @@ WentTo C R w s k head content J IsDown now = ⊥
 WentTo C R w s k head content J IsMissed now = (is : ℕ) × (now ≡ noted J (own.Missed s k is))
 WentTo C R w s k head content J WantsMemory now = now ≡ noted J own.NoMemory
 WentTo C R w s k head content J (Spoke t j d) now =
-    (t ≡ s) × (j ≡ k) × (next_dialog R w s J.own ≡ Some (k, d)) × (since left due : List ℕ)
-    × IsDialog C (record { worker = w; service = s; incarnation = k }) since left due head content (noted J (own.Dialog s)) d.items d.end now
+    (t ≡ s) × (j ≡ k) × (next_dialog R w s J.own ≡ Some (k, d)) × (since left : List ℕ)
+    × IsDialog C (record { worker = w; service = s; incarnation = k }) since left d.due head content (noted J (own.Dialog s)) d.items d.end now
 
 -- After an Accept that is answered To(s, k) follows at once a Missed of cell s that wanted k, NoMemory, or a dialog and then the entries of that dialog; after another answer nothing.
 abbrev pub Follows : Config → Record → ℕ → Way → List ℕ → List ℕ → Seen → Outcome → Seen → Type 0

@@ -3,6 +3,7 @@
 //! of a script do. Of programs there are none here: the definitions stand with their laws and types.
 #![tactic(auto)]
 
+pub mod due;
 pub mod laws;
 pub mod record;
 pub mod sent;

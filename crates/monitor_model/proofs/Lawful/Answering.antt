@@ -56,7 +56,7 @@ open_events C S s opened all is = rw is at (all s)
 
 -- a dialog ends
 pub answering_closed : (C : Config) (s : ℕ) (was opened : Opened) (how : End) (S : Stage) → IsAnswering C S → (stand S s).open_dialog ≡ Some was
-    → (IsOpenIn C (record_of S) (speaker_of 0 s (stand S s).past) was.items → IsDialogIn C (record_of S) (speaker_of 0 s (stand S s).past) opened.items how)
+    → (IsOpenIn C (record_of S) (speaker_of 0 s (stand S s).past) was.items → IsDialogIn C (record_of S) (speaker_of 0 s (stand S s).past) [] opened.items how)
     → IsAnswering C (closed s opened how S)
 answering_closed C s was opened how S all is ends =
     let there : Stand = closed_there opened.items how (stand S s) in
@@ -67,22 +67,22 @@ answering_closed C s was opened how S all is ends =
     (events_later C (record_of S) (record_of (closed s opened how S)) s (journal there) later (before.0, ends before.1))) all
 
 -- the ends
-ends_superseded : (C : Config) (R : Record) (w : Speaker) (items : List Item) (shown : ℕ) → w.incarnation < shown → IsOpenIn C R w items → IsDialogIn C R w items (end.Superseded shown)
+ends_superseded : (C : Config) (R : Record) (w : Speaker) (items : List Item) (shown : ℕ) → w.incarnation < shown → IsOpenIn C R w items → IsDialogIn C R w [] items (end.Superseded shown)
 ends_superseded C R w items shown above o = inr (o.0, o.1, (above, o.2, o.3))
 
-pub ends_bad : (C : Config) (R : Record) (w : Speaker) (items : List Item) → IsOpenIn C R w items → IsDialogIn C R w items end.BadFrame
+pub ends_bad : (C : Config) (R : Record) (w : Speaker) (items : List Item) → IsOpenIn C R w items → IsDialogIn C R w [] items end.BadFrame
 ends_bad C R w items o = inr (o.0, o.1, (o.2, o.3))
 
-pub ends_ended : (C : Config) (R : Record) (w : Speaker) (items : List Item) → IsOpenIn C R w items → IsDialogIn C R w items end.Ended
+pub ends_ended : (C : Config) (R : Record) (w : Speaker) (items : List Item) → IsOpenIn C R w items → IsDialogIn C R w [] items end.Ended
 ends_ended C R w items o = inr (o.0, o.1, (o.2, o.3))
 
 end_is : (P : End → Type 0) (there how : End) → Some there ≡ Some how → P there → P how
 end_is P there how is here = let same : there ≡ how = cc in rw same at here
 
 ends_reply : (C : Config) (R : Record) (w : Speaker) (items : List Item) (said : ServiceFrame) (how : End) → said_count items + 1 ≤ MOST_FRAMES → reply_end said ≡ Some how
-    → IsOpenIn C R w items → IsDialogIn C R w (Said said ∷ items) how
+    → IsOpenIn C R w items → IsDialogIn C R w [] (Said said ∷ items) how
 ends_reply C R w items (said.Reply status content_type location content) how few is o =
-    end_is (λ e. IsDialogIn C R w (Said (said.Reply status content_type location content) ∷ items) e) end.Reply how is
+    end_is (λ e. IsDialogIn C R w [] (Said (said.Reply status content_type location content) ∷ items) e) end.Reply how is
     (inr (o.0, o.1, (items, (status, content_type, location, content, refl), o.2, few)))
 ends_reply C R w items (said.Open p shown) how few is o = absurd (none_some how None refl is)
 ends_reply C R w items (said.Call p n q args) how few is o = absurd (none_some how None refl is)
@@ -93,9 +93,9 @@ most_said : (n : ℕ) → n ≤ MOST_FRAMES → MOST_FRAMES < n + 1 → n ≡ MO
 most_said n few many = omega arith
 
 pub ends_said : (C : Config) (R : Record) (w : Speaker) (items : List Item) (said : ServiceFrame) (how : End) (b : Bool) → nat_lt MOST_FRAMES (said_count items + 1) ≡ b
-    → cond b (Some end.FrameLimit) (reply_end said) ≡ Some how → IsOpenIn C R w items → IsDialogIn C R w (Said said ∷ items) how
+    → cond b (Some end.FrameLimit) (reply_end said) ≡ Some how → IsOpenIn C R w items → IsDialogIn C R w [] (Said said ∷ items) how
 ends_said C R w items said how true many is o =
-    end_is (λ e. IsDialogIn C R w (Said said ∷ items) e) end.FrameLimit how is
+    end_is (λ e. IsDialogIn C R w [] (Said said ∷ items) e) end.FrameLimit how is
     (inr (o.0, o.1, (said, items, refl, o.2, most_said (said_count items) o.3 (ltb-true MOST_FRAMES (said_count items + 1) many))))
 ends_said C R w items said how false few is o = ends_reply C R w items said how (ltb-false MOST_FRAMES (said_count items + 1) few) is o
 

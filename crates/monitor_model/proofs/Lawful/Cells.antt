@@ -122,7 +122,7 @@ cell_went_on s opened now J items greatest kept = record {
 }
 
 pub cell_closed : (s : ℕ) (opened : Opened) (how : End) (J : List CellEvent) (items : List Own) (greatest : ℕ) → CellKept s (Some opened) J items greatest → EndFits (incarnation J) greatest how
-    → CellKept s None (cell.Dialog (record { worker = 0; items = opened.items; end = how }) ∷ J) items greatest
+    → CellKept s None (cell.Dialog (record { worker = 0; items = opened.items; end = how; due = [] }) ∷ J) items greatest
 cell_closed s opened how J items greatest kept fits = record {
   own = kept.own;
   foreign = kept.foreign;

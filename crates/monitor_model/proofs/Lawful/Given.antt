@@ -125,16 +125,16 @@ closed_takes : (x : Stand) (items : List Item) (how : End) (came : List ℕ) →
     → IsTaken (settled (closed_there items how x)) came
 closed_takes x items end.Reply came there fits is =
     settled_here (λ (y : Stand). IsTaken y came) (closed_there items end.Reply x) there
-    (takes_here (cell.Dialog (record { worker = 0; items = items; end = end.Reply }) ∷ x.past) x.left came there is)
+    (takes_here (cell.Dialog (record { worker = 0; items = items; end = end.Reply; due = [] }) ∷ x.past) x.left came there is)
 closed_takes x items (end.Superseded shown) came there fits is =
     settled_here (λ (y : Stand). IsTaken y came) (closed_there items (end.Superseded shown) x) there
-    (takes_here (cell.Dialog (record { worker = 0; items = items; end = end.Superseded shown }) ∷ x.past) x.left came there is)
+    (takes_here (cell.Dialog (record { worker = 0; items = items; end = end.Superseded shown; due = [] }) ∷ x.past) x.left came there is)
 closed_takes x items end.BadFrame came there fits is =
-    takes_gone (cell.Dialog (record { worker = 0; items = items; end = end.BadFrame }) ∷ x.past) x.left came is refl fits
+    takes_gone (cell.Dialog (record { worker = 0; items = items; end = end.BadFrame; due = [] }) ∷ x.past) x.left came is refl fits
 closed_takes x items end.Ended came there fits is =
-    takes_gone (cell.Dialog (record { worker = 0; items = items; end = end.Ended }) ∷ x.past) x.left came is refl fits
+    takes_gone (cell.Dialog (record { worker = 0; items = items; end = end.Ended; due = [] }) ∷ x.past) x.left came is refl fits
 closed_takes x items end.FrameLimit came there fits is =
-    takes_gone (cell.Dialog (record { worker = 0; items = items; end = end.FrameLimit }) ∷ x.past) x.left came is refl fits
+    takes_gone (cell.Dialog (record { worker = 0; items = items; end = end.FrameLimit; due = [] }) ∷ x.past) x.left came is refl fits
 closed_takes x items end.LinkFault came there fits is = absurd fits
 closed_takes x items end.Starved came there fits is = absurd fits
 

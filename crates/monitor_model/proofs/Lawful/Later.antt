@@ -14,6 +14,7 @@ use Rattle.okws_plan.specs.declared.event.PubdEvent.TheVariants as pubd
 use Rattle.okws_plan.specs.declared.event.LogEvent.{LogEvent}
 use Rattle.okws_plan.specs.declared.event.LogEvent.TheVariants as oklogd
 use Rattle.token_core.specs.Token.{token_of}
+use Rattle.frame_codec.specs.Spelling.{server_spelling}
 use Rattle.frame_codec.specs.declared.frame.ServiceFrame.{ServiceFrame}
 use Rattle.frame_codec.specs.declared.frame.ServiceFrame.TheVariants as said
 use Rattle.frame_codec.specs.declared.frame.ServerFrame.{ServerFrame}
@@ -24,7 +25,7 @@ use Rattle.monitor_model.specs.declared.record.End.TheVariants as end
 use Rattle.monitor_model.specs.declared.record.Item.{Item}
 use Rattle.monitor_model.specs.declared.record.Item.TheVariants.{Heard, Said}
 use Rattle.monitor_model.specs.declared.record.Record.{Record}
-use Rattle.monitor_model.specs.Course.{Speaker}
+use Rattle.monitor_model.specs.Course.{Speaker, IsNextOf}
 use Rattle.monitor_model.specs.Seen.{Seen, proxy_past}
 use Rattle.monitor_model.specs.Stage.{Stage, with_seen}
 use Rattle.monitor_model.specs.Script.{entry, at_proxy, at_pubd, at_log, IsNext, installed, installed_all, revoked, revoke_place, revoked_all, stands_of, down_okd, greatest}
@@ -73,50 +74,50 @@ all_later C R now w opened (Heard heard ∷ Said said ∷ items) later all = (al
 all_later C R now w opened (Said said ∷ items) later all = absurd all
 
 -- what a link that failed, or memory that was wanting, cut short
-abbrev pub CutByFault : Config → Record → Speaker → List Item → List Item → Type 0
-CutByFault C R w opened items =
-    IsFront opened items ⊎ AreAnsweredIn C R w opened items
-    ⊎ ((said : ServiceFrame) × (heard : ServerFrame) × (before : List Item) × (items ≡ Said said ∷ before) × AreAnsweredIn C R w opened before × AnswersIn C R w said heard)
+abbrev pub CutByFault : Config → Record → Speaker → List ℕ → List Item → List Item → Type 0
+CutByFault C R w due opened items =
+    (IsFront opened items × IsNextOf opened items due) ⊎ (AreAnsweredIn C R w opened items × (due ≡ []))
+    ⊎ ((said : ServiceFrame) × (heard : ServerFrame) × (before : List Item) × (items ≡ Said said ∷ before) × AreAnsweredIn C R w opened before × AnswersIn C R w said heard × (due ≡ server_spelling heard))
 
 abbrev pub CutByWant : Config → Record → Speaker → List Item → List Item → Type 0
 CutByWant C R w opened items =
     IsFront opened items ⊎ AreAnsweredIn C R w opened items
     ⊎ ((said : ServiceFrame) × (before : List Item) × (items ≡ Said said ∷ before) × AreAnsweredIn C R w opened before)
 
-fault_later : (C : Config) (R now : Record) (w : Speaker) (opened items : List Item) → IsLater R now → CutByFault C R w opened items → CutByFault C now w opened items
-fault_later C R now w opened items later (inl front) = inl front
-fault_later C R now w opened items later (inr (inl all)) = inr (inl (all_later C R now w opened items later all))
-fault_later C R now w opened items later (inr (inr cut)) =
-    inr (inr (cut.0, cut.1, cut.2, cut.3, all_later C R now w opened cut.2 later cut.4, answers_later C R now w cut.0 cut.1 later cut.5))
+fault_later : (C : Config) (R now : Record) (w : Speaker) (due : List ℕ) (opened items : List Item) → IsLater R now → CutByFault C R w due opened items → CutByFault C now w due opened items
+fault_later C R now w due opened items later (inl front) = inl front
+fault_later C R now w due opened items later (inr (inl all)) = inr (inl (all_later C R now w opened items later all.0, all.1))
+fault_later C R now w due opened items later (inr (inr cut)) =
+    inr (inr (cut.0, cut.1, cut.2, cut.3, all_later C R now w opened cut.2 later cut.4, answers_later C R now w cut.0 cut.1 later cut.5, cut.6))
 
 want_later : (C : Config) (R now : Record) (w : Speaker) (opened items : List Item) → IsLater R now → CutByWant C R w opened items → CutByWant C now w opened items
 want_later C R now w opened items later (inl front) = inl front
 want_later C R now w opened items later (inr (inl all)) = inr (inl (all_later C R now w opened items later all))
 want_later C R now w opened items later (inr (inr cut)) = inr (inr (cut.0, cut.1, cut.2, all_later C R now w opened cut.1 later cut.3))
 
-ends_later : (C : Config) (R now : Record) (w : Speaker) (opened items : List Item) (how : End) → IsLater R now → EndsIn C R w opened items how → EndsIn C now w opened items how
-ends_later C R now w opened items end.Reply later ends = (ends.0, ends.1, all_later C R now w opened ends.0 later ends.2, ends.3)
-ends_later C R now w opened items (end.Superseded shown) later ends = (ends.0, all_later C R now w opened items later ends.1, ends.2)
-ends_later C R now w opened items end.BadFrame later ends = (all_later C R now w opened items later ends.0, ends.1)
-ends_later C R now w opened items end.Ended later ends = (all_later C R now w opened items later ends.0, ends.1)
-ends_later C R now w opened items end.FrameLimit later ends = (ends.0, ends.1, ends.2, all_later C R now w opened ends.1 later ends.3, ends.4)
-ends_later C R now w opened items end.LinkFault later ends = (ends.0, fault_later C R now w opened items later ends.1)
-ends_later C R now w opened items end.Starved later ends = (ends.0, want_later C R now w opened items later ends.1)
+ends_later : (C : Config) (R now : Record) (w : Speaker) (due : List ℕ) (opened items : List Item) (how : End) → IsLater R now → EndsIn C R w due opened items how → EndsIn C now w due opened items how
+ends_later C R now w due opened items end.Reply later ends = (ends.0, ends.1, all_later C R now w opened ends.0 later ends.2, ends.3)
+ends_later C R now w due opened items (end.Superseded shown) later ends = (ends.0, all_later C R now w opened items later ends.1, ends.2)
+ends_later C R now w due opened items end.BadFrame later ends = (all_later C R now w opened items later ends.0, ends.1)
+ends_later C R now w due opened items end.Ended later ends = (all_later C R now w opened items later ends.0, ends.1)
+ends_later C R now w due opened items end.FrameLimit later ends = (ends.0, ends.1, ends.2, all_later C R now w opened ends.1 later ends.3, ends.4)
+ends_later C R now w due opened items end.LinkFault later ends = (ends.0, fault_later C R now w due opened items later ends.1)
+ends_later C R now w due opened items end.Starved later ends = (ends.0, want_later C R now w opened items later ends.1)
 
 opens_later : (C : Config) (R now : Record) (w : Speaker) (opened : List Item) → IsLater R now → OpensIn C R w opened → OpensIn C now w opened
 opens_later C R now w opened later opens =
     (opens.0, opens.1, opens.2, stands_later R.pubd now.pubd w.worker (pubd.Drain w.service w.incarnation) opens.0 later.pubd opens.3, opens.4)
 
-dialog_later : (C : Config) (R now : Record) (w : Speaker) (items : List Item) (how : End) → IsLater R now → IsDialogIn C R w items how → IsDialogIn C now w items how
-dialog_later C R now w items how later (inl at_once) = inl at_once
-dialog_later C R now w items how later (inr course) =
-    inr (course.0, opens_later C R now w course.0 later course.1, ends_later C R now w course.0 items how later course.2)
+dialog_later : (C : Config) (R now : Record) (w : Speaker) (due : List ℕ) (items : List Item) (how : End) → IsLater R now → IsDialogIn C R w due items how → IsDialogIn C now w due items how
+dialog_later C R now w due items how later (inl at_once) = inl at_once
+dialog_later C R now w due items how later (inr course) =
+    inr (course.0, opens_later C R now w course.0 later course.1, ends_later C R now w due course.0 items how later course.2)
 
 open_later : (C : Config) (R now : Record) (w : Speaker) (items : List Item) → IsLater R now → IsOpenIn C R w items → IsOpenIn C now w items
 open_later C R now w items later o = (o.0, opens_later C R now w o.0 later o.1, all_later C R now w o.0 items later o.2, o.3)
 
 event_later : (C : Config) (R now : Record) (s : ℕ) (J : List CellEvent) (e : CellEvent) → IsLater R now → IsEventIn C R s J e → IsEventIn C now s J e
-event_later C R now s J (cell.Dialog d) later there = dialog_later C R now (speaker_of d.worker s J) d.items d.end later there
+event_later C R now s J (cell.Dialog d) later there = dialog_later C R now (speaker_of d.worker s J) d.due d.items d.end later there
 event_later C R now s J (cell.Speaking worker items) later there = open_later C R now (speaker_of worker s J) items later there
 event_later C R now s J (cell.Boot k) later there = tt
 event_later C R now s J cell.Retired later there = tt

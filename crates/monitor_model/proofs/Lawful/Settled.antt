@@ -10,7 +10,7 @@ use Rattle.monitor_model.specs.Script.{settled}
 
 -- The cell once its open dialog ended, with its link as it was.
 abbrev pub closed_there : List Item → End → Stand → Stand
-closed_there items how there = record there { past = cell.Dialog (record { worker = 0; items = items; end = how }) ∷ there.past; open_dialog = None }
+closed_there items how there = record there { past = cell.Dialog (record { worker = 0; items = items; end = how; due = [] }) ∷ there.past; open_dialog = None }
 
 -- The cell once it is retired.
 abbrev pub retired_there : Stand → Stand

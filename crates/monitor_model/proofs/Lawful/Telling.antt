@@ -31,7 +31,7 @@ use Rattle.monitor_model.proofs.Lawful.Hearing.{Adds, adds_nothing, adds_then, a
 
 -- a dialog ends
 heard_closed : (C : Config) (seed : List ℕ) (s : ℕ) (was opened : Opened) (how : End) (there : Stand) (k : ℕ) → there.open_dialog ≡ Some was → heard_text opened.items ≡ heard_text was.items
-    → heard C seed s k (cell.Dialog (record { worker = 0; items = opened.items; end = how }) ∷ there.past) ≡ heard C seed s k (journal there)
+    → heard C seed s k (cell.Dialog (record { worker = 0; items = opened.items; end = how; due = [] }) ∷ there.past) ≡ heard C seed s k (journal there)
 heard_closed C seed s was opened how there k is same = rw (is, same) refl
 
 adds_closed : (C : Config) (seed : List ℕ) (s n : ℕ) (text : List ℕ) (was opened : Opened) (how : End) (S : Stage) → (stand S s).open_dialog ≡ Some was → heard_text opened.items ≡ heard_text was.items

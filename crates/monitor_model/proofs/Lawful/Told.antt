@@ -51,7 +51,7 @@ nothing_when bytes true = append-nil bytes
 nothing_when bytes false = append-nil bytes
 
 heard_at_once : (C : Config) (seed : List ℕ) (s shown : ℕ) (there : Stand) (j : ℕ) → there.open_dialog ≡ None
-    → heard C seed s j (cell.Dialog (record { worker = 0; items = []; end = end.Superseded shown }) ∷ there.past) ≡ heard C seed s j (journal there)
+    → heard C seed s j (cell.Dialog (record { worker = 0; items = []; end = end.Superseded shown; due = [] }) ∷ there.past) ≡ heard C seed s j (journal there)
 heard_at_once C seed s shown there j shut = rw shut (nothing_when (heard C seed s j there.past) (incarnation there.past == j))
 
 -- a dialog opens

@@ -104,7 +104,7 @@ not_answered seed since left due head content (inl h) = let bad : end.Reply ≡ 
 not_answered seed since left due head content (inr h) = by_end seed since left due _ h.1 h.3
 
 wrong_answer_is_wrong : (seed : List ℕ) → JournalsAreLawful one seed one_order (wrong_answer seed) → ⊥
-wrong_answer_is_wrong seed h = let fit = h.dialogs.0.1.0 in not_answered seed fit.0 fit.1 fit.2 fit.3 fit.4 fit.5
+wrong_answer_is_wrong seed h = let fit = h.dialogs.0.1.0 in not_answered seed fit.0 fit.1 (first_dialog seed 7).due fit.2 fit.3 fit.4
 
 wrong_answer_has : (seed : List ℕ) (other : Part) → (other ≡ part.Lawful → ⊥) → Holds other one seed one_order (wrong_answer seed)
 wrong_answer_has seed part.Made differs = run_is_made seed 7

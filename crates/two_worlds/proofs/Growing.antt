@@ -227,7 +227,7 @@ quiet_dialog C w since left due head content J items how now (inr h) =
     (quiet_ends C w since left due (opening (drain_verdict C h.0 w.service w.incarnation) (frame.Request head content)) h.1 items how now h.3)
 
 ends_fit : (C : Config) (R : Record) (w : Speaker) (since left due : List ℕ) (opened : List Item) (J : Seen) (items : List Item) (how : End) (now : Seen) → length R.proxies ≡ length C.proxies
-    → Ends C w since left due opened J items how now → Ext R now → EndsIn C R w opened items how × Ext R J
+    → Ends C w since left due opened J items how now → Ext R now → EndsIn C R w due opened items how × Ext R J
 ends_fit C R w since left due opened J items end.Reply now many h x = let a = answered_fit C R w opened J h.0 now many h.2 x in ((h.0, h.1, a.0, h.3), a.1)
 ends_fit C R w since left due opened J items (end.Superseded shown) now many h x = let a = answered_fit C R w opened J items now many h.1 x in ((h.0, a.0, h.2), a.1)
 ends_fit C R w since left due opened J items end.BadFrame now many h x = let a = answered_fit C R w opened J items now many h.0 x in ((a.0, h.1), a.1)
@@ -237,17 +237,17 @@ ends_fit C R w since left due opened J items end.LinkFault now many h x = by h.1
   where
     by : (IsOpening opened J items now × IsNextOf opened items due) ⊎ (IsAnswered C w opened J items now × (due ≡ []))
         ⊎ ((said : ServiceFrame) × (heard : ServerFrame) × (before : List Item) × (mid : Seen) × (items ≡ Said said ∷ before)
-        × IsAnswered C w opened J before mid × Answers C w said mid heard now × (due ≡ server_spelling heard)) → EndsIn C R w opened items end.LinkFault × Ext R J
-    by (inl f) = ((h.0, inl (f.0.0, f.0.1)), ext_same R J now f.0.2 x)
-    by (inr (inl a)) = let b = answered_fit C R w opened J items now many a.0 x in ((h.0, inr (inl b.0)), b.1)
+        × IsAnswered C w opened J before mid × Answers C w said mid heard now × (due ≡ server_spelling heard)) → EndsIn C R w due opened items end.LinkFault × Ext R J
+    by (inl f) = ((h.0, inl ((f.0.0, f.0.1), f.1)), ext_same R J now f.0.2 x)
+    by (inr (inl a)) = let b = answered_fit C R w opened J items now many a.0 x in ((h.0, inr (inl (b.0, a.1))), b.1)
     by (inr (inr b)) =
         let last = answer_fits C R w b.0 b.3 b.1 now many b.6 x in
         let rest = answered_fit C R w opened J b.2 b.3 many b.5 last.1 in
-        ((h.0, inr (inr (b.0, b.1, b.2, b.4, rest.0, last.0))), rest.1)
+        ((h.0, inr (inr (b.0, b.1, b.2, b.4, rest.0, last.0, b.7))), rest.1)
 ends_fit C R w since left due opened J items end.Starved now many h x = by h.1
   where
     by : IsOpening opened J items now ⊎ IsAnswered C w opened J items now ⊎ ((said : ServiceFrame) × (before : List Item) × (mid : Seen) × (items ≡ Said said ∷ before)
-        × IsAnswered C w opened J before mid × Unanswered C w said mid now) → EndsIn C R w opened items end.Starved × Ext R J
+        × IsAnswered C w opened J before mid × Unanswered C w said mid now) → EndsIn C R w due opened items end.Starved × Ext R J
     by (inl f) = ((h.0, inl (f.0, f.1)), ext_same R J now f.2 x)
     by (inr (inl a)) = let b = answered_fit C R w opened J items now many a x in ((h.0, inr (inl b.0)), b.1)
     by (inr (inr b)) =
@@ -255,7 +255,7 @@ ends_fit C R w since left due opened J items end.Starved now many h x = by h.1
         ((h.0, inr (inr (b.0, b.1, b.3, rest.0))), rest.1)
 
 pub dialog_fits : (C : Config) (R : Record) (w : Speaker) (since left due head content : List ℕ) (J : Seen) (items : List Item) (how : End) (now : Seen) → length R.proxies ≡ length C.proxies
-    → IsDialog C w since left due head content J items how now → Ext R now → IsDialogIn C R w items how × Ext R J
+    → IsDialog C w since left due head content J items how now → Ext R now → IsDialogIn C R w due items how × Ext R J
 dialog_fits C R w since left due head content J items how now many (inl h) x = (inl (h.0, h.1, h.2, h.3), ext_same R J now h.4 x)
 dialog_fits C R w since left due head content J items how now many (inr h) x =
     let opened : List Item = opening (drain_verdict C h.0 w.service w.incarnation) (frame.Request head content) in

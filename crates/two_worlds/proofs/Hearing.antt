@@ -28,10 +28,11 @@ use Rattle.monitor_model.specs.Cell.{incarnation, after_end, CellLaw, heard, boo
 use Rattle.monitor_model.specs.Course.{heard_text, verdict_frame, got_frame, noted_frame, push_frame}
 use Rattle.monitor_model.specs.Merged.{cell_past}
 use Rattle.monitor_model.specs.Seen.{proxy_past}
+use Rattle.monitor_model.specs.Sent.{is_link_fault, or_else, cut_due, broken_in}
 use Rattle.two_worlds.specs.View.{right_of}
 use Rattle.two_worlds.specs.Agreement.{LawfulConfig, ConfigsAgree, right}
 use Rattle.two_worlds.specs.PubdSight.{PubdVerdict}
-use Rattle.two_worlds.specs.Story.{Source, Stays, AnswerTo, PushOf, ToldItem, Hears, Says, StoryEvent, Boots, Talks, at_place, joined, got_of, pushes_of, answer_frame, pushed_frame, ComesFrom, AreTold, IsStory, RecordsAgree}
+use Rattle.two_worlds.specs.Story.{Source, Stays, AnswerTo, PushOf, ToldItem, Hears, Says, StoryEvent, Boots, Talks, at_place, joined, got_of, pushes_of, answer_frame, pushed_frame, ComesFrom, AreTold, DueComes, unnumbered, IsStory, RecordsAgree}
 use Rattle.two_worlds.proofs.Rights as rights
 use Rattle.two_worlds.proofs.AtProxy.{same_at_proxy}
 use Rattle.two_worlds.proofs.AtPubd.{same_at_pubd}
@@ -57,12 +58,24 @@ items_text answer push (Says frame ∷ more) = items_text answer push more
 abbrev current : List StoryEvent → ℕ
 current [] = 0
 current (Boots k ∷ story) = k
-current (Talks how told ∷ story) = current story
+current (Talks how told due ∷ story) = current story
 
 abbrev story_text : (Place → ℕ → Option ServerFrame) → (ℕ → ℕ → Option ServerFrame) → List ℕ → ℕ → List StoryEvent → List ℕ
 story_text answer push boot k [] = []
 story_text answer push boot k (Boots j ∷ story) = story_text answer push boot k story ++ cond (j == k) boot []
-story_text answer push boot k (Talks how told ∷ story) = story_text answer push boot k story ++ cond (current story == k) (items_text answer push told) []
+story_text answer push boot k (Talks how told due ∷ story) = story_text answer push boot k story ++ cond (current story == k) (items_text answer push told) []
+
+abbrev due_text : (Place → ℕ → Option ServerFrame) → (ℕ → ℕ → Option ServerFrame) → Option Source → List ℕ
+due_text answer push None = []
+due_text answer push (Some source) = source_text answer push source
+
+-- what was due where the link of incarnation k failed
+abbrev story_cut : (Place → ℕ → Option ServerFrame) → (ℕ → ℕ → Option ServerFrame) → ℕ → List StoryEvent → Option (List ℕ)
+story_cut answer push k [] = None
+story_cut answer push k (Boots j ∷ story) = story_cut answer push k story
+story_cut answer push k (Talks None told due ∷ story) = story_cut answer push k story
+story_cut answer push k (Talks (Some how) told due ∷ story) =
+    cond (current story == k) (or_else (cond (is_link_fault how) (Some (due_text answer push due)) None) (story_cut answer push k story)) (story_cut answer push k story)
 
 -- a frame's bytes are its source's
 source_is : (C : Config) (R : Record) (s : ℕ) (heard : ServerFrame) (source : Source) → ComesFrom C R s heard source → server_spelling heard ≡ source_text (answer_frame C R s) (pushed_frame C R s) source
@@ -82,7 +95,7 @@ current_is C R s [] story h there = absurd (there refl)
 current_is C R s (cell.Boot k ∷ J) story h there = sym (ap current h.1)
 current_is C R s (cell.Retired ∷ J) story h there = absurd (there refl)
 current_is C R s (cell.Missed worker wanted is ∷ J) story h there = current_is C R s J story h there
-current_is C R s (cell.Dialog d ∷ J) story h there = by d.end there (current_is C R s J h.0 h.4) ∙ sym (ap current h.2)
+current_is C R s (cell.Dialog d ∷ J) story h there = by d.end there (current_is C R s J h.0 h.6) ∙ sym (ap current h.3)
   where
     by : (how : End) → after_end how (incarnation J) ≢ 0 → (incarnation J ≢ 0 → incarnation J ≡ current h.0) → after_end how (incarnation J) ≡ current h.0
     by end.Reply there more = more there
@@ -104,11 +117,33 @@ heard_is C R seed s k (cell.Boot j ∷ J) story law h =
 heard_is C R seed s k (cell.Retired ∷ J) story law h = append-nil (heard C seed s k J) ∙ heard_is C R seed s k J story law.0 h
 heard_is C R seed s k (cell.Missed worker wanted is ∷ J) story law h = append-nil (heard C seed s k J) ∙ heard_is C R seed s k J story law.0 h
 heard_is C R seed s k (cell.Dialog d ∷ J) story law h =
-    (λ i. heard_is C R seed s k J h.0 law.0 h.4 i ++ cond (current_is C R s J h.0 h.4 law.2.0 i == k) (items_are C R s d.items h.1 h.3 i) [])
-    ∙ sym (ap (story_text (answer_frame C R s) (pushed_frame C R s) (server_spelling (boot_frame C seed s k)) k) h.2)
+    (λ i. heard_is C R seed s k J h.0 law.0 h.6 i ++ cond (current_is C R s J h.0 h.6 law.2.0 i == k) (items_are C R s d.items h.1 h.4 i) [])
+    ∙ sym (ap (story_text (answer_frame C R s) (pushed_frame C R s) (server_spelling (boot_frame C seed s k)) k) h.3)
 heard_is C R seed s k (cell.Speaking worker items ∷ J) story law h =
     (λ i. heard_is C R seed s k J h.0 law.0 h.4 i ++ cond (current_is C R s J h.0 h.4 law.2 i == k) (items_are C R s items h.1 h.3 i) [])
     ∙ sym (ap (story_text (answer_frame C R s) (pushed_frame C R s) (server_spelling (boot_frame C seed s k)) k) h.2)
+
+-- what was due is its source's bytes
+due_is : (C : Config) (R : Record) (s : ℕ) (how : End) (due : List ℕ) (told : Option Source) → DueComes C R s (cut_due how due) told
+    → cut_due how due ≡ cond (is_link_fault (unnumbered how)) (Some (due_text (answer_frame C R s) (pushed_frame C R s) told)) None
+due_is C R s end.Reply due told h = refl
+due_is C R s (end.Superseded shown) due told h = refl
+due_is C R s end.BadFrame due told h = refl
+due_is C R s end.Ended due told h = refl
+due_is C R s end.FrameLimit due told h = refl
+due_is C R s end.Starved due told h = refl
+due_is C R s end.LinkFault due None h = ap Some h
+due_is C R s end.LinkFault due (Some source) h = ap Some (h.1 ∙ source_is C R s h.0 source h.2)
+
+broken_is : (C : Config) (R : Record) (s k : ℕ) (J : List CellEvent) (story : List StoryEvent) → CellLaw J → IsStory C R s J story → broken_in k J ≡ story_cut (answer_frame C R s) (pushed_frame C R s) k story
+broken_is C R s k [] story law h = sym (ap (story_cut (answer_frame C R s) (pushed_frame C R s) k) h)
+broken_is C R s k (cell.Boot j ∷ J) story law h = broken_is C R s k J h.0 law.0 h.2 ∙ sym (ap (story_cut (answer_frame C R s) (pushed_frame C R s) k) h.1)
+broken_is C R s k (cell.Retired ∷ J) story law h = broken_is C R s k J story law.0 h
+broken_is C R s k (cell.Missed worker wanted is ∷ J) story law h = broken_is C R s k J story law.0 h
+broken_is C R s k (cell.Dialog d ∷ J) story law h =
+    (λ i. cond (current_is C R s J h.0 h.6 law.2.0 i == k) (or_else (due_is C R s d.end d.due h.2 h.5 i) (broken_is C R s k J h.0 law.0 h.6 i)) (broken_is C R s k J h.0 law.0 h.6 i))
+    ∙ sym (ap (story_cut (answer_frame C R s) (pushed_frame C R s) k) h.3)
+broken_is C R s k (cell.Speaking worker items ∷ J) story law h = broken_is C R s k J h.0 law.0 h.4 ∙ sym (ap (story_cut (answer_frame C R s) (pushed_frame C R s) k) h.2)
 
 -- the proxies where s has a grant
 
@@ -198,3 +233,12 @@ heard_same C D R Q seed s lawful_c lawful_d law_r law_q agree k =
     heard_is C R seed s k (cell_past R s) agree.story.0 law_r agree.story.1
     ∙ (λ i. story_text (answers i) (pushes i) (server_spelling (boots i)) k agree.story.0)
     ∙ sym (heard_is D Q seed s k (cell_past Q s) agree.story.0 law_q agree.story.2)
+
+pub broken_same : (C D : Config) (R Q : Record) (s : ℕ) → LawfulConfig C → LawfulConfig D → CellLaw (cell_past R s) → CellLaw (cell_past Q s) → RecordsAgree C D R Q s → (k : ℕ)
+    → broken_in k (cell_past R s) ≡ broken_in k (cell_past Q s)
+broken_same C D R Q s lawful_c lawful_d law_r law_q agree k =
+    let answers : answer_frame C R s ≡ answer_frame D Q s = λ i at n. answers_same C D R Q s lawful_c lawful_d agree at n i in
+    let pushes : pushed_frame C R s ≡ pushed_frame D Q s = λ i n m. pushes_same C D R Q s lawful_c lawful_d agree n m i in
+    broken_is C R s k (cell_past R s) agree.story.0 law_r agree.story.1
+    ∙ (λ i. story_cut (answers i) (pushes i) k agree.story.0)
+    ∙ sym (broken_is D Q s k (cell_past Q s) agree.story.0 law_q agree.story.2)

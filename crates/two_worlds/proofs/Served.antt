@@ -28,7 +28,7 @@ use Rattle.two_worlds.proofs.Growing.{Quiet, Ext, quiet_same, quiet_pubd, quiet_
 
 -- a dialog of the worker at cell s, by its number: it is the cell's, and it fits
 abbrev pub Fits : Config → Record → ℕ → ℕ → ℕ → Type 0
-Fits C R w s n = (k : ℕ) × (d : Dialog) × (slice_get (reverse (dialogs_of w (cell_past R s))) n ≡ Some (k, d)) × IsDialogIn C R (record { worker = w; service = s; incarnation = k }) d.items d.end
+Fits C R w s n = (k : ℕ) × (d : Dialog) × (slice_get (reverse (dialogs_of w (cell_past R s))) n ≡ Some (k, d)) × IsDialogIn C R (record { worker = w; service = s; incarnation = k }) d.due d.items d.end
 
 -- all dialogs of the own list fit
 abbrev AllFit : Config → Record → ℕ → Seen → Type 0
@@ -38,7 +38,7 @@ all_quiet : (C : Config) (R : Record) (w : ℕ) (J now : Seen) → Quiet J now �
 all_quiet C R w J now quiet all s n below = let same : count_by (is_dialog_at s) now.own ≡ count_by (is_dialog_at s) J.own = quiet.same s in all s n (omega arith)
 
 -- a dialog more
-all_one_more : (C : Config) (R : Record) (w t k : ℕ) (d : Dialog) (J : Seen) → next_dialog R w t J.own ≡ Some (k, d) → IsDialogIn C R (record { worker = w; service = t; incarnation = k }) d.items d.end → AllFit C R w J
+all_one_more : (C : Config) (R : Record) (w t k : ℕ) (d : Dialog) (J : Seen) → next_dialog R w t J.own ≡ Some (k, d) → IsDialogIn C R (record { worker = w; service = t; incarnation = k }) d.due d.items d.end → AllFit C R w J
     → AllFit C R w (noted J (own.Dialog t))
 all_one_more C R w t k d J is fits all s n below = by (t == s) refl below
   where
@@ -61,7 +61,7 @@ all_one_more C R w t k d J is fits all s n below = by (t == s) refl below
               k,
               d,
               ap (slice_get (reverse (dialogs_of w (cell_past R s)))) last ∙ subst (λ (u : ℕ). slice_get (reverse (dialogs_of w (cell_past R u))) (count_by (is_dialog_at u) J.own) ≡ Some (k, d)) same is,
-              subst (λ (u : ℕ). IsDialogIn C R (record { worker = w; service = u; incarnation = k }) d.items d.end) same fits,
+              subst (λ (u : ℕ). IsDialogIn C R (record { worker = w; service = u; incarnation = k }) d.due d.items d.end) same fits,
             )
     by false e below =
         let size : sum_by (λ (x : Own). cond (is_dialog_at s x) 1 0) (own.Dialog t ∷ J.own) ≡ count = sum_by-cons (λ (x : Own). cond (is_dialog_at s x) 1 0) (own.Dialog t) J.own ∙ rw e (omega arith) in
@@ -93,10 +93,10 @@ walk_went C R w s k head content J (Spoke t j d) now many h = record {
 }
   where
     quiet : Quiet (noted J (own.Dialog s)) now
-    quiet = quiet_dialog C (record { worker = w; service = s; incarnation = k }) h.3 h.4 h.5 head content (noted J (own.Dialog s)) d.items d.end now h.6
+    quiet = quiet_dialog C (record { worker = w; service = s; incarnation = k }) h.3 h.4 d.due head content (noted J (own.Dialog s)) d.items d.end now h.5
 
-    dialog : Ext R now → IsDialogIn C R (record { worker = w; service = s; incarnation = k }) d.items d.end × Ext R (noted J (own.Dialog s))
-    dialog x = dialog_fits C R (record { worker = w; service = s; incarnation = k }) h.3 h.4 h.5 head content (noted J (own.Dialog s)) d.items d.end now many h.6 x
+    dialog : Ext R now → IsDialogIn C R (record { worker = w; service = s; incarnation = k }) d.due d.items d.end × Ext R (noted J (own.Dialog s))
+    dialog x = dialog_fits C R (record { worker = w; service = s; incarnation = k }) h.3 h.4 d.due head content (noted J (own.Dialog s)) d.items d.end now many h.5 x
 
 walk_follows : (C : Config) (R : Record) (w : ℕ) (to : Way) (head content : List ℕ) (J : Seen) (outcome : Outcome) (now : Seen) → length R.proxies ≡ length C.proxies → Follows C R w to head content J outcome now → Walk C R w J now
 walk_follows C R w way.NotOwned head content J outcome now many h = walk_quiet C R w J now (quiet_same J now h.1) (ext_same R J now h.1)
@@ -244,12 +244,12 @@ get_none (x ∷ xs) (suc n) past = get_none xs n (omega arith)
 
 -- a cell's dialogs of worker w fit, and none of w's is open
 record Settled (C : Config) (R : Record) (s w : ℕ) (J : List CellEvent) : Type 0 where
-  fit : Each (λ (x : ℕ × Dialog). IsDialogIn C R (record { worker = w; service = s; incarnation = x.0 }) x.1.items x.1.end) (dialogs_of w J)
+  fit : Each (λ (x : ℕ × Dialog). IsDialogIn C R (record { worker = w; service = s; incarnation = x.0 }) x.1.due x.1.items x.1.end) (dialogs_of w J)
   shut : open_of w J ≡ 0
 
 settled_by : (C : Config) (R : Record) (launcher s w : ℕ) (items : List Own) → IsOwn R launcher w items → ((n : ℕ) → n < count_by (is_dialog_at s) items → Fits C R w s n) → Settled C R s w (cell_past R s)
 settled_by C R launcher s w items is all = record {
-  fit = each_reversed (λ (x : ℕ × Dialog). IsDialogIn C R (record { worker = w; service = s; incarnation = x.0 }) x.1.items x.1.end) L (λ n below. let z = all n (more n below) in ((z.0, z.1), z.2, z.3));
+  fit = each_reversed (λ (x : ℕ × Dialog). IsDialogIn C R (record { worker = w; service = s; incarnation = x.0 }) x.1.due x.1.items x.1.end) L (λ n below. let z = all n (more n below) in ((z.0, z.1), z.2, z.3));
   shut = none (open_of w (cell_past R s)) refl;
 }
   where
@@ -285,13 +285,13 @@ settled_events C R s n (cell.Dialog d ∷ J) below all =
     parts = and_parts (nat_lt d.worker n) (list_all (is_cell_below n) J) below
 
     P : ℕ → ℕ × Dialog → Type 0
-    P w x = IsDialogIn C R (record { worker = w; service = s; incarnation = x.0 }) x.1.items x.1.end
+    P w x = IsDialogIn C R (record { worker = w; service = s; incarnation = x.0 }) x.1.due x.1.items x.1.end
 
     rest : (w : ℕ) (b : Bool) → Each (P w) (cond b ((incarnation J, d) ∷ dialogs_of w J) (dialogs_of w J)) → Each (P w) (dialogs_of w J)
     rest w true h = h.1
     rest w false h = h
 
-    here : Each (P d.worker) (cond (d.worker == d.worker) ((incarnation J, d) ∷ dialogs_of d.worker J) (dialogs_of d.worker J)) → IsDialogIn C R (speaker_of d.worker s J) d.items d.end
+    here : Each (P d.worker) (cond (d.worker == d.worker) ((incarnation J, d) ∷ dialogs_of d.worker J) (dialogs_of d.worker J)) → IsDialogIn C R (speaker_of d.worker s J) d.due d.items d.end
     here h = first (d.worker == d.worker) (eq-eqb d.worker d.worker refl) h
       where
         first : (b : Bool) → b ≡ true → Each (P d.worker) (cond b ((incarnation J, d) ∷ dialogs_of d.worker J) (dialogs_of d.worker J)) → P d.worker (incarnation J, d)

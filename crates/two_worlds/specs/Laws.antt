@@ -20,6 +20,7 @@ use Rattle.monitor_model.specs.Told.{TellsAll, told_to}
 use Rattle.monitor_model.specs.Proxy.{granted, open_verdict, rows}
 use Rattle.monitor_model.specs.Worker.{AreWorkers}
 use Rattle.monitor_model.specs.declared.record.Record.{Record}
+use Rattle.monitor_model.specs.Sent.{broken_in}
 use Rattle.two_worlds.specs.Agreement.{LawfulConfig, ConfigsAgree, right}
 use Rattle.two_worlds.specs.LogSight.{log_sight, log_verdicts}
 use Rattle.two_worlds.specs.PubdSight.{pubd_sight, pubd_verdicts}
@@ -72,6 +73,11 @@ IsolatedAtLog = (C D : Config) (s : ℕ) (J K : List (Entry LogEvent)) → Confi
 abbrev pub HearsTheSame : Type 0
 HearsTheSame = (C D : Config) (seed : List ℕ) (keepers others : ℕ → Option ℕ) (launcher other : ℕ) (R Q : Record) (s : ℕ) → LawfulConfig C → LawfulConfig D
     → IsLawful C seed keepers launcher R → IsLawful D seed others other Q → RecordsAgree C D R Q s → (k : ℕ) → heard C seed s k (cell_past R s) ≡ heard D seed s k (cell_past Q s)
+
+-- And where its link failed the same was due: what the link was given is in both records a front of one text, what was heard and what was due.
+abbrev pub IsDueTheSame : Type 0
+IsDueTheSame = (C D : Config) (seed : List ℕ) (keepers others : ℕ → Option ℕ) (launcher other : ℕ) (R Q : Record) (s : ℕ) → LawfulConfig C → LawfulConfig D
+    → IsLawful C seed keepers launcher R → IsLawful D seed others other Q → RecordsAgree C D R Q s → (k : ℕ) → broken_in k (cell_past R s) ≡ broken_in k (cell_past Q s)
 
 -- So what two such runs print tells the same of each incarnation of s.
 abbrev pub TellsTheSame : Type 0

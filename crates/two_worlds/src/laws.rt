@@ -1,6 +1,6 @@
 //! Laws over the definitions.
 
-ghost use Rattle.two_worlds.specs.Laws.{RowsStaySound, AnswersByView, ViewsByView, OpensByOwn, ForeignIsUnseen, IsolatedAtProxy, IsolatedAtPubd, IsolatedAtLog, HearsTheSame, TellsTheSame, HaveStories, RunsHaveStories, ServersHaveStories};
+ghost use Rattle.two_worlds.specs.Laws.{RowsStaySound, AnswersByView, ViewsByView, OpensByOwn, ForeignIsUnseen, IsolatedAtProxy, IsolatedAtPubd, IsolatedAtLog, HearsTheSame, IsDueTheSame, TellsTheSame, HaveStories, RunsHaveStories, ServersHaveStories};
 
 /// Along every journal of a lawful configuration no two rows of a table have one KEY value.
 pub fn rows_stay_sound()
@@ -27,10 +27,12 @@ pub fn services_are_isolated()
     ensures oklogd { IsolatedAtLog }
 {}
 
-/// In two lawful records that agree for a service each of its incarnations heard the same bytes, and where
-/// what is printed tells all that was heard, it tells the same of each.
+/// In two lawful records that agree for a service each of its incarnations heard the same bytes, and the
+/// same was due where its link failed; and where what is printed tells all that was heard, it tells the
+/// same of each.
 pub fn hears_the_same()
     ensures heard { HearsTheSame }
+    ensures due { IsDueTheSame }
     ensures told { TellsTheSame }
 {}
 

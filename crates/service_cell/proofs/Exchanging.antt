@@ -14,17 +14,17 @@ use Rattle.service_cell.specs.declared.exchange.Exchanged.{Exchanged}
 use Rattle.service_cell.specs.declared.exchange.Exchanged.TheVariants.{Goes, Reply, Crashed}
 use Rattle.service_cell.proofs.Wires.{took_then_put, took_then_broke}
 
-pub exchanged : (C : Config) (w : Speaker) (old mid new : Wire) (items : List Item) (said : ServiceFrame) (taken : List ℕ) (J : Seen) (result : Exchanged) (items' : List Item) (now : Seen)
-    → Spells taken said → Moves old mid taken [] → AnswersFrame C w mid items said J result new items' now → Exchanges C w old items J result new items' now
-exchanged C w old mid new items said taken J Goes items' now spells before a =
+pub exchanged : (C : Config) (w : Speaker) (old mid new : Wire) (items : List Item) (said : ServiceFrame) (taken : List ℕ) (J : Seen) (result : Exchanged) (items' : List Item) (due : List ℕ) (now : Seen)
+    → Spells taken said → Moves old mid taken [] → AnswersFrame C w mid items said J result new items' due now → Exchanges C w old items J result new items' due now
+exchanged C w old mid new items said taken J Goes items' due now spells before a =
     (said, a.1, taken, (spells, a.0), a.2, a.3, took_then_put old mid new taken (server_spelling a.1) before a.4)
-exchanged C w old mid new items said taken J Reply items' now spells before a =
+exchanged C w old mid new items said taken J Reply items' due now spells before a =
     (said, taken, (spells, a.0), a.1, a.2, a.3, took_then_put old mid new taken [] before a.4)
-exchanged C w old mid new items said taken J (Crashed cause.LinkFault) items' now spells before a =
-    inr (said, a.1, taken, (spells, a.0), took_then_broke old mid new taken (server_spelling a.1) before a.4, a.2, a.3)
-exchanged C w old mid new items said taken J (Crashed cause.FrameLimit) items' now spells before a =
-    (said, taken, spells, a.0, took_then_put old mid new taken [] before a.3, a.2, a.1)
-exchanged C w old mid new items said taken J (Crashed cause.BadFrame) items' now spells before a = absurd a
-exchanged C w old mid new items said taken J (Crashed cause.Ended) items' now spells before a = absurd a
-exchanged C w old mid new items said taken J (Crashed cause.Starved) items' now spells before a =
-    inr (said, taken, (spells, a.0), took_then_put old mid new taken [] before a.3, a.1, a.2)
+exchanged C w old mid new items said taken J (Crashed cause.LinkFault) items' due now spells before a =
+    inr (said, a.1, taken, (spells, a.0), took_then_broke old mid new taken (server_spelling a.1) before a.4, a.2, a.3, a.5)
+exchanged C w old mid new items said taken J (Crashed cause.FrameLimit) items' due now spells before a =
+    (said, taken, spells, a.0, took_then_put old mid new taken [] before a.3, a.2, a.1, a.4)
+exchanged C w old mid new items said taken J (Crashed cause.BadFrame) items' due now spells before a = absurd a
+exchanged C w old mid new items said taken J (Crashed cause.Ended) items' due now spells before a = absurd a
+exchanged C w old mid new items said taken J (Crashed cause.Starved) items' due now spells before a =
+    inr (said, taken, (spells, a.0), took_then_put old mid new taken [] before a.3, a.1, a.2, a.4)

@@ -41,23 +41,24 @@ pub heard_one : (old mid new : Wire) (items items' : List Item) (frame : ServerF
 heard_one old mid new items items' frame before now is =
     subst (λ (t : List Item). Moves old new [] (heard_text t)) (sym is) (moves_then old mid new [] [] (heard_text items) (server_spelling frame) before now)
 
-pub broke_off : (old mid new : Wire) (items items' opened rest : List Item) (frame : ServerFrame) (why : Cause) → Moves old mid [] (heard_text items) → Hears mid items frame (Err why) new items' → opened ≡ rest ++ Heard frame ∷ items → Opens old opened (Err why) new items'
-broke_off old mid new items items' opened rest frame cause.LinkFault before h due =
-    (rest, frame, rw h.1 due, subst (λ (bytes : List ℕ). Breaks old new [] bytes (server_spelling frame)) (append-nil (heard_text items) ∙ ap heard_text (sym h.1)) (breaks_after old mid new [] [] (heard_text items) [] (server_spelling frame) before h.0))
-broke_off old mid new items items' opened rest frame cause.Starved before h due =
-    (rest ++ Heard frame ∷ [], rw h.1 (due ∙ sym (append_assoc rest (Heard frame ∷ []) items)), subst (λ (bytes : List ℕ). Moves old new [] bytes) (append-nil (heard_text items) ∙ ap heard_text (sym h.1)) (moves_then old mid new [] [] (heard_text items) [] before h.0))
-broke_off old mid new items items' opened rest frame cause.BadFrame before h due = absurd h
-broke_off old mid new items items' opened rest frame cause.Ended before h due = absurd h
-broke_off old mid new items items' opened rest frame cause.FrameLimit before h due = absurd h
+pub broke_off : (old mid new : Wire) (items items' opened rest : List Item) (frame : ServerFrame) (due : List ℕ) (why : Cause) → Moves old mid [] (heard_text items) → Hears mid items frame (Err why) new items' due → opened ≡ rest ++ Heard frame ∷ items
+    → Opens old opened (Err why) new items' due
+broke_off old mid new items items' opened rest frame due cause.LinkFault before h all =
+    (rest, frame, rw h.1 all, subst (λ (bytes : List ℕ). Breaks old new [] bytes (server_spelling frame)) (append-nil (heard_text items) ∙ ap heard_text (sym h.1)) (breaks_after old mid new [] [] (heard_text items) [] (server_spelling frame) before h.0), h.2)
+broke_off old mid new items items' opened rest frame due cause.Starved before h all =
+    (rest ++ Heard frame ∷ [], rw h.1 (all ∙ sym (append_assoc rest (Heard frame ∷ []) items)), subst (λ (bytes : List ℕ). Moves old new [] bytes) (append-nil (heard_text items) ∙ ap heard_text (sym h.1)) (moves_then old mid new [] [] (heard_text items) [] before h.0), h.2)
+broke_off old mid new items items' opened rest frame due cause.BadFrame before h all = absurd h
+broke_off old mid new items items' opened rest frame due cause.Ended before h all = absurd h
+broke_off old mid new items items' opened rest frame due cause.FrameLimit before h all = absurd h
 
-pub last_heard : (old mid new : Wire) (items items' : List Item) (pushes all : List Push) (request : ServerFrame) (result : Result (Unit {0}) Cause) → Moves old mid [] (heard_text items) → Hears mid items request result new items' → items ≡ reverse (map heard_push pushes) → all ≡ pushes ++ []
-    → Opens old (opening all request) result new items'
-last_heard old mid new items items' pushes all request (Ok done) before h is e =
+pub last_heard : (old mid new : Wire) (items items' : List Item) (pushes all : List Push) (request : ServerFrame) (due : List ℕ) (result : Result (Unit {0}) Cause) → Moves old mid [] (heard_text items) → Hears mid items request result new items' due → items ≡ reverse (map heard_push pushes) → all ≡ pushes ++ []
+    → Opens old (opening all request) result new items' due
+last_heard old mid new items items' pushes all request due (Ok done) before h is e =
     let whole : items' ≡ opening all request = h.1 ∙ ap (λ (t : List Item). Heard request ∷ t) (is ∙ ap (λ (ps : List Push). reverse (map heard_push ps)) (sym (e ∙ append-nil pushes))) in
     (subst (λ (t : List Item). Moves old new [] (heard_text t)) whole (heard_one old mid new items items' request before h.0 h.1), whole)
-last_heard old mid new items items' pushes all request (Err why) before h is e =
-    broke_off old mid new items items' (opening all request) [] request why before h (ap (λ (t : List Item). Heard request ∷ t) (ap (λ (ps : List Push). reverse (map heard_push ps)) (e ∙ append-nil pushes) ∙ sym is))
+last_heard old mid new items items' pushes all request due (Err why) before h is e =
+    broke_off old mid new items items' (opening all request) [] request due why before h (ap (λ (t : List Item). Heard request ∷ t) (ap (λ (ps : List Push). reverse (map heard_push ps)) (e ∙ append-nil pushes) ∙ sym is))
 
-pub heard_spelled : (old new : Wire) (items items' : List Item) (frame : ServerFrame) (result : Result (Unit {0}) Cause) → Hears old items frame result new items' → HasSpelling frame → Each IsSpelled items → OnOk result (Each IsSpelled items')
-heard_spelled old new items items' frame (Ok done) h spelling all = rw h.1 (spelling, all)
-heard_spelled old new items items' frame (Err why) h spelling all = tt
+pub heard_spelled : (old new : Wire) (items items' : List Item) (frame : ServerFrame) (due : List ℕ) (result : Result (Unit {0}) Cause) → Hears old items frame result new items' due → HasSpelling frame → Each IsSpelled items → OnOk result (Each IsSpelled items')
+heard_spelled old new items items' frame due (Ok done) h spelling all = rw h.1 (spelling, all)
+heard_spelled old new items items' frame due (Err why) h spelling all = tt

@@ -8,11 +8,10 @@ use Rattle.monitor_model.specs.declared.record.CellEvent.{CellEvent}
 use Rattle.monitor_model.specs.declared.record.CellEvent.TheVariants as cell
 use Rattle.monitor_model.specs.declared.record.End.{End}
 use Rattle.monitor_model.specs.declared.record.End.TheVariants as end
-use Rattle.monitor_model.specs.declared.record.Item.{Item}
 use Rattle.monitor_model.specs.declared.sent.Sent.{Sent}
 use Rattle.monitor_model.specs.Cell.{CellLaw, incarnation, last_booted, after_end, boot_frame, heard}
 use Rattle.monitor_model.specs.Course.{heard_text}
-use Rattle.monitor_model.specs.Sent.{or_else, cut_items, broken_in, all_booted, IsGiven, IsSent, AreSent}
+use Rattle.monitor_model.specs.Sent.{or_else, cut_due, broken_in, all_booted, IsGiven, IsSent, AreSent}
 use Rattle.okws_outer.specs.Wire.{Wire}
 use Rattle.service_cell.specs.Hearing.{Hearing, heard_more, hearings, AreGiven, AreHeard}
 use Rattle.service_cell.specs.Standing.{Open, all_sent, with_open}
@@ -145,7 +144,7 @@ missed_told C seed s worker wanted is J (last ∷ before) t = (
   spoken_before C seed s (cell.Missed worker wanted is) J refl (λ (k : ℕ) (below : k < last_booted J). (missed_same C seed s k worker wanted is J, refl)) before t.2,
 )
 
-dialog_told : (C : Config) (seed : List ℕ) (s : ℕ) (e : CellEvent) (text : List ℕ) (failed : Option (List Item)) (J : List CellEvent) (hs : List Hearing) → last_booted (e ∷ J) ≡ last_booted J
+dialog_told : (C : Config) (seed : List ℕ) (s : ℕ) (e : CellEvent) (text : List ℕ) (failed : Option (List ℕ)) (J : List CellEvent) (hs : List Hearing) → last_booted (e ∷ J) ≡ last_booted J
     → ((h : Hearing) → h.incarnation ≡ last_booted J → IsTold C seed s J h → IsTold C seed s (e ∷ J) (record h { text = h.text ++ text; broken = or_else failed h.broken }))
     → ((k : ℕ) → k < last_booted J → (heard C seed s k (e ∷ J) ≡ heard C seed s k J) × (broken_in k (e ∷ J) ≡ broken_in k J))
     → AreTold C seed s J hs → AreTold C seed s (e ∷ J) (heard_more text failed hs)
@@ -161,10 +160,10 @@ told C seed s (cell.Retired ∷ J) law = retired_told C seed s J (hearings C see
 told C seed s (cell.Missed worker wanted is ∷ J) law = missed_told C seed s worker wanted is J (hearings C seed s J) (told C seed s J law.0)
 told C seed s (cell.Dialog d ∷ J) law =
     let last : incarnation J ≡ last_booted J = is_last J law.0 law.2.0 in
-    dialog_told C seed s (cell.Dialog d) (heard_text d.items) (cut_items d.end d.items) J (hearings C seed s J) refl
+    dialog_told C seed s (cell.Dialog d) (heard_text d.items) (cut_due d.end d.due) J (hearings C seed s J) refl
     (λ (h : Hearing) (at : h.incarnation ≡ last_booted J) (t : IsTold C seed s J h). record {
       text = rw (eq-eqb (incarnation J) h.incarnation (last ∙ sym at)) (ap (λ (x : List ℕ). x ++ heard_text d.items) t.text);
-      broken = rw (eq-eqb (incarnation J) h.incarnation (last ∙ sym at)) (ap (λ (b : Option (List Item)). or_else (cut_items d.end d.items) b) t.broken);
+      broken = rw (eq-eqb (incarnation J) h.incarnation (last ∙ sym at)) (ap (λ (b : Option (List ℕ)). or_else (cut_due d.end d.due) b) t.broken);
     })
     (λ (k : ℕ) (below : k < last_booted J). (
       rw (ne_eqb (incarnation J) k (omega (arith, last, below))) (append-nil (heard C seed s k J)),
@@ -189,7 +188,7 @@ given_numbers [] (x ∷ sent) g = absurd g
 given_numbers (h ∷ heard) [] g = absurd g
 given_numbers (h ∷ heard) (x ∷ sent) g = rw (g.0, given_numbers heard sent g.2) refl
 
-more_numbers : (text : List ℕ) (failed : Option (List Item)) (heard : List Hearing) → map (λ (h : Hearing). h.incarnation) (heard_more text failed heard) ≡ map (λ (h : Hearing). h.incarnation) heard
+more_numbers : (text : List ℕ) (failed : Option (List ℕ)) (heard : List Hearing) → map (λ (h : Hearing). h.incarnation) (heard_more text failed heard) ≡ map (λ (h : Hearing). h.incarnation) heard
 more_numbers text failed [] = refl
 more_numbers text failed (h ∷ heard) = refl
 
@@ -198,13 +197,13 @@ all_numbers C seed s [] = refl
 all_numbers C seed s (cell.Boot k ∷ J) = ap (λ (ks : List ℕ). k ∷ ks) (all_numbers C seed s J)
 all_numbers C seed s (cell.Retired ∷ J) = all_numbers C seed s J
 all_numbers C seed s (cell.Missed worker wanted is ∷ J) = all_numbers C seed s J
-all_numbers C seed s (cell.Dialog d ∷ J) = more_numbers (heard_text d.items) (cut_items d.end d.items) (hearings C seed s J) ∙ all_numbers C seed s J
+all_numbers C seed s (cell.Dialog d ∷ J) = more_numbers (heard_text d.items) (cut_due d.end d.due) (hearings C seed s J) ∙ all_numbers C seed s J
 all_numbers C seed s (cell.Speaking worker items ∷ J) = more_numbers (heard_text items) None (hearings C seed s J) ∙ all_numbers C seed s J
 
 given_one : (C : Config) (seed : List ℕ) (s : ℕ) (J : List CellEvent) (h : Hearing) (x : Sent) → IsTold C seed s J h → h.incarnation ≡ x.incarnation → IsGiven h.text h.broken x.given → IsSent C seed s J x
 given_one C seed s J h x t same g =
     subst (λ (k : ℕ). IsGiven (heard C seed s k J) (broken_in k J) x.given) same
-    (subst (λ (b : Option (List Item)). IsGiven (heard C seed s h.incarnation J) b x.given) t.broken (subst (λ (text : List ℕ). IsGiven text h.broken x.given) t.text g))
+    (subst (λ (b : Option (List ℕ)). IsGiven (heard C seed s h.incarnation J) b x.given) t.broken (subst (λ (text : List ℕ). IsGiven text h.broken x.given) t.text g))
 
 given_before : (C : Config) (seed : List ℕ) (s : ℕ) (J : List CellEvent) (heard : List Hearing) (sent : List Sent) → Each (IsBefore C seed s J) heard → AreGiven heard sent → Each (IsSent C seed s J) sent
 given_before C seed s J [] [] t g = tt

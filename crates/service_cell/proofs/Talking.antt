@@ -95,6 +95,10 @@ took_more a b c t u p x y = subst (λ (put : List ℕ). Passes a c (t ++ u) put)
 took_none : (a b c : Option Wire) (t p : List ℕ) → Passes a b t p → Passes b c [] [] → Passes a c t p
 took_none a b c t p x y = subst (λ (taken : List ℕ). Passes a c taken p) (append-nil t) (took_more a b c t [] p x y)
 
+-- a dialog was entered, and this is what was due
+due_is : (c d : Standing) (w : ℕ) (items : List Item) (how : End) (due other : List ℕ) → due ≡ other → d ≡ finished c w items how due d.link → d ≡ finished c w items how other d.link
+due_is c d w items how due other same is = subst (λ (b : List ℕ). d ≡ finished c w items how b d.link) same is
+
 -- ---- how a dialog begins
 
 module _ (who : Asker) (n : ℕ) (head content : List ℕ) (c : Standing) (J : Seen) where
@@ -119,7 +123,7 @@ module _ (who : Asker) (n : ℕ) (head content : List ℕ) (c : Standing) (J : S
   -- a dialog whose Drain was entered, by how it ends
   course_of : (pushes : List Push) (mid : Seen) (d : Standing) (now : Seen) (since left due : List ℕ) (items : List Item) (how : End) → Drains who c.service (incarnation c.past) J pushes mid
       → Ends who.config (speaker c who.worker) since left due (opening pushes request) mid items how now
-      → d ≡ finished c who.worker items how d.link → GoesOver c.link d.link since left due items how → HasDialog who head content c J items how d now
+      → d ≡ finished c who.worker items how due d.link → GoesOver c.link d.link since left due items how → HasDialog who head content c J items how d now
   course_of pushes mid d now since left due items how drains ends entered link = record {
     since = since;
     left = left;
@@ -129,28 +133,28 @@ module _ (who : Asker) (n : ℕ) (head content : List ℕ) (c : Standing) (J : S
     link = link;
   }
 
-  opening_ended : (why : Cause) (pushes : List Push) (d : Standing) (now : Seen) (items : List Item) → Drains who c.service (incarnation c.past) J pushes now
-      → OpeningBreaks why (opening pushes request) items c.link d.link → d ≡ finished c who.worker items (crash_end why) d.link → HasDialog who head content c J items (crash_end why) d now
-  opening_ended cause.LinkFault pushes d now items drains h is =
+  opening_ended : (why : Cause) (pushes : List Push) (d : Standing) (now : Seen) (items : List Item) (due : List ℕ) → Drains who c.service (incarnation c.past) J pushes now
+      → OpeningBreaks why (opening pushes request) items due c.link d.link → d ≡ finished c who.worker items (crash_end why) due d.link → HasDialog who head content c J items (crash_end why) d now
+  opening_ended cause.LinkFault pushes d now items due drains h is =
       let before : opening pushes request ≡ (h.0 ++ Heard h.1 ∷ []) ++ items = h.2 ∙ sym (append_assoc h.0 (Heard h.1 ∷ []) items) in
       let all = front_heard pushes request (h.0 ++ Heard h.1 ∷ []) items before in
       course_of pushes now d now [] [] (server_spelling h.1) items end.LinkFault drains
-      (omega (arith, none_said items all), inl ((h.0 ++ Heard h.1 ∷ [], before, refl), (h.0, h.1, h.2, refl))) is
+      (omega (arith, none_said items all), inl ((h.0 ++ Heard h.1 ∷ [], before, refl), (h.0, h.1, h.2, refl))) (due_is c d who.worker items end.LinkFault due (server_spelling h.1) h.4 is)
       ([], rw (unsaid items all) h.3)
-  opening_ended cause.Starved pushes d now items drains h is =
+  opening_ended cause.Starved pushes d now items due drains h is =
       let all = front_heard pushes request h.0 items h.1 in
       course_of pushes now d now [] [] [] items end.Starved drains
-      (omega (arith, none_said items all), inl (h.0, h.1, refl)) is
+      (omega (arith, none_said items all), inl (h.0, h.1, refl)) (due_is c d who.worker items end.Starved due [] h.3 is)
       ([], rw (unsaid items all) h.2)
-  opening_ended cause.BadFrame pushes d now items drains h is = absurd h
-  opening_ended cause.Ended pushes d now items drains h is = absurd h
-  opening_ended cause.FrameLimit pushes d now items drains h is = absurd h
+  opening_ended cause.BadFrame pushes d now items due drains h is = absurd h
+  opening_ended cause.Ended pushes d now items due drains h is = absurd h
+  opening_ended cause.FrameLimit pushes d now items due drains h is = absurd h
 
   pub crashed_at_first : (shows : ℕ → Type 0) (wanted : ℕ) (why : Cause) (d : Standing) (now : Seen) → Begins who shows n (frame.Request head content) wanted c J (begun.Crashed why) d now
       → Dialogs who shows head content wanted c J (spoken.Crashed why) d now
   crashed_at_first shows wanted why d now h =
       let o = h.2 in
-      (h.0, (subst (IsCurrent shows) h.0 h.1, o.2, opening_ended why o.0 d now o.2 o.1 o.3 o.4))
+      (h.0, (subst (IsCurrent shows) h.0 h.1, o.2, opening_ended why o.0 d now o.2 o.3 o.1 o.4 o.5))
 
   pub superseded_at_first : (shows : ℕ → Type 0) (wanted k shown : ℕ) (d : Standing) (now : Seen) → Begins who shows n (frame.Request head content) wanted c J (begun.Superseded k shown) d now
       → Dialogs who shows head content wanted c J (spoken.Superseded k shown) d now
@@ -167,7 +171,7 @@ module _ (who : Asker) (n : ℕ) (head content : List ℕ) (c : Standing) (J : S
             left = [];
             due = [];
             follows = inl (shown, refl, subst (λ (x : ℕ). x < shown) (h.1 ∙ h.0) h.2, refl, h.5);
-            entered = subst (λ (l : Option Wire). d ≡ finished c who.worker [] (end.Superseded shown) l) (sym last) h.4;
+            entered = subst (λ (l : Option Wire). d ≡ finished c who.worker [] (end.Superseded shown) [] l) (sym last) h.4;
             link = inl (refl, last);
           },
         ),
@@ -211,44 +215,44 @@ module _ (who : Asker) (n : ℕ) (head content : List ℕ) (c : Standing) (J : S
 
     ended : (y : Standing) (now : Seen) (since left due : List ℕ) (items : List Item) (how : End)
         → Ends who.config (speaker c who.worker) since left due (opening t.pushes request) t.mid items how now
-        → y ≡ finished x who.worker items how y.link → GoesOver c.link y.link since left due items how → HasDialog who head content c J items how y now
+        → y ≡ finished x who.worker items how due y.link → GoesOver c.link y.link since left due items how → HasDialog who head content c J items how y now
     ended y now since left due items how ends is link =
-        course_of t.pushes t.mid y now since left due items how t.drains ends (is ∙ ap (λ (s : Standing). finished s who.worker items how y.link) t.is_open) link
+        course_of t.pushes t.mid y now since left due items how t.drains ends (is ∙ ap (λ (s : Standing). finished s who.worker items how due y.link) t.is_open) link
 
-    crashed_so : (why : Cause) (y : Standing) (now : Seen) (items : List Item) → Crashes who.config (speaker x who.worker) x.link y.link t.items seen why items now
-        → y ≡ finished x who.worker items (crash_end why) y.link → HasDialog who head content c J items (crash_end why) y now
-    crashed_so cause.BadFrame y now items h is =
+    crashed_so : (why : Cause) (y : Standing) (now : Seen) (items : List Item) (due : List ℕ) → Crashes who.config (speaker x who.worker) x.link y.link t.items seen why items due now
+        → y ≡ finished x who.worker items (crash_end why) due y.link → HasDialog who head content c J items (crash_end why) y now
+    crashed_so cause.BadFrame y now items due h is =
         ended y now h.0 h.1 [] items end.BadFrame
-        (rw (h.6, h.7) t.answered, rw h.6 t.few, h.4) is
+        (rw (h.6, h.7) t.answered, rw h.6 t.few, h.4) (due_is x y who.worker items end.BadFrame due [] h.8 is)
         (rw h.6 (took_more c.link x.link y.link (said_text t.items) h.0 (heard_text t.items) t.link h.2), h.3)
-    crashed_so cause.Ended y now items h is =
+    crashed_so cause.Ended y now items due h is =
         ended y now [] [] [] items end.Ended
-        (rw (h.2, h.3) t.answered, rw h.2 t.few, (refl, refl)) is
+        (rw (h.2, h.3) t.answered, rw h.2 t.few, (refl, refl)) (due_is x y who.worker items end.Ended due [] h.4 is)
         (rw h.2 (took_none c.link x.link y.link (said_text t.items) (heard_text t.items) t.link h.0), h.1)
-    crashed_so cause.LinkFault y now items (inl h) is =
+    crashed_so cause.LinkFault y now items due (inl h) is =
         ended y now [] [] [] items end.LinkFault
-        (rw h.2 t.few, inr (inl (rw (h.2, h.3) t.answered, refl))) is
+        (rw h.2 t.few, inr (inl (rw (h.2, h.3) t.answered, refl))) (due_is x y who.worker items end.LinkFault due [] h.4 is)
         (h.0, rw h.2 (fails_then c.link x.link y.link (said_text t.items) h.0 (heard_text t.items) [] t.link h.1))
-    crashed_so cause.LinkFault y now items (inr h) is =
+    crashed_so cause.LinkFault y now items due (inr h) is =
         let one = fails_then c.link x.link y.link (said_text t.items) h.2 (heard_text t.items) (server_spelling h.1) t.link h.4 in
         ended y now [] [] (server_spelling h.1) items end.LinkFault
-        (rw h.6 (omega (arith, h.3.1)), inr (inr (h.0, h.1, t.items, seen, h.6, t.answered, answers_of h.0 h.1 now h.5, refl))) is (
+        (rw h.6 (omega (arith, h.3.1)), inr (inr (h.0, h.1, t.items, seen, h.6, t.answered, answers_of h.0 h.1 now h.5, refl))) (due_is x y who.worker items end.LinkFault due (server_spelling h.1) h.7 is) (
           [],
           rw h.6 (subst (λ (bytes : List ℕ). Fails c.link y.link bytes (heard_text t.items) (server_spelling h.1)) (taken_is h.0 h.2 h.3.0.spelled ∙ sym (append-nil (said_text (Said h.0 ∷ t.items)))) one),
         )
-    crashed_so cause.FrameLimit y now items h is =
+    crashed_so cause.FrameLimit y now items due h is =
         ended y now [] [] [] items end.FrameLimit
-        (h.0, t.items, h.5, rw h.6 t.answered, h.3) is
+        (h.0, t.items, h.5, rw h.6 t.answered, h.3) (due_is x y who.worker items end.FrameLimit due [] h.7 is)
         (rw h.5 (subst (λ (bytes : List ℕ). Passes c.link y.link bytes (heard_text t.items)) (taken_is h.0 h.1 h.2.spelled)
         (took_more c.link x.link y.link (said_text t.items) h.1 (heard_text t.items) t.link h.4)))
-    crashed_so cause.Starved y now items (inl h) is =
+    crashed_so cause.Starved y now items due (inl h) is =
         ended y now [] [] [] items end.Starved
-        (rw h.2 t.few, inr (inl (rw (h.2, h.3) t.answered))) is
+        (rw h.2 t.few, inr (inl (rw (h.2, h.3) t.answered))) (due_is x y who.worker items end.Starved due [] h.4 is)
         (h.0, rw h.2 (took_more c.link x.link y.link (said_text t.items) h.0 (heard_text t.items) t.link h.1))
-    crashed_so cause.Starved y now items (inr h) is =
+    crashed_so cause.Starved y now items due (inr h) is =
         let took = took_more c.link x.link y.link (said_text t.items) h.1 (heard_text t.items) t.link h.3 in
         ended y now [] [] [] items end.Starved
-        (rw h.5 (omega (arith, h.2.1)), inr (inr (h.0, t.items, seen, h.5, t.answered, subst (λ (w : Speaker). Unanswered who.config w h.0 seen now) speaks (unanswered who.config (speaker x who.worker) h.0 seen now h.4)))) is
+        (rw h.5 (omega (arith, h.2.1)), inr (inr (h.0, t.items, seen, h.5, t.answered, subst (λ (w : Speaker). Unanswered who.config w h.0 seen now) speaks (unanswered who.config (speaker x who.worker) h.0 seen now h.4)))) (due_is x y who.worker items end.Starved due [] h.6 is)
         ([], rw h.5 (subst (λ (bytes : List ℕ). Passes c.link y.link bytes (heard_text t.items)) (taken_is h.0 h.1 h.2.0.spelled ∙ sym (append-nil (said_text (Said h.0 ∷ t.items)))) took))
 
     pub goes_talks : (shows : ℕ → Type 0) (y : Standing) (now : Seen) → AdvancesOpen who shows x x.open_dialog seen advanced.Goes y now → Talks who n head content c J y now
@@ -277,7 +281,7 @@ module _ (who : Asker) (n : ℕ) (head content : List ℕ) (c : Standing) (J : S
     crash_ends shows why y now a =
         let b : Advances who shows x now_open seen (advanced.Crashed why) y now = subst (λ (o : Option Open). AdvancesOpen who shows x o seen (advanced.Crashed why) y now) there a in
         let h = b.1 in
-        (subst (IsCurrent shows) stands b.0, h.0, crashed_so why y now h.0 h.1 h.2)
+        (subst (IsCurrent shows) stands b.0, h.0, crashed_so why y now h.0 h.1 h.2 h.3)
 
     pub superseded_ends : (shows : ℕ → Type 0) (k shown : ℕ) (y : Standing) (now : Seen) → AdvancesOpen who shows x x.open_dialog seen (advanced.Superseded k shown) y now
         → EndsAs who shows head content c J (spoken.Superseded k shown) y now
@@ -290,7 +294,7 @@ module _ (who : Asker) (n : ℕ) (head content : List ℕ) (c : Standing) (J : S
           t.items,
           ended y now [] [] [] t.items (end.Superseded shown)
               (subst (λ (k' : ℕ). k' < shown) (h.0 ∙ stands) h.1, rw h.3 t.answered, t.few)
-              (subst (λ (l : Option Wire). y ≡ finished x who.worker t.items (end.Superseded shown) l) (sym last) h.4)
+              (subst (λ (l : Option Wire). y ≡ finished x who.worker t.items (end.Superseded shown) [] l) (sym last) h.4)
               (inr (rw last t.link)),
         )
 

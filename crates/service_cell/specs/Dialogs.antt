@@ -34,13 +34,13 @@ GoesOver old new since left due items end.LinkFault = (taken : List ℕ) × Fail
 GoesOver old new since left due items end.FrameLimit = Passes old new (said_text items) (heard_text items)
 GoesOver old new since left due items end.Starved = (taken : List ℕ) × Passes old new (said_text items ++ taken) (heard_text items)
 
--- The cell has one dialog more, with these items and this end: a whole dialog of the incarnation that was there with this request, from what its worker had seen, J, to what it has seen then.
+-- The cell has one dialog more, with these items, this end, and what was due as its link failed: a whole dialog of the incarnation that was there with this request, from what its worker had seen, J, to what it has seen then.
 pub record HasDialog (who : Asker) (head content : List ℕ) (c : Standing) (J : Seen) (items : List Item) (how : End) (d : Standing) (now : Seen) : Type 0 where
   pub since : List ℕ
   pub left : List ℕ
   pub due : List ℕ
   pub follows : IsDialog who.config (speaker c who.worker) since left due head content (noted J (own.Dialog c.service)) items how now
-  pub entered : d ≡ finished c who.worker items how d.link
+  pub entered : d ≡ finished c who.worker items how due d.link
   pub link : GoesOver c.link d.link since left due items how
 
 -- How the dialog of the incarnation that was there ends: its answer is its end. The board showed no greater incarnation, or one that superseded it.

@@ -73,33 +73,33 @@ abbrev pub PutsFrame : Wire → List ℕ → Result (Unit {0}) LinkFault → Wir
 PutsFrame old text (Ok done) new = Moves old new [] text
 PutsFrame old text (Err fault) new = Breaks old new [] [] text
 
--- A frame was heard; or the link failed in it; or memory was refused before it.
-abbrev pub Hears : Wire → List Item → ServerFrame → Result (Unit {0}) Cause → Wire → List Item → Type 0
-Hears old items frame (Ok done) new items' = Moves old new [] (server_spelling frame) × (items' ≡ Heard frame ∷ items)
-Hears old items frame (Err cause.LinkFault) new items' = Breaks old new [] [] (server_spelling frame) × (items' ≡ items)
-Hears old items frame (Err cause.Starved) new items' = Moves old new [] [] × (items' ≡ items)
-Hears old items frame (Err cause.BadFrame) new items' = ⊥
-Hears old items frame (Err cause.Ended) new items' = ⊥
-Hears old items frame (Err cause.FrameLimit) new items' = ⊥
+-- A frame was heard; or the link failed in it, and it was due; or memory was refused before it.
+abbrev pub Hears : Wire → List Item → ServerFrame → Result (Unit {0}) Cause → Wire → List Item → List ℕ → Type 0
+Hears old items frame (Ok done) new items' due = Moves old new [] (server_spelling frame) × (items' ≡ Heard frame ∷ items) × (due ≡ [])
+Hears old items frame (Err cause.LinkFault) new items' due = Breaks old new [] [] (server_spelling frame) × (items' ≡ items) × (due ≡ server_spelling frame)
+Hears old items frame (Err cause.Starved) new items' due = Moves old new [] [] × (items' ≡ items) × (due ≡ [])
+Hears old items frame (Err cause.BadFrame) new items' due = ⊥
+Hears old items frame (Err cause.Ended) new items' due = ⊥
+Hears old items frame (Err cause.FrameLimit) new items' due = ⊥
 
--- The opening was heard, or a front of it.
-abbrev pub Opens : Wire → List Item → Result (Unit {0}) Cause → Wire → List Item → Type 0
-Opens old opened (Ok done) new items = Moves old new [] (heard_text opened) × (items ≡ opened)
-Opens old opened (Err cause.LinkFault) new items =
-    (rest : List Item) × (next : ServerFrame) × (opened ≡ rest ++ Heard next ∷ items) × Breaks old new [] (heard_text items) (server_spelling next)
-Opens old opened (Err cause.Starved) new items = (rest : List Item) × (opened ≡ rest ++ items) × Moves old new [] (heard_text items)
-Opens old opened (Err cause.BadFrame) new items = ⊥
-Opens old opened (Err cause.Ended) new items = ⊥
-Opens old opened (Err cause.FrameLimit) new items = ⊥
+-- The opening was heard, or a front of it; where the link failed its next frame was due.
+abbrev pub Opens : Wire → List Item → Result (Unit {0}) Cause → Wire → List Item → List ℕ → Type 0
+Opens old opened (Ok done) new items due = Moves old new [] (heard_text opened) × (items ≡ opened)
+Opens old opened (Err cause.LinkFault) new items due =
+    (rest : List Item) × (next : ServerFrame) × (opened ≡ rest ++ Heard next ∷ items) × Breaks old new [] (heard_text items) (server_spelling next) × (due ≡ server_spelling next)
+Opens old opened (Err cause.Starved) new items due = (rest : List Item) × (opened ≡ rest ++ items) × Moves old new [] (heard_text items) × (due ≡ [])
+Opens old opened (Err cause.BadFrame) new items due = ⊥
+Opens old opened (Err cause.Ended) new items due = ⊥
+Opens old opened (Err cause.FrameLimit) new items due = ⊥
 
--- One frame was taken and answered; or it is a Reply; or the dialog crashed.
-abbrev pub Exchanges : Config → Speaker → Wire → List Item → Seen → Exchanged → Wire → List Item → Seen → Type 0
-Exchanges C w old items J Goes new items' now =
+-- One frame was taken and answered; or it is a Reply; or the dialog crashed, and this was due where the link failed.
+abbrev pub Exchanges : Config → Speaker → Wire → List Item → Seen → Exchanged → Wire → List Item → List ℕ → Seen → Type 0
+Exchanges C w old items J Goes new items' due now =
     (said : ServiceFrame) × (heard : ServerFrame) × (taken : List ℕ) × TakesOne said items taken × Answers C w said J heard now
     × (items' ≡ Heard heard ∷ Said said ∷ items) × Moves old new taken (server_spelling heard)
-Exchanges C w old items J Reply new items' now =
+Exchanges C w old items J Reply new items' due now =
     (said : ServiceFrame) × (taken : List ℕ) × TakesOne said items taken × IsReply said × (now ≡ J) × (items' ≡ Said said ∷ items) × Moves old new taken []
-Exchanges C w old items J (Crashed why) new items' now = Crashes C w (Some old) (Some new) items J why items' now
+Exchanges C w old items J (Crashed why) new items' due now = Crashes C w (Some old) (Some new) items J why items' due now
 
 -- A frame answers what was said; or memory was refused for the rows that answer it.
 abbrev pub GivesAnswer : Config → Speaker → ServiceFrame → Seen → Result ServerFrame AllocError → Seen → Type 0
@@ -113,18 +113,18 @@ AnswersSaid C w said J (Ok None) now = IsReply said × (now ≡ J)
 AnswersSaid C w said J (Err refused) now = EntersUnanswered C w said J now
 
 -- The same of a frame that was just taken from the link, of which `old` is what is left.
-abbrev pub AnswersFrame : Config → Speaker → Wire → List Item → ServiceFrame → Seen → Exchanged → Wire → List Item → Seen → Type 0
-AnswersFrame C w old items said J Goes new items' now =
+abbrev pub AnswersFrame : Config → Speaker → Wire → List Item → ServiceFrame → Seen → Exchanged → Wire → List Item → List ℕ → Seen → Type 0
+AnswersFrame C w old items said J Goes new items' due now =
     (said_count items < MOST_FRAMES) × (heard : ServerFrame) × Answers C w said J heard now
     × (items' ≡ Heard heard ∷ Said said ∷ items) × Moves old new [] (server_spelling heard)
-AnswersFrame C w old items said J Reply new items' now =
+AnswersFrame C w old items said J Reply new items' due now =
     (said_count items < MOST_FRAMES) × IsReply said × (now ≡ J) × (items' ≡ Said said ∷ items) × Moves old new [] []
-AnswersFrame C w old items said J (Crashed cause.LinkFault) new items' now =
+AnswersFrame C w old items said J (Crashed cause.LinkFault) new items' due now =
     (said_count items < MOST_FRAMES) × (heard : ServerFrame) × Answers C w said J heard now
-    × (items' ≡ Said said ∷ items) × Breaks old new [] [] (server_spelling heard)
-AnswersFrame C w old items said J (Crashed cause.FrameLimit) new items' now =
-    (said_count items ≡ MOST_FRAMES) × (now ≡ J) × (items' ≡ Said said ∷ items) × Moves old new [] []
-AnswersFrame C w old items said J (Crashed cause.BadFrame) new items' now = ⊥
-AnswersFrame C w old items said J (Crashed cause.Ended) new items' now = ⊥
-AnswersFrame C w old items said J (Crashed cause.Starved) new items' now =
-    (said_count items < MOST_FRAMES) × EntersUnanswered C w said J now × (items' ≡ Said said ∷ items) × Moves old new [] []
+    × (items' ≡ Said said ∷ items) × Breaks old new [] [] (server_spelling heard) × (due ≡ server_spelling heard)
+AnswersFrame C w old items said J (Crashed cause.FrameLimit) new items' due now =
+    (said_count items ≡ MOST_FRAMES) × (now ≡ J) × (items' ≡ Said said ∷ items) × Moves old new [] [] × (due ≡ [])
+AnswersFrame C w old items said J (Crashed cause.BadFrame) new items' due now = ⊥
+AnswersFrame C w old items said J (Crashed cause.Ended) new items' due now = ⊥
+AnswersFrame C w old items said J (Crashed cause.Starved) new items' due now =
+    (said_count items < MOST_FRAMES) × EntersUnanswered C w said J now × (items' ≡ Said said ∷ items) × Moves old new [] [] × (due ≡ [])

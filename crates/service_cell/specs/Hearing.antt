@@ -5,21 +5,20 @@ use Rattle.frame_codec.specs.Spelling.{server_spelling}
 use Rattle.okws_outer.specs.Wire.{Wire}
 use Rattle.monitor_model.specs.declared.record.CellEvent.{CellEvent}
 use Rattle.monitor_model.specs.declared.record.CellEvent.TheVariants as cell
-use Rattle.monitor_model.specs.declared.record.Item.{Item}
 use Rattle.monitor_model.specs.declared.sent.Sent.{Sent}
 use Rattle.monitor_model.specs.Cell.{boot_frame, last_booted}
 use Rattle.monitor_model.specs.Course.{heard_text}
-use Rattle.monitor_model.specs.Sent.{or_else, cut_items, IsGiven}
+use Rattle.monitor_model.specs.Sent.{or_else, cut_due, IsGiven}
 use Rattle.service_cell.specs.Standing.{Open, all_sent, with_open}
 
--- What an incarnation heard, and, where its link failed, the items of the dialog in which it did.
+-- What an incarnation heard, and, where its link failed, what was due then.
 pub record Hearing : Type 0 where
   pub incarnation : ℕ
   pub text : List ℕ
-  pub broken : Option (List Item)
+  pub broken : Option (List ℕ)
 
--- The last incarnation heard this too, and, where its link failed then, the items of the dialog.
-abbrev pub heard_more : List ℕ → Option (List Item) → List Hearing → List Hearing
+-- The last incarnation heard this too, and, where its link failed then, this was due.
+abbrev pub heard_more : List ℕ → Option (List ℕ) → List Hearing → List Hearing
 heard_more text failed [] = []
 heard_more text failed (last ∷ before) = record last { text = last.text ++ text; broken = or_else failed last.broken } ∷ before
 
@@ -29,7 +28,7 @@ hearings C seed s [] = []
 hearings C seed s (cell.Boot k ∷ J) = record { incarnation = k; text = server_spelling (boot_frame C seed s k); broken = None } ∷ hearings C seed s J
 hearings C seed s (cell.Retired ∷ J) = hearings C seed s J
 hearings C seed s (cell.Missed worker wanted is ∷ J) = hearings C seed s J
-hearings C seed s (cell.Dialog d ∷ J) = heard_more (heard_text d.items) (cut_items d.end d.items) (hearings C seed s J)
+hearings C seed s (cell.Dialog d ∷ J) = heard_more (heard_text d.items) (cut_due d.end d.due) (hearings C seed s J)
 hearings C seed s (cell.Speaking worker items ∷ J) = heard_more (heard_text items) None (hearings C seed s J)
 
 -- Each link, and there is one for each incarnation, was given what that heard.

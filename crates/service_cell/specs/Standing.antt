@@ -54,9 +54,9 @@ speaker c w = record { worker = w; service = c.service; incarnation = incarnatio
 abbrev pub going : Standing → ℕ → ℕ → List Item → List Item → Option Wire → Standing
 going c n w items newest link = record c { open_dialog = Some (record { request = n; worker = w; items = items; newest = newest }); link = link }
 
--- The dialog of a worker stands finished on top, with these items and this end, and the link is as it is now.
-abbrev pub finished : Standing → ℕ → List Item → End → Option Wire → Standing
-finished c w items how link = record c { past = cell.Dialog (record { worker = w; items = items; end = how }) ∷ c.past; open_dialog = None; link = link }
+-- The dialog of a worker stands finished on top, with these items, this end, and what was due as its link failed; and the link is as it is now.
+abbrev pub finished : Standing → ℕ → List Item → End → List ℕ → Option Wire → Standing
+finished c w items how due link = record c { past = cell.Dialog (record { worker = w; items = items; end = how; due = due }) ∷ c.past; open_dialog = None; link = link }
 
 -- The events, with the open dialog, if any, as the last.
 abbrev pub with_open : Option Open → List CellEvent → List CellEvent

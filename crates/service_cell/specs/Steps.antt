@@ -66,13 +66,13 @@ retired c = record c {
 }
 
 -- How an opening broke off: on a fault of the link a prefix of the next frame that was due was put; where memory was refused all that was heard was put.
-abbrev pub OpeningBreaks : Cause → List Item → List Item → Option Wire → Option Wire → Type 0
-OpeningBreaks cause.LinkFault opened items old new =
-    (rest : List Item) × (next : ServerFrame) × (opened ≡ rest ++ Heard next ∷ items) × Fails old new [] (heard_text items) (server_spelling next)
-OpeningBreaks cause.Starved opened items old new = (rest : List Item) × (opened ≡ rest ++ items) × Passes old new [] (heard_text items)
-OpeningBreaks cause.BadFrame opened items old new = ⊥
-OpeningBreaks cause.Ended opened items old new = ⊥
-OpeningBreaks cause.FrameLimit opened items old new = ⊥
+abbrev pub OpeningBreaks : Cause → List Item → List Item → List ℕ → Option Wire → Option Wire → Type 0
+OpeningBreaks cause.LinkFault opened items due old new =
+    (rest : List Item) × (next : ServerFrame) × (opened ≡ rest ++ Heard next ∷ items) × Fails old new [] (heard_text items) (server_spelling next) × (due ≡ server_spelling next)
+OpeningBreaks cause.Starved opened items due old new = (rest : List Item) × (opened ≡ rest ++ items) × Passes old new [] (heard_text items) × (due ≡ [])
+OpeningBreaks cause.BadFrame opened items due old new = ⊥
+OpeningBreaks cause.Ended opened items due old new = ⊥
+OpeningBreaks cause.FrameLimit opened items due old new = ⊥
 
 -- What opening the dialog of request n at a cell that has an incarnation makes of it.
 abbrev pub OpensCell : Asker → ℕ → ServerFrame → Standing → Seen → Begun → Standing → Seen → Type 0
@@ -81,7 +81,7 @@ OpensCell who n request c J begun.Started d now =
     × (d ≡ going c n who.worker (opening pushes request) (opening pushes request) d.link) × Passes c.link d.link [] (heard_text (opening pushes request))
 OpensCell who n request c J (begun.Crashed why) d now =
     (pushes : List Push) × Drains who c.service (incarnation c.past) J pushes now
-    × (items : List Item) × OpeningBreaks why (opening pushes request) items c.link d.link × (d ≡ finished c who.worker items (crash_end why) d.link)
+    × (items : List Item) × (due : List ℕ) × OpeningBreaks why (opening pushes request) items due c.link d.link × (d ≡ finished c who.worker items (crash_end why) due d.link)
 OpensCell who n request c J begun.NoMemory d now = (d ≡ c) × (now ≡ J)
 OpensCell who n request c J (begun.Missed asked is) d now = ⊥
 OpensCell who n request c J (begun.Superseded k shown) d now = ⊥
@@ -98,7 +98,7 @@ Begins who shows n request wanted c J (begun.Missed asked is) d now =
     × (d ≡ record c { past = cell.Missed who.worker wanted is ∷ c.past }) × (now ≡ noted J (own.Missed c.service wanted is))
 Begins who shows n request wanted c J (begun.Superseded k shown) d now =
     (wanted ≡ incarnation c.past) × (k ≡ wanted) × (k < shown) × shows shown
-    × (d ≡ finished c who.worker [] (end.Superseded shown) c.link) × (now ≡ noted J (own.Dialog c.service))
+    × (d ≡ finished c who.worker [] (end.Superseded shown) [] c.link) × (now ≡ noted J (own.Dialog c.service))
 Begins who shows n request wanted c J (begun.Crashed why) d now =
     (wanted ≡ incarnation c.past) × IsCurrent shows wanted × OpensCell who n request c J (begun.Crashed why) d now
 Begins who shows n request wanted c J begun.NoMemory d now = (d ≡ c) × (now ≡ J)
@@ -117,25 +117,25 @@ EntersUnanswered C w (said.Get name) J now = ⊥
 EntersUnanswered C w (said.Log text) J now = ⊥
 EntersUnanswered C w (said.Reply status content_type location content) J now = ⊥
 
--- How a step of an open dialog crashes it: which items it has then, and what the worker has seen.
+-- How a step of an open dialog crashes it: which items it has then, what was due where the link failed, and what the worker has seen.
 -- BadFrame, Ended: as `next` tells. LinkFault: before a frame was taken whole, or while its answer was put. FrameLimit: the 4,097th frame was taken.
 -- Starved: memory was refused before a frame was taken whole; or behind the entry of a Call, for the rows that answer it.
-abbrev pub Crashes : Config → Speaker → Option Wire → Option Wire → List Item → Seen → Cause → List Item → Seen → Type 0
-Crashes C w old new items J cause.BadFrame items' now =
+abbrev pub Crashes : Config → Speaker → Option Wire → Option Wire → List Item → Seen → Cause → List Item → List ℕ → Seen → Type 0
+Crashes C w old new items J cause.BadFrame items' due now =
     (since left : List ℕ) × Passes old new since [] × AreLeft (left_of new) left × IsBadStop since left × IsBadFront (left_of old) (left_of new)
-    × (items' ≡ items) × (now ≡ J)
-Crashes C w old new items J cause.Ended items' now = Passes old new [] [] × IsAtEnd (left_of new) × (items' ≡ items) × (now ≡ J)
-Crashes C w old new items J cause.LinkFault items' now =
-    ((taken : List ℕ) × Fails old new taken [] [] × (items' ≡ items) × (now ≡ J))
+    × (items' ≡ items) × (now ≡ J) × (due ≡ [])
+Crashes C w old new items J cause.Ended items' due now = Passes old new [] [] × IsAtEnd (left_of new) × (items' ≡ items) × (now ≡ J) × (due ≡ [])
+Crashes C w old new items J cause.LinkFault items' due now =
+    ((taken : List ℕ) × Fails old new taken [] [] × (items' ≡ items) × (now ≡ J) × (due ≡ []))
     ⊎ ((said : ServiceFrame) × (heard : ServerFrame) × (taken : List ℕ) × TakesOne said items taken × Fails old new taken [] (server_spelling heard)
-    × Answers C w said J heard now × (items' ≡ Said said ∷ items))
-Crashes C w old new items J cause.FrameLimit items' now =
+    × Answers C w said J heard now × (items' ≡ Said said ∷ items) × (due ≡ server_spelling heard))
+Crashes C w old new items J cause.FrameLimit items' due now =
     (said : ServiceFrame) × (taken : List ℕ) × Spells taken said × (said_count items ≡ MOST_FRAMES) × Passes old new taken []
-    × (items' ≡ Said said ∷ items) × (now ≡ J)
-Crashes C w old new items J cause.Starved items' now =
-    ((taken : List ℕ) × Passes old new taken [] × (items' ≡ items) × (now ≡ J))
+    × (items' ≡ Said said ∷ items) × (now ≡ J) × (due ≡ [])
+Crashes C w old new items J cause.Starved items' due now =
+    ((taken : List ℕ) × Passes old new taken [] × (items' ≡ items) × (now ≡ J) × (due ≡ []))
     ⊎ ((said : ServiceFrame) × (taken : List ℕ) × TakesOne said items taken × Passes old new taken []
-    × EntersUnanswered C w said J now × (items' ≡ Said said ∷ items))
+    × EntersUnanswered C w said J now × (items' ≡ Said said ∷ items) × (due ≡ []))
 
 -- What one exchange of the open dialog o makes of the cell c and of what its worker had seen, J.
 abbrev pub Steps : Asker → Standing → Open → Seen → Exchanged → Standing → Seen → Type 0
@@ -146,10 +146,10 @@ Steps who c o J exchanged.Goes d now =
 Steps who c o J exchanged.Reply d now =
     (status : ℕ) × (content_type location content taken : List ℕ)
     × TakesOne (said.Reply status content_type location content) o.items taken × (now ≡ J)
-    × (d ≡ finished c o.worker (Said (said.Reply status content_type location content) ∷ o.items) end.Reply d.link) × Passes c.link d.link taken []
+    × (d ≡ finished c o.worker (Said (said.Reply status content_type location content) ∷ o.items) end.Reply [] d.link) × Passes c.link d.link taken []
 Steps who c o J (exchanged.Crashed why) d now =
-    (items : List Item) × Crashes who.config (speaker c o.worker) c.link d.link o.items J why items now
-    × (d ≡ finished c o.worker items (crash_end why) d.link)
+    (items : List Item) × (due : List ℕ) × Crashes who.config (speaker c o.worker) c.link d.link o.items J why items due now
+    × (d ≡ finished c o.worker items (crash_end why) due d.link)
 
 -- The same where a dialog is open.
 abbrev pub StepsOpen : Asker → Standing → Option Open → Seen → Exchanged → Standing → Seen → Type 0
@@ -162,7 +162,7 @@ abbrev pub Advances : Asker → (ℕ → Type 0) → Standing → Open → Seen 
 Advances who shows c o J advanced.Goes d now = IsCurrent shows (incarnation c.past) × Steps who c o J exchanged.Goes d now
 Advances who shows c o J advanced.Reply d now = IsCurrent shows (incarnation c.past) × Steps who c o J exchanged.Reply d now
 Advances who shows c o J (advanced.Superseded k shown) d now =
-    (k ≡ incarnation c.past) × (k < shown) × shows shown × (now ≡ J) × (d ≡ finished c o.worker o.items (end.Superseded shown) c.link)
+    (k ≡ incarnation c.past) × (k < shown) × shows shown × (now ≡ J) × (d ≡ finished c o.worker o.items (end.Superseded shown) [] c.link)
 Advances who shows c o J (advanced.Crashed why) d now = IsCurrent shows (incarnation c.past) × Steps who c o J (exchanged.Crashed why) d now
 
 -- A dialog is open, of this worker.
@@ -173,7 +173,7 @@ IsSpeaking w (Some o) = o.worker ≡ w
 -- An open dialog ends as superseded.
 abbrev pub superseded : Standing → Option Open → ℕ → Standing
 superseded c None shown = c
-superseded c (Some o) shown = finished c o.worker o.items (end.Superseded shown) c.link
+superseded c (Some o) shown = finished c o.worker o.items (end.Superseded shown) [] c.link
 
 -- The same where a dialog is open.
 abbrev pub AdvancesOpen : Asker → (ℕ → Type 0) → Standing → Option Open → Seen → Advanced → Standing → Seen → Type 0

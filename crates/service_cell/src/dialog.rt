@@ -20,6 +20,7 @@ use crate::course::Course;
 use crate::ending::{Events, Finished};
 use crate::exchange::{Exchanged, Who, exchange, hear_opening};
 use frame_codec::frame::ServerFrame;
+use monitor_model::due::Due;
 use monitor_model::record::{CellEvent, End, Item, Own};
 use okws_base::crash::Cause;
 use okws_base::items::Items;
@@ -52,21 +53,22 @@ fn end_of(cause: Cause) -> End
     }
 }
 
-/// Enters a dialog that ended so, without a Reply, in a place that was kept.
-fn finish(events: &mut Events, worker: u16, items: Course, end: End)
+/// Enters a dialog that ended so, without a Reply, in a place that was kept; and what was due then on
+/// its link.
+fn finish(events: &mut Events, worker: u16, items: Course, end: End, due: Due)
     requires room { 0 < events.old.room }
     requires unreplied { HasNoReply end }
-    ensures past { events.new.past ≡ cell.Dialog (record { worker = worker; items = items.past; end = end }) ∷ events.old.past }
+    ensures past { events.new.past ≡ cell.Dialog (record { worker = worker; items = items.past; end = end; due = due }) ∷ events.old.past }
     ensures room { events.new.room + 1 ≡ events.old.room }
 {
-    events.finish(Finished::new(worker, items.into_journal(), end));
+    events.finish(Finished::new(worker, items.into_journal(), end, due));
 }
 
 /// Enters a dialog that ended in a Reply, in a place that was kept.
 fn finish_replied(events: &mut Events, worker: u16, items: Course)
     requires room { 0 < events.old.room }
     requires replied { EndsInReply items.newest }
-    ensures past { events.new.past ≡ cell.Dialog (record { worker = worker; items = items.past; end = end.Reply }) ∷ events.old.past }
+    ensures past { events.new.past ≡ cell.Dialog (record { worker = worker; items = items.past; end = end.Reply; due = [] }) ∷ events.old.past }
     ensures room { events.new.room + 1 ≡ events.old.room }
 {
     let (reply, before) = items.into_reply();
@@ -103,7 +105,13 @@ impl<L: Link> Cell<L> {
     {
         match self.speaking.take() {
             Some(Speaking { worker, items, .. }) => {
-                finish(&mut self.events, worker, items, End::Superseded(shown))
+                finish(
+                    &mut self.events,
+                    worker,
+                    items,
+                    End::Superseded(shown),
+                    Due::none(),
+                )
             }
             None => unreachable!(),
         }
@@ -183,7 +191,7 @@ impl<L: Link> Cell<L> {
         requires closed { self.old.open_dialog ≡ None }
         requires there { 0 < incarnation self.old.past }
         requires above { incarnation self.old.past < shown }
-        ensures ok { OnOk result ((self.new ≡ finished self.old (C.asker columns.old).worker [] (end.Superseded shown) self.old.link) × (C.seen columns.new ≡ noted (C.seen columns.old) (own.Dialog self.old.service))) }
+        ensures ok { OnOk result ((self.new ≡ finished self.old (C.asker columns.old).worker [] (end.Superseded shown) [] self.old.link) × (C.seen columns.new ≡ noted (C.seen columns.old) (own.Dialog self.old.service))) }
         ensures err { OnErr result ((self.new ≡ self.old) × (C.seen columns.new ≡ C.seen columns.old)) }
         ensures board { KeepsBoard C.asker C.shows C.token_seed C.spare C.may_ask columns.old columns.new }
     {
@@ -195,6 +203,7 @@ impl<L: Link> Cell<L> {
             columns.worker(),
             items,
             End::Superseded(shown),
+            Due::none(),
         );
         Ok(())
     }
@@ -227,7 +236,8 @@ impl<L: Link> Cell<L> {
         };
         let worker = columns.worker();
         let mut items = Course::new(self.alloc, self.keeps);
-        match hear_opening(link, &mut items, pushes, head, content) {
+        let mut due = Due::none();
+        match hear_opening(link, &mut items, &mut due, pushes, head, content) {
             Ok(()) => {
                 self.speaking = Some(Speaking {
                     request,
@@ -238,7 +248,7 @@ impl<L: Link> Cell<L> {
                 Begun::Started
             }
             Err(cause) => {
-                finish(&mut self.events, worker, items, end_of(cause));
+                finish(&mut self.events, worker, items, end_of(cause), due);
                 self.incarnation = 0;
                 Begun::Crashed(cause)
             }
@@ -289,11 +299,13 @@ impl<L: Link> Cell<L> {
         let Some(link) = &mut self.wire else {
             unreachable!()
         };
+        let mut due = Due::none();
         let exchanged = exchange(
             self.alloc,
             link,
             speaking.frames,
             &mut speaking.items,
+            &mut due,
             columns,
             who,
         );
@@ -306,12 +318,8 @@ impl<L: Link> Cell<L> {
                 finish_replied(&mut self.events, speaking.worker, speaking.items)
             }
             Exchanged::Crashed(cause) => {
-                finish(
-                    &mut self.events,
-                    speaking.worker,
-                    speaking.items,
-                    end_of(cause),
-                );
+                let end = end_of(cause);
+                finish(&mut self.events, speaking.worker, speaking.items, end, due);
                 self.incarnation = 0;
             }
         }

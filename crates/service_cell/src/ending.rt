@@ -8,6 +8,7 @@ ghost use Rattle.monitor_model.specs.declared.record.Item.TheVariants.{Said};
 ghost use Rattle.service_cell.specs.Ending.{with_last, places, IsOther, IsLast, EndsOtherwise, IsSpelledReply, HasNoReply, EndsIn};
 
 use frame_codec::frame::ServiceFrame;
+use monitor_model::due::Due;
 use monitor_model::record::{CellEvent, Dialog, End, Item};
 use okws_base::journal::{Journal, Past};
 use std::alloc::{AllocError, Global};
@@ -20,6 +21,7 @@ pub struct Finished {
     items: Journal<Item>,
     reply: Option<ServiceFrame>,
     end: End,
+    due: Due,
 }
 
 impl Drop for Finished {
@@ -29,9 +31,11 @@ impl Drop for Finished {
             items,
             reply,
             end: _,
+            due,
         } = self;
         drop(items);
         drop(reply);
+        drop(due);
     }
 }
 
@@ -41,22 +45,23 @@ impl Model for Finished {
 
     ghost Value = { Dialog };
 
-    ghost view = { λ a. record { worker = a.worker; items = with_reply a.reply a.items.past; end = a.end } };
+    ghost view = { λ a. record { worker = a.worker; items = with_reply a.reply a.items.past; end = a.end; due = a.due } };
 
     ghost invariant = { λ a. FitsEnd a.reply a.items.room a.end };
 }
 
 impl Finished {
-    /// The dialog of a worker that ended without a Reply.
-    pub(crate) fn new(worker: u16, items: Journal<Item>, end: End) -> Self
+    /// The dialog of a worker that ended without a Reply, and what was due then on its link.
+    pub(crate) fn new(worker: u16, items: Journal<Item>, end: End, due: Due) -> Self
         requires { HasNoReply end }
-        ensures { result ≡ record { worker = worker; items = items.past; end = end } }
+        ensures { result ≡ record { worker = worker; items = items.past; end = end; due = due } }
     {
         Finished {
             worker,
             items,
             reply: None,
             end,
+            due,
         }
     }
 
@@ -64,13 +69,14 @@ impl Finished {
     pub(crate) fn replied(worker: u16, items: Journal<Item>, reply: ServiceFrame) -> Self
         requires reply { IsSpelledReply reply }
         requires room { 0 < items.room }
-        ensures { result ≡ record { worker = worker; items = Said reply ∷ items.past; end = end.Reply } }
+        ensures { result ≡ record { worker = worker; items = Said reply ∷ items.past; end = end.Reply; due = [] } }
     {
         Finished {
             worker,
             items,
             reply: Some(reply),
             end: End::Reply,
+            due: Due::none(),
         }
     }
 
@@ -96,6 +102,7 @@ impl Finished {
             mut items,
             reply,
             end,
+            due,
         } = self;
         if let Some(reply) = reply {
             items.enter(Item::Said(reply));
@@ -104,6 +111,7 @@ impl Finished {
             worker,
             items: items.into_past(),
             end,
+            due,
         }
     }
 }

@@ -15,6 +15,7 @@ use frame_codec::frame::{ServerFrame, ServiceFrame};
 use frame_codec::making;
 use frame_link::receiving::{NextFrame, next};
 use frame_link::sending::{LinkFault, send};
+use monitor_model::due::Due;
 use monitor_model::record::Item;
 use monitor_model::verdict::Push;
 use okws_base::crash::Cause;
@@ -186,11 +187,18 @@ pub(crate) fn put_frame<L: Link>(link: &mut L, frame: &ServerFrame) -> Result<()
     send(link, frame)
 }
 
-/// Puts a frame, and enters it as heard. Makes room for both first.
+/// Puts a frame, and enters it as heard. Makes room for both first. Where the link fails the frame was
+/// due.
 #[tactic(auto, using(crate::proofs::Wires::spelling_is_short))]
-fn hear<L: Link>(link: &mut L, items: &mut Course, frame: ServerFrame) -> Result<(), Cause>
-    requires { HasSpelling frame }
-    ensures hears { Hears (L.wire link.old) items.old.past frame result (L.wire link.new) items.new.past }
+fn hear<L: Link>(
+    link: &mut L,
+    items: &mut Course,
+    due: &mut Due,
+    frame: ServerFrame,
+) -> Result<(), Cause>
+    requires spelling { HasSpelling frame }
+    requires whole { due.old ≡ [] }
+    ensures hears { Hears (L.wire link.old) items.old.past frame result (L.wire link.new) items.new.past due.new }
     ensures newest { items.old.newest ≡ items.old.past → items.new.newest ≡ items.new.past }
 {
     if items.make_room(1).is_err() || link.make_room(LONGEST_FRAME + 4).is_err() {
@@ -201,41 +209,47 @@ fn hear<L: Link>(link: &mut L, items: &mut Course, frame: ServerFrame) -> Result
             items.enter(Item::Heard(frame));
             Ok(())
         }
-        Err(_) => Err(Cause::LinkFault),
+        Err(_) => {
+            *due = Due::frame(&frame);
+            Err(Cause::LinkFault)
+        }
     }
 }
 
-/// Puts the pushes and the Request of a dialog, each of which is heard.
+/// Puts the pushes and the Request of a dialog, each of which is heard, or was due as the link failed.
 pub(crate) fn hear_opening<L: Link>(
     link: &mut L,
     items: &mut Course,
+    due: &mut Due,
     pushes: Vec<Push>,
     head: Items<u8>,
     content: Items<u8>,
 ) -> Result<(), Cause>
     requires fresh { items.old.past ≡ [] }
     requires none { items.old.newest ≡ [] }
+    requires whole { due.old ≡ [] }
     requires short { Each IsShortPush pushes.items }
     requires request { length head + length content + 9 ≤ LONGEST_FRAME }
-    ensures opens { Opens (L.wire link.old) (opening pushes.items (ServerFrame.Request head content)) result (L.wire link.new) items.new.past }
+    ensures opens { Opens (L.wire link.old) (opening pushes.items (ServerFrame.Request head content)) result (L.wire link.new) items.new.past due.new }
     ensures said { said_count items.new.past ≡ 0 }
     ensures newest { items.new.newest ≡ items.new.past }
     ensures spelled { OnOk result (Each IsSpelled items.new.past) }
 {
     for push in pushes {
-        if let Err(cause) = hear(link, items, told_push(push)) {
+        if let Err(cause) = hear(link, items, due, told_push(push)) {
             return Err(cause);
         }
     }
-    hear(link, items, making::request(head, content))
+    hear(link, items, due, making::request(head, content))
 }
 
-/// Takes a frame that came over the link, and answers it.
+/// Takes a frame that came over the link, and answers it; the answer was due where the link fails.
 fn exchange_frame<L: Link, C: Columns>(
     alloc: Global,
     link: &mut L,
     frames: usize,
     items: &mut Course,
+    due: &mut Due,
     columns: &mut C,
     who: Who,
     said: ServiceFrame,
@@ -247,8 +261,9 @@ fn exchange_frame<L: Link, C: Columns>(
     requires most { frames ≤ MOST_FRAMES }
     requires fresh { items.old.newest ≡ [] }
     requires places { 2 ≤ items.old.room }
+    requires whole { due.old ≡ [] }
     requires room { (L.wire link.old).steady ≡ true → LONGEST_FRAME + 4 ≤ (L.wire link.old).room }
-    ensures exchanged { AnswersFrame (C.asker columns.old).config (record { worker = (C.asker columns.old).worker; service = who.service; incarnation = who.incarnation }) (L.wire link.old) items.old.past said (C.seen columns.old) result (L.wire link.new) items.new.past (C.seen columns.new) }
+    ensures exchanged { AnswersFrame (C.asker columns.old).config (record { worker = (C.asker columns.old).worker; service = who.service; incarnation = who.incarnation }) (L.wire link.old) items.old.past said (C.seen columns.old) result (L.wire link.new) items.new.past due.new (C.seen columns.new) }
     ensures spelled { result ≡ Exchanged.Goes → IsHeardLast items.new.past }
     ensures newest { result ≡ Exchanged.Goes → items.new.newest ≡ take 2 items.new.past }
     ensures replied { result ≡ Exchanged.Reply → EndsInReply items.new.newest }
@@ -271,7 +286,10 @@ fn exchange_frame<L: Link, C: Columns>(
             items.enter(Item::Heard(heard));
             Exchanged::Goes
         }
-        Err(_) => Exchanged::Crashed(Cause::LinkFault),
+        Err(_) => {
+            *due = Due::frame(&heard);
+            Exchanged::Crashed(Cause::LinkFault)
+        }
     }
 }
 
@@ -282,6 +300,7 @@ pub(crate) fn exchange<L: Link, C: Columns>(
     link: &mut L,
     frames: usize,
     items: &mut Course,
+    due: &mut Due,
     columns: &mut C,
     who: Who,
 ) -> Exchanged
@@ -289,7 +308,8 @@ pub(crate) fn exchange<L: Link, C: Columns>(
     requires may { C.may_ask columns.old who.service who.incarnation }
     requires counted { frames ≡ said_count items.old.past }
     requires most { frames ≤ MOST_FRAMES }
-    ensures exchanged { Exchanges (C.asker columns.old).config (record { worker = (C.asker columns.old).worker; service = who.service; incarnation = who.incarnation }) (L.wire link.old) items.old.past (C.seen columns.old) result (L.wire link.new) items.new.past (C.seen columns.new) }
+    requires whole { due.old ≡ [] }
+    ensures exchanged { Exchanges (C.asker columns.old).config (record { worker = (C.asker columns.old).worker; service = who.service; incarnation = who.incarnation }) (L.wire link.old) items.old.past (C.seen columns.old) result (L.wire link.new) items.new.past due.new (C.seen columns.new) }
     ensures spelled { result ≡ Exchanged.Goes → IsHeardLast items.new.past }
     ensures newest { result ≡ Exchanged.Goes → items.new.newest ≡ take 2 items.new.past }
     ensures replied { result ≡ Exchanged.Reply → EndsInReply items.new.newest }
@@ -300,7 +320,9 @@ pub(crate) fn exchange<L: Link, C: Columns>(
         return Exchanged::Crashed(Cause::Starved);
     }
     match next(alloc, link) {
-        NextFrame::Frame(said) => exchange_frame(alloc, link, frames, items, columns, who, said),
+        NextFrame::Frame(said) => exchange_frame(
+            alloc, link, frames, items, due, columns, who, said,
+        ),
         NextFrame::Ended => Exchanged::Crashed(Cause::Ended),
         NextFrame::BadFrame => Exchanged::Crashed(Cause::BadFrame),
         NextFrame::LinkFault => Exchanged::Crashed(Cause::LinkFault),

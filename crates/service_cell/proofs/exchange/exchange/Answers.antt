@@ -12,12 +12,12 @@ returns-in-Frame-clause-exchanged g c =
     let n = c.in-Frame.ensures in
     let before = took (g.L.Link.wire c.args.link.now) (g.L.Link.wire c.make_room.new.self) (g.L.Link.wire c.next.new.link) n.next.0 _ c.make_room.ensures.link n.next.2 n.link (λ e. cc) in
     exchanged (g.C.Columns.asker c.args.columns.now).config (record { worker = (g.C.Columns.asker c.args.columns.now).worker; service = c.args.who.service; incarnation = c.args.who.incarnation })
-    (g.L.Link.wire c.args.link.now) (g.L.Link.wire c.next.new.link) (g.L.Link.wire c.exchange_frame.new.link) c.args.items.now.past c.in-Frame.said n.next.0 (g.C.Columns.seen c.args.columns.now) c.exchange_frame.result c.exchange_frame.new.items.past (g.C.Columns.seen c.exchange_frame.new.columns) n.next.1 before (rw c.begin_step.ensures.past at c.exchange_frame.ensures.exchanged)
+    (g.L.Link.wire c.args.link.now) (g.L.Link.wire c.next.new.link) (g.L.Link.wire c.exchange_frame.new.link) c.args.items.now.past c.in-Frame.said n.next.0 (g.C.Columns.seen c.args.columns.now) c.exchange_frame.result c.exchange_frame.new.items.past c.exchange_frame.new.due (g.C.Columns.seen c.exchange_frame.new.columns) n.next.1 before (rw c.begin_step.ensures.past at c.exchange_frame.ensures.exchanged)
 
 pub returns-in-LinkFault-clause-exchanged : goal.returns-in-LinkFault-clause-exchanged
 returns-in-LinkFault-clause-exchanged g c =
     let n = c.in-LinkFault.ensures in
-    inl (n.next.0, broke_taking (g.L.Link.wire c.args.link.now) (g.L.Link.wire c.make_room.new.self) (g.L.Link.wire c.next.new.link) n.next.0 _ c.make_room.ensures.link n.next.1 n.link refl, c.begin_step.ensures.past, refl)
+    inl (n.next.0, broke_taking (g.L.Link.wire c.args.link.now) (g.L.Link.wire c.make_room.new.self) (g.L.Link.wire c.next.new.link) n.next.0 _ c.make_room.ensures.link n.next.1 n.link refl, c.begin_step.ensures.past, refl, c.requires.whole)
 
 pub returns-then-is_err-clause-exchanged : goal.returns-then-is_err-clause-exchanged
 returns-then-is_err-clause-exchanged g c =
@@ -29,4 +29,5 @@ returns-then-is_err-clause-exchanged g c =
       ],
       c.begin_step.ensures.past,
       refl,
+      c.requires.whole,
     )

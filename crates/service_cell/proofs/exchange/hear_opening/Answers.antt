@@ -20,6 +20,7 @@ loop-push-preserved g c =
       said = rw h.1 i.said;
       spelled = rw h.1 (c.told_push.ensures.spelling, i.spelled);
       newest = c.hear.ensures.newest i.newest;
+      whole = h.2;
     }
 
 pub returns-in-Err-clause-opens : goal.returns-in-Err-clause-opens
@@ -27,7 +28,7 @@ returns-in-Err-clause-opens g c =
     let i = c.loop-push.invariant in
     let s = c.in-Some.ensures.steps in
     let more : List Push = c.next.new.self.rest.items in
-    broke_off (g.L.Link.wire c.args.link.now) (g.L.Link.wire c.loop-push.link) (g.L.Link.wire c.hear.new.link) c.loop-push.items.past c.hear.new.items.past (opening c.args.pushes.items (frame.Request c.args.head c.args.content)) (Heard (frame.Request c.args.head c.args.content) ∷ reverse (map (λ (p : Push). Heard (push_frame p)) more)) c.told_push.result c.in-Err.cause i.moved c.in-Err.ensures.hears
+    broke_off (g.L.Link.wire c.args.link.now) (g.L.Link.wire c.loop-push.link) (g.L.Link.wire c.hear.new.link) c.loop-push.items.past c.hear.new.items.past (opening c.args.pushes.items (frame.Request c.args.head c.args.content)) (Heard (frame.Request c.args.head c.args.content) ∷ reverse (map (λ (p : Push). Heard (push_frame p)) more)) c.told_push.result c.hear.new.due c.in-Err.cause i.moved c.in-Err.ensures.hears
     (due_after c.args.pushes.items c.loop-push.yielded more c.in-Some.push (frame.Request c.args.head c.args.content) c.loop-push.items.past (i.all ∙ ap (λ (t : List Push). c.loop-push.yielded ++ t) s.0) i.heard
     ∙ ap (λ (f : ServerFrame). (Heard (frame.Request c.args.head c.args.content) ∷ reverse (map (λ (p : Push). Heard (push_frame p)) more)) ++ Heard f ∷ c.loop-push.items.past) (sym c.told_push.ensures.frame))
 
@@ -36,8 +37,8 @@ returns-clause-opens g c =
     let i = c.loop-push.invariant in
     let s = c.in-None.ensures.steps in
     let none : c.loop-push.push-iterator.rest.items ≡ [] = nothing_left c.loop-push.push-iterator.rest.items (sym c.loop-push.push-iterator.rest.ok.0 ∙ s.0) in
-    last_heard (g.L.Link.wire c.args.link.now) (g.L.Link.wire c.loop-push.link) (g.L.Link.wire c.hear-2.new.link) c.loop-push.items.past c.hear-2.new.items.past c.loop-push.yielded c.args.pushes.items (frame.Request c.args.head c.args.content) c.hear-2.result
+    last_heard (g.L.Link.wire c.args.link.now) (g.L.Link.wire c.loop-push.link) (g.L.Link.wire c.hear-2.new.link) c.loop-push.items.past c.hear-2.new.items.past c.loop-push.yielded c.args.pushes.items (frame.Request c.args.head c.args.content) c.hear-2.new.due c.hear-2.result
     i.moved (rw c.request.ensures.frame at c.hear-2.ensures.hears) i.heard (i.all ∙ ap (λ (t : List Push). c.loop-push.yielded ++ t) none)
 
 pub returns-clause-spelled : goal.returns-clause-spelled
-returns-clause-spelled g c = heard_spelled _ _ c.loop-push.items.past c.hear-2.new.items.past c.request.result c.hear-2.result c.hear-2.ensures.hears c.request.ensures.spelling c.loop-push.invariant.spelled
+returns-clause-spelled g c = heard_spelled _ _ c.loop-push.items.past c.hear-2.new.items.past c.request.result c.hear-2.new.due c.hear-2.result c.hear-2.ensures.hears c.request.ensures.spelling c.loop-push.invariant.spelled

@@ -15,4 +15,5 @@ invariant-loop-push g l = record {
   said : said_count l.items.past ≡ 0;
   spelled : Each IsSpelled l.items.past;
   newest : l.items.newest ≡ l.items.past;
+  whole : l.due ≡ [];
 }

@@ -11,5 +11,5 @@ invariant_of-self-2 g c =
     let shut : opened c.self.inside.speaking ≡ None = ap (λ (x : Standing). x.open_dialog) c.self.view_is ∙ c.requires.closed in
     record {
       tied = search rules;
-      heard = at_once_heard (arc_value c.self.inside.config) c.self.inside.seed c.self.inside.service c.self.inside.events.past c.finish.new.events.past c.worker.result c.args.shown c.new-items.result.past (opened c.self.inside.speaking) (option_map g.L.Link.wire c.self.inside.wire) c.self.inside.sent (rw c.make_room.ensures.past at c.finish.ensures.past) c.new-items.ensures.past shut c.self.invariant.heard;
+      heard = at_once_heard (arc_value c.self.inside.config) c.self.inside.seed c.self.inside.service c.self.inside.events.past c.finish.new.events.past c.worker.result c.args.shown c.new-items.result.past (opened c.self.inside.speaking) (option_map g.L.Link.wire c.self.inside.wire) c.self.inside.sent (rw (c.make_room.ensures.past, c.none.ensures) at c.finish.ensures.past) c.new-items.ensures.past shut c.self.invariant.heard;
     }

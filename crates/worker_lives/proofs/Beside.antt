@@ -97,7 +97,7 @@ goes_beside C w L s k head content J IsDown now f = f
 goes_beside C w L s k head content J IsMissed now f = (f.0, ap (beside L) f.1)
 goes_beside C w L s k head content J WantsMemory now f = ap (beside L) f
 goes_beside C w L s k head content J (Spoke t j d) now f =
-    (f.0, f.1, f.2, f.3, f.4, dialog_beside C (record { worker = w; service = s; incarnation = k }) L f.2 f.3 f.4 head content (noted J (own.Dialog s)) d.items d.end now f.5)
+    (f.0, f.1, f.2, f.3, dialog_beside C (record { worker = w; service = s; incarnation = k }) L f.2 f.3 d.due head content (noted J (own.Dialog s)) d.items d.end now f.4)
 
 pub by_beside : (C : Config) (w : ℕ) (L : List (Entry LauncherEvent)) (v : Way) (head content : List ℕ) (J : Seen) (outcome : Outcome) (now : Seen) → GoesBy C w v head content J outcome now
     → GoesBy C w v head content (beside L J) outcome (beside L now)

@@ -163,7 +163,7 @@ to_crashed C R w s k t j head content S IsDown now kept f is = absurd f
 to_crashed C R w s k t j head content S IsMissed now kept f is = let bad : false ≡ true = is in let never : ⊥ = cc in absurd never
 to_crashed C R w s k t j head content S WantsMemory now kept f is = let bad : false ≡ true = is in let never : ⊥ = cc in absurd never
 to_crashed C R w s k t j head content S (Spoke u i d) now kept f is =
-    let went : Went C (record { worker = w; service = t; incarnation = j }) _ now = went_of C w t j f.3 f.4 f.5 head content S now d kept.owns f.6 in
+    let went : Went C (record { worker = w; service = t; incarnation = j }) _ now = went_of C w t j f.3 f.4 d.due head content S now d kept.owns f.5 in
     let named : Spoke u i d ≡ Spoke t j d = ap (λ (x : ℕ). Spoke x i d) f.0 ∙ ap (λ (x : ℕ). Spoke t x d) f.1 in
     ap (ends_in_crash R w s k) went.taken_is
     ∙ entries_pass R w s k t went.taken (own.Dialog t ∷ S.own) went.entries

@@ -135,12 +135,12 @@ goes_found C R w s k head content mid IsMissed now dialogs kept counts there f =
 goes_found C R w s k head content mid WantsMemory now dialogs kept counts there f =
     record { follows = f; counts = λ t. ap (λ (items : List Own). count_by (is_dialog_at t) items) (own_of now (noted mid own.NoMemory) f) ∙ none_counts t own.NoMemory mid.own refl ∙ counts t }
 goes_found C R w s k head content mid (Spoke t j d) now dialogs kept counts there f =
-    let went : Went C (record { worker = w; service = s; incarnation = k }) (noted mid (own.Dialog s)) now = went_of C w s k f.2 f.3 f.4 head content mid now d kept.owns f.5 in
+    let went : Went C (record { worker = w; service = s; incarnation = k }) (noted mid (own.Dialog s)) now = went_of C w s k f.2 f.3 d.due head content mid now d kept.owns f.4 in
     let named : Spoke t j d ≡ Spoke s k d = ap (λ (u : ℕ). Spoke u j d) f.0 ∙ ap (λ (i : ℕ). Spoke s i d) f.1 in
     let at_s : dialogs_of w (cell_past R s) ≡ (there s).0 ++ (spoken s (Spoke s k d) ++ dialogs s)
     = (there s).1 ∙ ap (λ (x : Outcome). (there s).0 ++ (spoken s x ++ dialogs s)) named in
     record {
-      follows = (f.0, f.1, spoke_there R w s k d (dialogs s) mid.own (counts s) (there s).0 at_s, f.2, f.3, f.4, f.5);
+      follows = (f.0, f.1, spoke_there R w s k d (dialogs s) mid.own (counts s) (there s).0 at_s, f.2, f.3, f.4);
       counts = λ u. ap (λ (items : List Own). count_by (is_dialog_at u) items) went.taken_is
           ∙ entries_are_none u s went.taken (own.Dialog s ∷ mid.own) went.entries
           ∙ spoke_counts u s k d (dialogs u) mid.own (counts u)

@@ -100,7 +100,7 @@ to_adds C R w s k head content first mid S IsDown now kept own_is f = absurd f
 to_adds C R w s k head content first mid S IsMissed now kept own_is f = one_more first (own.Missed s k f.0) mid S now own_is (own_of now _ f.1) refl
 to_adds C R w s k head content first mid S WantsMemory now kept own_is f = one_more first own.NoMemory mid S now own_is (own_of now _ f) refl
 to_adds C R w s k head content first mid S (Spoke t j d) now kept own_is f =
-    let went : Went C (record { worker = w; service = s; incarnation = k }) _ now = went_of C w s k f.3 f.4 f.5 head content S now d kept.owns f.6 in
+    let went : Went C (record { worker = w; service = s; incarnation = k }) _ now = went_of C w s k f.3 f.4 d.due head content S now d kept.owns f.5 in
     record {
       behind = went.taken ++ own.Dialog s ∷ [];
       own_is = went.taken_is ∙ ap (λ (items : List Own). went.taken ++ own.Dialog s ∷ items) own_is ∙ joined went.taken (own.Dialog s ∷ []) (first ∷ mid.own);

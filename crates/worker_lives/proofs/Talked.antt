@@ -43,10 +43,10 @@ record Dialogued (who : Asker) (s k : ℕ) (head content : List ℕ) (J : Seen) 
   dialogs : dialogs_of who.worker new ≡ spoken_at s outcome ++ dialogs_of who.worker old
 
 dialogued : (who : Asker) (head content : List ℕ) (k s : ℕ) (old : List CellEvent) (c : Standing) (J : Seen) (items : List Item) (how : End) (d : Standing) (now : Seen)
-    → c.service ≡ s → k ≡ incarnation c.past → dialogs_of who.worker c.past ≡ dialogs_of who.worker old → HasDialog who head content c J items how d now
-    → Dialogued who s k head content J old how now d.past (Spoke s k (record { worker = who.worker; items = items; end = how }))
+    → c.service ≡ s → k ≡ incarnation c.past → dialogs_of who.worker c.past ≡ dialogs_of who.worker old → (has : HasDialog who head content c J items how d now)
+    → Dialogued who s k head content J old how now d.past (Spoke s k (record { worker = who.worker; items = items; end = how; due = has.due }))
 dialogued who head content k s old c J items how d now service wanted same has =
-    let it : Dialog = record { worker = who.worker; items = items; end = how } in
+    let it : Dialog = record { worker = who.worker; items = items; end = how; due = has.due } in
     let past_is : d.past ≡ cell.Dialog it ∷ c.past = ap (λ (x : Standing). x.past) has.entered in
     let here : spoken_at s (Spoke s k it) ≡ (k, it) ∷ [] = rw (eq-eqb s s refl) refl in
     let at_service : IsDialog who.config (record { worker = who.worker; service = s; incarnation = incarnation c.past }) has.since has.left has.due head content (noted J (own.Dialog s)) items how now
@@ -55,7 +55,7 @@ dialogued who head content k s old c J items how d now service wanted same has =
     = subst (λ (i : ℕ). IsDialog who.config (record { worker = who.worker; service = s; incarnation = i }) has.since has.left has.due head content (noted J (own.Dialog s)) items how now) (sym wanted) at_service in
     record {
       last = (it, refl, refl, c.past, past_is);
-      goes = (refl, refl, has.since, has.left, has.due, at_wanted);
+      goes = (refl, refl, has.since, has.left, at_wanted);
       dialogs = ap (dialogs_of who.worker) past_is
           ∙ one_more_dialog who.worker it c.past refl
           ∙ ap (λ (i : ℕ). (i, it) ∷ dialogs_of who.worker c.past) (sym wanted)
@@ -130,4 +130,4 @@ outcomes_carry_requests C w s k head content J IsDown now g = tt
 outcomes_carry_requests C w s k head content J IsMissed now g = tt
 outcomes_carry_requests C w s k head content J WantsMemory now g = tt
 outcomes_carry_requests C w s k head content J (Spoke t j d) now g =
-    dialogs_carry_requests C (record { worker = w; service = s; incarnation = k }) g.2 g.3 g.4 head content (noted J (own.Dialog s)) now d.items d.end g.5
+    dialogs_carry_requests C (record { worker = w; service = s; incarnation = k }) g.2 g.3 d.due head content (noted J (own.Dialog s)) now d.items d.end g.4

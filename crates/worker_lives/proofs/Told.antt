@@ -103,7 +103,7 @@ to_told C R w s k head content path mid S WantsMemory now next kept own_is f tol
     ∙ ap (λ (items : List Own). all_told R w (talks_to None (Some own.NoMemory) items)) own_is
     ∙ rest
 to_told C R w s k head content path mid S (Spoke t j d) now next kept own_is f told rest =
-    let went : Went C (record { worker = w; service = s; incarnation = k }) _ now = went_of C w s k f.3 f.4 f.5 head content S now d kept.owns f.6 in
+    let went : Went C (record { worker = w; service = s; incarnation = k }) _ now = went_of C w s k f.3 f.4 d.due head content S now d kept.owns f.5 in
     let before : Before s (begun_by next) S.own (talks_to None (begun_by next) (went.taken ++ own.Dialog s ∷ S.own)) = talk_before s (begun_by next) went.taken S.own went.entries in
     let named : Spoke t j d ≡ Spoke s k d = ap (λ (u : ℕ). Spoke u j d) f.0 ∙ ap (λ (i : ℕ). Spoke s i d) f.1 in
     let here : crash_is_told (record { service = s; earlier = S.own; until = before.until; next = begun_by next }) (next_dialog R w s S.own) ≡ true

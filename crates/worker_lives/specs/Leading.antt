@@ -23,8 +23,8 @@ Goes C w s k head content J IsDown now = ⊥
 Goes C w s k head content J IsMissed now = (is : ℕ) × (now ≡ noted J (own.Missed s k is))
 Goes C w s k head content J WantsMemory now = now ≡ noted J own.NoMemory
 Goes C w s k head content J (Spoke t j d) now =
-    (t ≡ s) × (j ≡ k) × (since left due : List ℕ)
-    × IsDialog C (record { worker = w; service = s; incarnation = k }) since left due head content (noted J (own.Dialog s)) d.items d.end now
+    (t ≡ s) × (j ≡ k) × (since left : List ℕ)
+    × IsDialog C (record { worker = w; service = s; incarnation = k }) since left d.due head content (noted J (own.Dialog s)) d.items d.end now
 
 -- The same of an Accept that was answered this way; after NotOwned and Down nothing follows.
 abbrev pub GoesBy : Config → ℕ → Way → List ℕ → List ℕ → Seen → Outcome → Seen → Type 0

@@ -114,9 +114,9 @@ same_either true x = refl
 same_either false x = refl
 
 -- a dialog that ended otherwise breaks nothing
-unbroken_by : (J : List CellEvent) (w : ℕ) (items : List Item) (how : End) → is_link_fault how ≡ false → is_broken (cell.Dialog (record { worker = w; items = items; end = how }) ∷ J) ≡ is_broken J
-unbroken_by J w items how other =
-    ap (λ (b : Bool). is_some (if incarnation J == last_booted J then or_else (if b then Some items else None) (broken_in (last_booted J) J) else broken_in (last_booted J) J)) other
+unbroken_by : (J : List CellEvent) (w : ℕ) (items : List Item) (due : List ℕ) (how : End) → is_link_fault how ≡ false → is_broken (cell.Dialog (record { worker = w; items = items; end = how; due = due }) ∷ J) ≡ is_broken J
+unbroken_by J w items due how other =
+    ap (λ (b : Bool). is_some (if incarnation J == last_booted J then or_else (if b then Some due else None) (broken_in (last_booted J) J) else broken_in (last_booted J) J)) other
     ∙ ap is_some (same_either (incarnation J == last_booted J) (broken_in (last_booted J) J))
 
 some_rose : (a b : ℕ) → Rose a b → 0 < b
@@ -137,25 +137,25 @@ fails_counts K (Some wire) None taken put due broken h = absurd h
 fails_counts K (Some wire) (Some now) taken put due broken h = subst (λ (b : Bool). CountsFaults b now.faults) (sym broken) (some_rose wire.faults now.faults h.faults)
 
 -- a dialog that a fault of its link ended breaks its incarnation
-broken_by : (J : List CellEvent) (w : ℕ) (items : List Item) → incarnation J ≡ last_booted J → is_broken (cell.Dialog (record { worker = w; items = items; end = end.LinkFault }) ∷ J) ≡ true
-broken_by J w items there = ap (λ (b : Bool). is_some (if b then or_else (Some items) (broken_in (last_booted J) J) else broken_in (last_booted J) J)) (eq-eqb (incarnation J) (last_booted J) there)
+broken_by : (J : List CellEvent) (w : ℕ) (items : List Item) (due : List ℕ) → incarnation J ≡ last_booted J → is_broken (cell.Dialog (record { worker = w; items = items; end = end.LinkFault; due = due }) ∷ J) ≡ true
+broken_by J w items due there = ap (λ (b : Bool). is_some (if b then or_else (Some due) (broken_in (last_booted J) J) else broken_in (last_booted J) J)) (eq-eqb (incarnation J) (last_booted J) there)
 
 module _ (J : List CellEvent) (w : ℕ) (old new : Option Wire) (since left due : List ℕ) (items : List Item) (there : incarnation J ≡ last_booted J) where
   -- the events with the dialog
   abbrev ended_so : End → List CellEvent
-  ended_so how = cell.Dialog (record { worker = w; items = items; end = how }) ∷ J
+  ended_so how = cell.Dialog (record { worker = w; items = items; end = how; due = due }) ∷ J
 
   passes_so : (how : End) (taken put : List ℕ) → is_link_fault how ≡ false → Passes old new taken put → HasCounted J old → HasCounted (ended_so how) new
-  passes_so how taken put other h counted = passes_counts J (ended_so how) old new taken put (unbroken_by J w items how other) h counted
+  passes_so how taken put other h counted = passes_counts J (ended_so how) old new taken put (unbroken_by J w items due how other) h counted
 
   goes_counts : (how : End) → GoesOver old new since left due items how → HasCounted J old → HasCounted (ended_so how) new
   goes_counts end.Reply h counted = passes_so end.Reply _ _ refl h counted
   goes_counts (end.Superseded shown) (inl h) counted =
-      subst (HasCounted (ended_so (end.Superseded shown))) (sym h.1) (counted_as J (ended_so (end.Superseded shown)) old (unbroken_by J w items (end.Superseded shown) refl) counted)
+      subst (HasCounted (ended_so (end.Superseded shown))) (sym h.1) (counted_as J (ended_so (end.Superseded shown)) old (unbroken_by J w items due (end.Superseded shown) refl) counted)
   goes_counts (end.Superseded shown) (inr h) counted = passes_so (end.Superseded shown) _ _ refl h counted
   goes_counts end.BadFrame h counted = passes_so end.BadFrame _ _ refl h.0 counted
   goes_counts end.Ended h counted = passes_so end.Ended _ _ refl h.0 counted
-  goes_counts end.LinkFault h counted = fails_counts (ended_so end.LinkFault) old new _ _ due (broken_by J w items there) h.1
+  goes_counts end.LinkFault h counted = fails_counts (ended_so end.LinkFault) old new _ _ due (broken_by J w items due there) h.1
   goes_counts end.FrameLimit h counted = passes_so end.FrameLimit _ _ refl h counted
   goes_counts end.Starved h counted = passes_so end.Starved _ _ refl h.1 counted
 
@@ -192,17 +192,17 @@ keeps_same n w E c d is = record {
   adds = ([], tt, refl);
 }
 
-keeps_finished : (n w : ℕ) (E : List CellEvent) (c d : Standing) (items : List Item) (how : End) (link : Option Wire) → is_some link ≡ is_some c.link
-    → (LeadsTo c.service c.past c.link → LeadsTo c.service (cell.Dialog (record { worker = w; items = items; end = how }) ∷ c.past) link)
-    → (HasCounted c.past c.link → HasCounted (cell.Dialog (record { worker = w; items = items; end = how }) ∷ c.past) link)
-    → (IsTaken c.past c.link → IsTaken (cell.Dialog (record { worker = w; items = items; end = how }) ∷ c.past) link) → d ≡ finished c w items how link → Keeps n w E (newest d.past ∷ E) c d
-keeps_finished n w E c d items how link same led counts takes is = record {
+keeps_finished : (n w : ℕ) (E : List CellEvent) (c d : Standing) (items : List Item) (how : End) (due : List ℕ) (link : Option Wire) → is_some link ≡ is_some c.link
+    → (LeadsTo c.service c.past c.link → LeadsTo c.service (cell.Dialog (record { worker = w; items = items; end = how; due = due }) ∷ c.past) link)
+    → (HasCounted c.past c.link → HasCounted (cell.Dialog (record { worker = w; items = items; end = how; due = due }) ∷ c.past) link)
+    → (IsTaken c.past c.link → IsTaken (cell.Dialog (record { worker = w; items = items; end = how; due = due }) ∷ c.past) link) → d ≡ finished c w items how due link → Keeps n w E (newest d.past ∷ E) c d
+keeps_finished n w E c d items how due link same led counts takes is = record {
   config_is = ap (λ (s : Standing). s.config) is;
   seed_is = ap (λ (s : Standing). s.seed) is;
   service_is = ap (λ (s : Standing). s.service) is;
   open_is = λ none. ap (λ (s : Standing). s.open_dialog) is;
   past_is = λ past. ap (λ (s : Standing). s.past) is
-      ∙ (ap (λ J. cell.Dialog (record { worker = w; items = items; end = how }) ∷ J) past ∙ sym (ap (λ (s : Standing). events_in (newest s.past ∷ E)) is));
+      ∙ (ap (λ J. cell.Dialog (record { worker = w; items = items; end = how; due = due }) ∷ J) past ∙ sym (ap (λ (s : Standing). events_in (newest s.past ∷ E)) is));
   link_is = λ linked. ap (λ (s : Standing). is_some s.link) is ∙ (same ∙ (linked ∙ sym (ap (λ (s : Standing). is_booted (newest s.past ∷ E)) is)));
   whose = λ leads. subst (λ (x : Standing). LeadsTo x.service x.past x.link) (sym is) (led leads);
   counted = λ counted. subst (λ (s : Standing). HasCounted s.past s.link) (sym is) (counts counted);
@@ -234,10 +234,10 @@ keeps_dialog n who shows head content wanted E c J answer d now law some h = by 
     -- a whole dialog
     talked : (items : List Item) (how : End) → wanted ≡ incarnation c.past → HasDialog who head content c J items how d now → Keeps n who.worker E (newest d.past ∷ E) c d
     talked items how is x =
-        keeps_finished n who.worker E c d items how d.link (goes_link c.link d.link x.since x.left x.due items how x.link)
-        (goes_leads c.service c.past (cell.Dialog (record { worker = who.worker; items = items; end = how }) ∷ c.past) c.link d.link x.since x.left x.due items how refl x.link)
+        keeps_finished n who.worker E c d items how x.due d.link (goes_link c.link d.link x.since x.left x.due items how x.link)
+        (goes_leads c.service c.past (cell.Dialog (record { worker = who.worker; items = items; end = how; due = x.due }) ∷ c.past) c.link d.link x.since x.left x.due items how refl x.link)
         (goes_counts c.past who.worker c.link d.link x.since x.left x.due items (is_last c.past law (wanted_there wanted (incarnation c.past) some is)) how x.link)
-        (goes_taken c.past who.worker items law (wanted_there wanted (incarnation c.past) some is) how c.link d.link x.since x.left x.due x.link
+        (goes_taken c.past who.worker items x.due law (wanted_there wanted (incarnation c.past) some is) how c.link d.link x.since x.left x.link
         (bad_stop who.config (speaker c who.worker) x.since x.left x.due head content (noted J (own.Dialog c.service)) now items how x.follows)) x.entered
 
     by : (answer : Spoken) → Dialogs who shows head content wanted c J answer d now → Keeps n who.worker E (with_dialog answer (newest d.past) E) c d

@@ -70,10 +70,10 @@ took_more : (came left now : Option (List ℕ)) (text rest more : List ℕ) → 
 took_more came left now text rest more none a b =
     Consumes-trans came left now text more (subst (λ (t : List ℕ). Consumes came left t) (ap (λ (t : List ℕ). text ++ t) none ∙ append-nil text) a) b
 
-module _ (J : List CellEvent) (w : ℕ) (items : List Item) (law : CellLaw J) (there : incarnation J ≢ 0) where
+module _ (J : List CellEvent) (w : ℕ) (items : List Item) (due : List ℕ) (law : CellLaw J) (there : incarnation J ≢ 0) where
   -- the events with the dialog
   abbrev ended_so : End → List CellEvent
-  ended_so how = cell.Dialog (record { worker = w; items = items; end = how }) ∷ J
+  ended_so how = cell.Dialog (record { worker = w; items = items; end = how; due = due }) ∷ J
 
   one_taken : (how : End) (old new : Wire) (rest : List ℕ) → new.came ≡ old.came → Consumes old.left new.left (said_text items ++ rest) → Leaves how rest new.left
       → HasTaken (last_booted J) J old.came old.left → HasTaken (last_booted J) (ended_so how) new.came new.left
@@ -96,10 +96,10 @@ module _ (J : List CellEvent) (w : ℕ) (items : List Item) (law : CellLaw J) (t
   passes_taken how (Some old) None rest put h leaves taken = absurd h
   passes_taken how (Some old) (Some new) rest put h leaves taken = one_taken how old new rest h.came h.takes leaves taken
 
-  fails_taken : (how : End) (old new : Option Wire) (rest put due : List ℕ) → Fails old new (said_text items ++ rest) put due → Leaves how rest (left_of new) → IsTaken J old → IsTaken (ended_so how) new
-  fails_taken how None new rest put due h leaves taken = absurd h
-  fails_taken how (Some old) None rest put due h leaves taken = absurd h
-  fails_taken how (Some old) (Some new) rest put due h leaves taken = one_taken how old new rest h.came h.takes leaves taken
+  fails_taken : (how : End) (old new : Option Wire) (rest put cut : List ℕ) → Fails old new (said_text items ++ rest) put cut → Leaves how rest (left_of new) → IsTaken J old → IsTaken (ended_so how) new
+  fails_taken how None new rest put cut h leaves taken = absurd h
+  fails_taken how (Some old) None rest put cut h leaves taken = absurd h
+  fails_taken how (Some old) (Some new) rest put cut h leaves taken = one_taken how old new rest h.came h.takes leaves taken
 
   -- nothing was taken but what was said
   said_taken : (how : End) (old new : Option Wire) (put : List ℕ) → Passes old new (said_text items) put → Leaves how [] (left_of new) → IsTaken J old → IsTaken (ended_so how) new
@@ -115,16 +115,16 @@ module _ (J : List CellEvent) (w : ℕ) (items : List Item) (law : CellLaw J) (t
   bad_left None since bytes is stop = tt
   bad_left (Some now) since bytes is stop = subst (IsBadStop since) (sym is) stop
 
-  pub goes_taken : (how : End) (old new : Option Wire) (since left due : List ℕ) → GoesOver old new since left due items how → (how ≡ end.BadFrame → IsBadStop since left) → IsTaken J old → IsTaken (ended_so how) new
-  goes_taken end.Reply old new since left due h stops taken = said_taken end.Reply old new _ h refl taken
-  goes_taken (end.Superseded shown) old new since left due (inl h) stops taken =
+  pub goes_taken : (how : End) (old new : Option Wire) (since left : List ℕ) → GoesOver old new since left due items how → (how ≡ end.BadFrame → IsBadStop since left) → IsTaken J old → IsTaken (ended_so how) new
+  goes_taken end.Reply old new since left h stops taken = said_taken end.Reply old new _ h refl taken
+  goes_taken (end.Superseded shown) old new since left (inl h) stops taken =
       subst (IsTaken (ended_so (end.Superseded shown))) (sym h.1) (same_taken (end.Superseded shown) old h.0 (λ o. refl) taken)
-  goes_taken (end.Superseded shown) old new since left due (inr h) stops taken = said_taken (end.Superseded shown) old new _ h refl taken
-  goes_taken end.BadFrame old new since left due h stops taken = passes_taken end.BadFrame old new since _ h.0 (bad_left (left_of new) since left h.1 (stops refl)) taken
-  goes_taken end.Ended old new since left due h stops taken = said_taken end.Ended old new _ h.0 (refl, h.1) taken
-  goes_taken end.LinkFault old new since left due h stops taken = fails_taken end.LinkFault old new h.0 _ due h.1 tt taken
-  goes_taken end.FrameLimit old new since left due h stops taken = said_taken end.FrameLimit old new _ h refl taken
-  goes_taken end.Starved old new since left due h stops taken = passes_taken end.Starved old new h.0 _ h.1 tt taken
+  goes_taken (end.Superseded shown) old new since left (inr h) stops taken = said_taken (end.Superseded shown) old new _ h refl taken
+  goes_taken end.BadFrame old new since left h stops taken = passes_taken end.BadFrame old new since _ h.0 (bad_left (left_of new) since left h.1 (stops refl)) taken
+  goes_taken end.Ended old new since left h stops taken = said_taken end.Ended old new _ h.0 (refl, h.1) taken
+  goes_taken end.LinkFault old new since left h stops taken = fails_taken end.LinkFault old new h.0 _ due h.1 tt taken
+  goes_taken end.FrameLimit old new since left h stops taken = said_taken end.FrameLimit old new _ h refl taken
+  goes_taken end.Starved old new since left h stops taken = passes_taken end.Starved old new h.0 _ h.1 tt taken
 
 -- what a bad frame leaves
 pub bad_stop : (C : Config) (w : Speaker) (since left due head content : List ℕ) (J now : Seen) (items : List Item) (how : End) → IsDialog C w since left due head content J items how now → how ≡ end.BadFrame → IsBadStop since left

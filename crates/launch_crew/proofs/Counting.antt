@@ -88,10 +88,10 @@ one_first : (a b : ℕ) → a ≡ b + 0 → 1 + a ≡ b + 1
 one_first a b is = omega (arith, is)
 
 module _ (d : Dialog) (J : List CellEvent) (there : incarnation J ≢ 0) (last : incarnation J ≡ last_booted J) (one : AtMostOne J) where
-  broken_then : (b : Bool) → is_link_fault d.end ≡ b → is_broken (cell.Dialog d ∷ J) ≡ is_some (or_else (if b then Some d.items else None) (broken_in (last_booted J) J))
+  broken_then : (b : Bool) → is_link_fault d.end ≡ b → is_broken (cell.Dialog d ∷ J) ≡ is_some (or_else (if b then Some d.due else None) (broken_in (last_booted J) J))
   broken_then b is =
-      ap (λ (x : Bool). is_some (if x then or_else (if is_link_fault d.end then Some d.items else None) (broken_in (last_booted J) J) else broken_in (last_booted J) J)) (eq-eqb (incarnation J) (last_booted J) last)
-      ∙ ap (λ (x : Bool). is_some (or_else (if x then Some d.items else None) (broken_in (last_booted J) J))) is
+      ap (λ (x : Bool). is_some (if x then or_else (if is_link_fault d.end then Some d.due else None) (broken_in (last_booted J) J) else broken_in (last_booted J) J)) (eq-eqb (incarnation J) (last_booted J) last)
+      ∙ ap (λ (x : Bool). is_some (or_else (if x then Some d.due else None) (broken_in (last_booted J) J))) is
 
   counts_then : (b : Bool) → is_link_fault d.end ≡ b → faults_in (cell.Dialog d ∷ J) ≡ (if b then 1 + faults_in J else faults_in J)
   counts_then true is = ap (λ (x : Bool). if x && not (incarnation J == 0) then 1 + faults_in J else faults_in J) is ∙ ap (λ (x : Bool). if true && not x then 1 + faults_in J else faults_in J) (ne_eqb (incarnation J) 0 there)

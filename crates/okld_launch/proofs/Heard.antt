@@ -15,7 +15,6 @@ use Rattle.okws_outer.specs.declared.children.ChildEnd.{ChildEnd}
 use Rattle.okws_outer.specs.declared.children.ChildStart.{ChildStart}
 use Rattle.monitor_model.specs.declared.record.CellEvent.{CellEvent}
 use Rattle.monitor_model.specs.declared.record.CellEvent.TheVariants as cell
-use Rattle.monitor_model.specs.declared.record.Item.{Item}
 use Rattle.monitor_model.specs.declared.record.Own.{Own}
 use Rattle.monitor_model.specs.declared.record.Own.TheVariants as own
 use Rattle.monitor_model.specs.declared.record.Record.{Record}
@@ -70,11 +69,11 @@ heard_at C seed w R e law behind counted h =
     let broken : broken_in e.incarnation J ≡ broken_in (last_booted h.events) h.events = ap (broken_in e.incarnation) is ∙ stays.broken_is ∙ ap (λ (k : ℕ). broken_in k h.events) h.last in
     record {
       whose_is = h.whose;
-      given_is = subst (λ (x : List ℕ). IsGiven x (broken_in e.incarnation J) e.given) (sym text) (subst (λ (b : Option (List Item)). IsGiven (heard C seed e.service (last_booted h.events) h.events) b e.given) (sym broken) h.given);
+      given_is = subst (λ (x : List ℕ). IsGiven x (broken_in e.incarnation J) e.given) (sym text) (subst (λ (b : Option (List ℕ)). IsGiven (heard C seed e.service (last_booted h.events) h.events) b e.given) (sym broken) h.given);
       said_is = subst (λ (J : List CellEvent). HasTaken e.incarnation J e.came e.left) (sym is)
           (quiet_taken e.incarnation h.events ((behind.0 ++ h.behind.0) ++ h.events) e.came e.left stays.said_is stays.end_is
           (subst (λ (k : ℕ). HasTaken k h.events e.came e.left) (sym h.last) h.taken));
-      counted = subst (λ (b : Option (List Item)). CountsFaults (is_some b) e.faults) (sym broken) h.faults;
+      counted = subst (λ (b : Option (List ℕ)). CountsFaults (is_some b) e.faults) (sym broken) h.faults;
     }
 
 -- the items of a cell that the launcher has are its Boots

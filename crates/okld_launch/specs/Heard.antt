@@ -26,7 +26,7 @@ pub record IsBehind (k : ℕ) (J : List CellEvent) : Type 0 where
   pub below : k ≤ last_booted J
   pub gone : incarnation J ≡ k → ⊥
 
--- The child was finished with its own link. It was given just what its incarnation heard by the record, or, where its link failed in a dialog, a front of the next frame more; exactly then a fault of the link was counted. Of all that came from it, where its link tells, just what its incarnation said by the record was taken, in order; and some bytes more where a dialog ended by a bad frame, by a fault of the link, or because memory was refused.
+-- The child was finished with its own link. It was given just what its incarnation heard by the record, or, where its link failed in a dialog, a front of the frame that was due there more; exactly then a fault of the link was counted. Of all that came from it, where its link tells, just what its incarnation said by the record was taken, in order; and some bytes more where a dialog ended by a bad frame, by a fault of the link, or because memory was refused.
 pub record HasHeard (C : Config) (seed : List ℕ) (R : Record) (e : ChildEnd) : Type 0 where
   pub whose_is : e.whose ≡ Some (child_named e.service e.incarnation)
   pub given_is : IsGiven (heard C seed e.service e.incarnation (cell_past R e.service)) (broken_in e.incarnation (cell_past R e.service)) e.given

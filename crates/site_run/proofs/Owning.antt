@@ -229,7 +229,7 @@ module _ (C : Config) (n w : ℕ) where
         let start = subst (λ v. OwnsEntries (length C.proxies) v (whole J)) (sym o.number_is) o.columns in
         let follows = dialog_beside C who l h.since h.left h.due head content I items how K.seen h.follows in
         let went = dialog_went C who (beside l I) h.since h.left h.due head content (beside l I) (beside l K.seen) items how follows (begins C who (beside l I) (noted_owned (length C.proxies) (number_of J) (whole J) b.service start)) in
-        let d : Dialog = record { worker = number_of J; items = items; end = how } in
+        let d : Dialog = record { worker = number_of J; items = items; end = how; due = h.due } in
         record {
           number_is = number_then;
           seat_is = seat_then;

@@ -211,7 +211,7 @@ settled_is there k is above = ap (λ (b : Bool). cond b (record there { left = [
 
 -- the cell once a Reply ended its dialog
 abbrev replied_there : Opened → Stand → Stand
-replied_there opened there = record there { past = cell.Dialog (record { worker = 0; items = opened.items; end = end.Reply }) ∷ there.past; open_dialog = None }
+replied_there opened there = record there { past = cell.Dialog (record { worker = 0; items = opened.items; end = end.Reply; due = [] }) ∷ there.past; open_dialog = None }
 
 closes : (s k n : ℕ) (opened : Opened) (S : Stage) → Speaks S s k n [] → Settles s k S (closed s opened end.Reply S)
 closes s k n opened S h =

@@ -67,7 +67,7 @@ pub record IsLess (s : ℕ) (S now : Stage) : Type 0 where
 closed_less : (s : ℕ) (S T : Stage) (o last : Opened) (how : End) → s < length S.stands → (stand S s).open_dialog ≡ Some o → length T.stands ≡ length S.stands → AreBytes (stand T s).left → IsLess s S (closed s last how T)
 closed_less s S T o last how below is_open long bytes =
     let now : Stand = closed_stand (stand T s) last how in
-    let ended : Stand = record (stand T s) { past = cell.Dialog (record { worker = 0; items = last.items; end = how }) ∷ (stand T s).past; open_dialog = None } in
+    let ended : Stand = record (stand T s) { past = cell.Dialog (record { worker = 0; items = last.items; end = how; due = [] }) ∷ (stand T s).past; open_dialog = None } in
     let there : stand (closed s last how T) s ≡ now = stand_set T.stands s now (omega (arith, below, long)) in
     let none : left_to_do now ≡ 0 = left_none now (settled_open ended) in record {
       less = rw there (omega (arith, none, left_some (stand S s) o is_open));

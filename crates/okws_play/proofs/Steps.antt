@@ -61,17 +61,17 @@ shown_in K s k = k ≡ begun K.launcher s
 own_worker : (c : Standing) (o : Open) → IsOwn c.open_dialog → c.open_dialog ≡ Some o → o.worker ≡ 0
 own_worker c o own there = subst IsOwn there own
 
-no_fault : (C : Config) (w : Speaker) (old new : Option Wire) (J K : Seen) (before items : List Item) → IsLinked old → Crashes C w old new before J cause.LinkFault items K → ⊥
-no_fault C w old new J K before items linked (inl crash) = never_fails old new crash.0 [] [] crash.1 linked
-no_fault C w old new J K before items linked (inr crash) = never_fails old new crash.2 [] _ crash.4 linked
+no_fault : (C : Config) (w : Speaker) (old new : Option Wire) (J K : Seen) (before items : List Item) (due : List ℕ) → IsLinked old → Crashes C w old new before J cause.LinkFault items due K → ⊥
+no_fault C w old new J K before items due linked (inl crash) = never_fails old new crash.0 [] [] crash.1 linked
+no_fault C w old new J K before items due linked (inr crash) = never_fails old new crash.2 [] _ crash.4 linked
 
-crash_linked : (C : Config) (w : Speaker) (old new : Option Wire) (J K : Seen) (why : Cause) (before items : List Item) → IsLinked old → Crashes C w old new before J why items K → IsLinked new
-crash_linked C w old new J K cause.BadFrame before items linked crash = (passed old new crash.0 [] crash.2 linked).linked
-crash_linked C w old new J K cause.Ended before items linked crash = (passed old new [] [] crash.0 linked).linked
-crash_linked C w old new J K cause.LinkFault before items linked crash = absurd (no_fault C w old new J K before items linked crash)
-crash_linked C w old new J K cause.FrameLimit before items linked crash = (passed old new crash.1 [] crash.4 linked).linked
-crash_linked C w old new J K cause.Starved before items linked (inl crash) = (passed old new crash.0 [] crash.1 linked).linked
-crash_linked C w old new J K cause.Starved before items linked (inr crash) = (passed old new crash.1 [] crash.3 linked).linked
+crash_linked : (C : Config) (w : Speaker) (old new : Option Wire) (J K : Seen) (why : Cause) (before items : List Item) (due : List ℕ) → IsLinked old → Crashes C w old new before J why items due K → IsLinked new
+crash_linked C w old new J K cause.BadFrame before items due linked crash = (passed old new crash.0 [] crash.2 linked).linked
+crash_linked C w old new J K cause.Ended before items due linked crash = (passed old new [] [] crash.0 linked).linked
+crash_linked C w old new J K cause.LinkFault before items due linked crash = absurd (no_fault C w old new J K before items due linked crash)
+crash_linked C w old new J K cause.FrameLimit before items due linked crash = (passed old new crash.1 [] crash.4 linked).linked
+crash_linked C w old new J K cause.Starved before items due linked (inl crash) = (passed old new crash.0 [] crash.1 linked).linked
+crash_linked C w old new J K cause.Starved before items due linked (inr crash) = (passed old new crash.1 [] crash.3 linked).linked
 
 crash_empties : (why : Cause) (k : ℕ) → after_end (crash_end why) k ≡ 0
 crash_empties cause.BadFrame k = refl
@@ -91,13 +91,13 @@ advance_seat C D shows seed s c d J K o advanced.Reply h there some a =
     seat_on C seed s c d _ None d.link h a.1.7 (λ _. p.there) p.linked tt
 advance_seat C D shows seed s c d J K o (advanced.Superseded k shown) h there some a = seat_on C seed s c d _ None c.link h a.4 (λ _. h.there some) h.linked tt
 advance_seat C D shows seed s c d J K o (advanced.Crashed why) h there some a =
-    seat_on C seed s c d _ None d.link h a.1.2 (λ left. absurd (left (crash_empties why (incarnation c.past)))) (crash_linked D _ c.link d.link J K why o.items a.1.0 h.linked a.1.1) tt
+    seat_on C seed s c d _ None d.link h a.1.3 (λ left. absurd (left (crash_empties why (incarnation c.past)))) (crash_linked D _ c.link d.link J K why o.items a.1.0 a.1.1 h.linked a.1.2) tt
 
 pub advance_booted : (D : Config) (shows : ℕ → Type 0) (c d : Standing) (J K : Seen) (o : Open) (answer : Advanced) → CellAdvances (asker D) shows c o J answer d K → last_booted d.past ≡ last_booted c.past
 advance_booted D shows c d J K o advanced.Goes a = ap (λ (x : Standing). last_booted x.past) a.1.5
 advance_booted D shows c d J K o advanced.Reply a = ap (λ (x : Standing). last_booted x.past) a.1.7
 advance_booted D shows c d J K o (advanced.Superseded k shown) a = ap (λ (x : Standing). last_booted x.past) a.4
-advance_booted D shows c d J K o (advanced.Crashed why) a = ap (λ (x : Standing). last_booted x.past) a.1.2
+advance_booted D shows c d J K o (advanced.Crashed why) a = ap (λ (x : Standing). last_booted x.past) a.1.3
 
 pub same_launcher : (w : ℕ) (J K : Seen) → IsNextBy w J K → K.launcher ≡ J.launcher
 same_launcher w J K (inl is) = ap (λ (x : Seen). x.launcher) is
@@ -107,12 +107,12 @@ same_launcher w J K (inr (inr (inr next))) = ap (λ (x : Seen). x.launcher) next
 
 -- ---- how a dialog begins
 
-opening_linked : (why : Cause) (opened items : List Item) (old new : Option Wire) → IsLinked old → OpeningBreaks why opened items old new → IsLinked new
-opening_linked cause.LinkFault opened items old new linked b = absurd (never_fails old new [] _ _ b.3 linked)
-opening_linked cause.Starved opened items old new linked b = (passed old new [] _ b.2 linked).linked
-opening_linked cause.BadFrame opened items old new linked b = absurd b
-opening_linked cause.Ended opened items old new linked b = absurd b
-opening_linked cause.FrameLimit opened items old new linked b = absurd b
+opening_linked : (why : Cause) (opened items : List Item) (due : List ℕ) (old new : Option Wire) → IsLinked old → OpeningBreaks why opened items due old new → IsLinked new
+opening_linked cause.LinkFault opened items due old new linked b = absurd (never_fails old new [] _ _ b.3 linked)
+opening_linked cause.Starved opened items due old new linked b = (passed old new [] _ b.2 linked).linked
+opening_linked cause.BadFrame opened items due old new linked b = absurd b
+opening_linked cause.Ended opened items due old new linked b = absurd b
+opening_linked cause.FrameLimit opened items due old new linked b = absurd b
 
 pub begin_seat : (C D : Config) (shows : ℕ → Type 0) (seed : List ℕ) (s n wanted : ℕ) (request : ServerFrame) (c d : Standing) (J K : Seen) (answer : Begun) → IsSeat C seed s c → 0 < wanted
     → CellBegins (asker D) shows n request wanted c J answer d K → IsSeat C seed s d
@@ -122,14 +122,14 @@ begin_seat C D shows seed s n wanted request c d J K begun_is.Started h first a 
 begin_seat C D shows seed s n wanted request c d J K (begun_is.Missed asked is) h first a = seat_on C seed s c d _ c.open_dialog c.link h a.3 h.there h.linked h.own
 begin_seat C D shows seed s n wanted request c d J K (begun_is.Superseded k shown) h first a = seat_on C seed s c d _ None c.link h a.4 h.there h.linked tt
 begin_seat C D shows seed s n wanted request c d J K (begun_is.Crashed why) h first a =
-    seat_on C seed s c d _ None d.link h a.2.4 (λ left. absurd (left (crash_empties why (incarnation c.past)))) (opening_linked why _ a.2.2 c.link d.link h.linked a.2.3) tt
+    seat_on C seed s c d _ None d.link h a.2.5 (λ left. absurd (left (crash_empties why (incarnation c.past)))) (opening_linked why _ a.2.2 a.2.3 c.link d.link h.linked a.2.4) tt
 begin_seat C D shows seed s n wanted request c d J K begun_is.NoMemory h first a = subst (IsSeat C seed s) (sym a.0) h
 
 pub begin_booted : (D : Config) (shows : ℕ → Type 0) (n wanted : ℕ) (request : ServerFrame) (c d : Standing) (J K : Seen) (answer : Begun) → CellBegins (asker D) shows n request wanted c J answer d K → last_booted d.past ≡ last_booted c.past
 begin_booted D shows n wanted request c d J K begun_is.Started a = ap (λ (x : Standing). last_booted x.past) a.2.2
 begin_booted D shows n wanted request c d J K (begun_is.Missed asked is) a = ap (λ (x : Standing). last_booted x.past) a.3
 begin_booted D shows n wanted request c d J K (begun_is.Superseded k shown) a = ap (λ (x : Standing). last_booted x.past) a.4
-begin_booted D shows n wanted request c d J K (begun_is.Crashed why) a = ap (λ (x : Standing). last_booted x.past) a.2.4
+begin_booted D shows n wanted request c d J K (begun_is.Crashed why) a = ap (λ (x : Standing). last_booted x.past) a.2.5
 begin_booted D shows n wanted request c d J K begun_is.NoMemory a = ap (λ (x : Standing). last_booted x.past) a.0
 
 drains_launcher : (who : Asker) (s k : ℕ) (J K : Seen) (pushes : List Push) → Drains who s k J pushes K → K.launcher ≡ J.launcher
@@ -153,17 +153,17 @@ settled_plain c = by (incarnation c.past == 0)
     by false = refl
 
 -- a dialog that ended, seen with what is left
-pub finished_is : (c d : Standing) (items : List Item) (how : End) (o : Option Opened) (last : Opened) (link : Option Wire) → d ≡ finished c 0 items how link → items ≡ last.items
+pub finished_is : (c d : Standing) (items : List Item) (how : End) (o : Option Opened) (last : Opened) (link : Option Wire) → d ≡ finished c 0 items how [] link → items ≡ last.items
     → stand_by d ≡ closed_stand (record { past = c.past; left = left_on link; has_ended = ended_of link; open_dialog = o }) last how
-finished_is c d items how o last link is same = rw (is, same) (sym (settled_plain (finished c 0 last.items how link)))
+finished_is c d items how o last link is same = rw (is, same) (sym (settled_plain (finished c 0 last.items how [] link)))
 
 -- and where the cell loses its incarnation
-crashed_is : (c d : Standing) (items : List Item) (how : End) (there : Stand) (last : Opened) (link : Option Wire) → d ≡ finished c 0 items how link → ((k : ℕ) → after_end how k ≡ 0) → there.past ≡ c.past → items ≡ last.items
+crashed_is : (c d : Standing) (items : List Item) (how : End) (there : Stand) (last : Opened) (link : Option Wire) → d ≡ finished c 0 items how [] link → ((k : ℕ) → after_end how k ≡ 0) → there.past ≡ c.past → items ≡ last.items
     → stand_by d ≡ closed_stand there last how
 crashed_is c d items how there last link is none past same =
-    let J : List CellEvent = cell.Dialog (record { worker = 0; items = last.items; end = how }) ∷ c.past in
+    let J : List CellEvent = cell.Dialog (record { worker = 0; items = last.items; end = how; due = [] }) ∷ c.past in
     let now : Stand = record there { past = J; open_dialog = None } in
-    rw (is, same, past) (stand_empty (finished c 0 last.items how link) (none (incarnation c.past))
+    rw (is, same, past) (stand_empty (finished c 0 last.items how [] link) (none (incarnation c.past))
     ∙ sym (ap (λ (test : Bool). if test then record now { left = []; has_ended = false } else now) (ap (λ (k : ℕ). k == 0) (none (incarnation c.past)))))
 
 -- ---- frames
@@ -244,13 +244,13 @@ plain_at C seed s S c o at = at.stand_is ∙ stand_plain c at.some
 current : (J K : Seen) (s k : ℕ) → K.launcher ≡ J.launcher → IsCurrent (shown_in K s) k → IsFalse (nat_lt k (begun J.launcher s))
 current J K s k same cur = not_below k (begun J.launcher s) (omega (arith, cur.1, cur.2, ap (λ v. begun v s) same))
 
-past_finished : (c d : Standing) (w : ℕ) (items : List Item) (how : End) (link : Option Wire) → d ≡ finished c w items how link → (method : List ℕ) → last_response d.past method ≡ end_response how items method
+past_finished : (c d : Standing) (w : ℕ) (items : List Item) (how : End) (link : Option Wire) → d ≡ finished c w items how [] link → (method : List ℕ) → last_response d.past method ≡ end_response how items method
 past_finished c d w items how link is method = ap (λ (x : Standing). last_response x.past method) is
 
 -- the last frame of a dialog was taken
 closed_by_frame : (C : Config) (seed : List ℕ) (s : ℕ) (S : Stage) (c d : Standing) (K : Seen) (o : Open) (frame : ServiceFrame) (taken : List ℕ) (how : End) → IsOpenAt C seed s S c o
     → IsFalse (nat_lt (incarnation c.past) (begun S.seen.launcher s)) → Spells taken frame → Passes c.link d.link taken [] → said_end (said_count o.items + 1) frame ≡ Some how → K ≡ S.seen
-    → d ≡ finished c o.worker (Said frame ∷ o.items) how d.link → Advances C s (opened o) S (answer_of o.request d.past S) (after S s (stand_by d) K)
+    → d ≡ finished c o.worker (Said frame ∷ o.items) how [] d.link → Advances C s (opened o) S (answer_of o.request d.past S) (after S s (stand_by d) K)
 closed_by_frame C seed s S c d K o frame taken how at cur spells pass ends same is =
     let there : stand S s ≡ plain c = plain_at C seed s S c o at in
     let p = passed c.link d.link taken [] pass at.seat.linked in
@@ -270,7 +270,7 @@ closed_by_frame C seed s S c d K o frame taken how at cur spells pass ends same 
     ))
 
 -- a dialog that ended where it stands
-closed_there : (s : ℕ) (S : Stage) (c d : Standing) (K : Seen) (o : Open) (items : List Item) (how : End) (link : Option Wire) → stand_by d ≡ closed_stand (stand S s) (opened o) how → K ≡ S.seen → d ≡ finished c o.worker items how link → items ≡ o.items
+closed_there : (s : ℕ) (S : Stage) (c d : Standing) (K : Seen) (o : Open) (items : List Item) (how : End) (link : Option Wire) → stand_by d ≡ closed_stand (stand S s) (opened o) how → K ≡ S.seen → d ≡ finished c o.worker items how [] link → items ≡ o.items
     → (after S s (stand_by d) K ≡ closed s (opened o) how S) × (answer_of o.request d.past S ≡ closing_text (opened o) how S)
 closed_there s S c d K o items how link moved same is kept =
     (rw (moved, same) refl, ap (answer_line o.request) (past_finished c d o.worker items how link is (request_method (slice_get S.requests o.request)) ∙ ap (λ (xs : List Item). end_response how xs (request_method (slice_get S.requests o.request))) kept))
@@ -325,7 +325,7 @@ step_closes C seed s S c d K o (advanced.Superseded k shown) ends at ready next 
     let there : stand S s ≡ plain c = plain_at C seed s S c o at in
     let same : shown ≡ begun S.seen.launcher s = a.2 ∙ ap (λ v. begun v s) (same_launcher 0 S.seen K next) in
     let how : end.Superseded shown ≡ end.Superseded (begun S.seen.launcher s) = ap end.Superseded same in
-    let is : d ≡ finished c o.worker o.items (end.Superseded (begun S.seen.launcher s)) c.link = rw how at a.4 in
+    let is : d ≡ finished c o.worker o.items (end.Superseded (begun S.seen.launcher s)) [] c.link = rw how at a.4 in
     let moved : stand_by d ≡ closed_stand (stand S s) (opened o) (end.Superseded (begun S.seen.launcher s)) =
     finished_is c d o.items (end.Superseded (begun S.seen.launcher s)) (opened_by c.open_dialog) (opened o) c.link (rw (own_worker c o at.seat.own at.open_is) at is) refl ∙ rw there refl in
     let both = closed_there s S c d K o o.items (end.Superseded (begun S.seen.launcher s)) c.link moved a.3 is refl in
@@ -334,24 +334,26 @@ step_closes C seed s S c d K o (advanced.Superseded k shown) ends at ready next 
 step_closes C seed s S c d K o (advanced.Crashed cause.BadFrame) ends at ready next a =
     let there : stand S s ≡ plain c = plain_at C seed s S c o at in
     let cur = current S.seen K s (incarnation c.past) (same_launcher 0 S.seen K next) a.0 in
-    let crash = a.1.1 in
+    let crash = a.1.2 in
+    let is : d ≡ finished c o.worker a.1.0 end.BadFrame [] d.link = rw crash.8 at a.1.3 in
     let front = fronted_on c.link d.link crash.5 (at.seat.there at.some) at.seat.linked in
-    let moved : stand_by d ≡ closed_stand (stand S s) (opened o) end.BadFrame = crashed_is c d a.1.0 end.BadFrame (stand S s) (opened o) d.link (rw (own_worker c o at.seat.own at.open_is) at a.1.2) (λ k. refl) (rw there refl) crash.6 in
-    let both = closed_there s S c d K o a.1.0 end.BadFrame d.link moved crash.7 a.1.2 crash.6 in
+    let moved : stand_by d ≡ closed_stand (stand S s) (opened o) end.BadFrame = crashed_is c d a.1.0 end.BadFrame (stand S s) (opened o) d.link (rw (own_worker c o at.seat.own at.open_is) at is) (λ k. refl) (rw there refl) crash.6 in
+    let both = closed_there s S c d K o a.1.0 end.BadFrame d.link moved crash.7 is crash.6 in
     bad_closes C s S (after S s (stand_by d) K) (opened o) (answer_of o.request d.past S) (rw there cur) ready (rw there front.0) (rw there front.1) both.0 both.1
 step_closes C seed s S c d K o (advanced.Crashed cause.Ended) ends at ready next a =
     let there : stand S s ≡ plain c = plain_at C seed s S c o at in
     let cur = current S.seen K s (incarnation c.past) (same_launcher 0 S.seen K next) a.0 in
-    let crash = a.1.1 in
+    let crash = a.1.2 in
+    let is : d ≡ finished c o.worker a.1.0 end.Ended [] d.link = rw crash.4 at a.1.3 in
     let p = passed c.link d.link [] [] crash.0 at.seat.linked in
-    let moved : stand_by d ≡ closed_stand (stand S s) (opened o) end.Ended = crashed_is c d a.1.0 end.Ended (stand S s) (opened o) d.link (rw (own_worker c o at.seat.own at.open_is) at a.1.2) (λ k. refl) (rw there refl) crash.2 in
-    let both = closed_there s S c d K o a.1.0 end.Ended d.link moved crash.3 a.1.2 crash.2 in
+    let moved : stand_by d ≡ closed_stand (stand S s) (opened o) end.Ended = crashed_is c d a.1.0 end.Ended (stand S s) (opened o) d.link (rw (own_worker c o at.seat.own at.open_is) at is) (λ k. refl) (rw there refl) crash.2 in
+    let both = closed_there s S c d K o a.1.0 end.Ended d.link moved crash.3 is crash.2 in
     ended_closes C s S (after S s (stand_by d) K) (opened o) (answer_of o.request d.past S) (rw there cur) ready (rw there (p.left ∙ at_end_on d.link crash.1)) both.0 both.1
-step_closes C seed s S c d K o (advanced.Crashed cause.LinkFault) ends at ready next a = absurd (no_fault C _ c.link d.link S.seen K o.items a.1.0 at.seat.linked a.1.1)
+step_closes C seed s S c d K o (advanced.Crashed cause.LinkFault) ends at ready next a = absurd (no_fault C _ c.link d.link S.seen K o.items a.1.0 a.1.1 at.seat.linked a.1.2)
 step_closes C seed s S c d K o (advanced.Crashed cause.FrameLimit) ends at ready next a =
     let cur = current S.seen K s (incarnation c.past) (same_launcher 0 S.seen K next) a.0 in
-    let crash = a.1.1 in
-    let is : d ≡ finished c o.worker (Said crash.0 ∷ o.items) end.FrameLimit d.link = rw crash.5 at a.1.2 in
+    let crash = a.1.2 in
+    let is : d ≡ finished c o.worker (Said crash.0 ∷ o.items) end.FrameLimit [] d.link = rw (crash.5, crash.7) at a.1.3 in
     closed_by_frame C seed s S c d K o crash.0 crash.1 end.FrameLimit at cur crash.2 crash.4 (many_said (said_count o.items) crash.0 crash.3) crash.6 is
 step_closes C seed s S c d K o (advanced.Crashed cause.Starved) ends at ready next a = absurd cc
 

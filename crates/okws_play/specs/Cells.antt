@@ -44,7 +44,7 @@ stand_at stands s = slice_index_or stands s empty_stand
 
 -- The cell after an open dialog ended so.
 abbrev pub closed_stand : Stand → Opened → End → Stand
-closed_stand there opened how = settled (record there { past = cell.Dialog (record { worker = 0; items = opened.items; end = how }) ∷ there.past; open_dialog = None })
+closed_stand there opened how = settled (record there { past = cell.Dialog (record { worker = 0; items = opened.items; end = how; due = [] }) ∷ there.past; open_dialog = None })
 
 -- The cell after a fresh link got Boot of k.
 abbrev pub booted_stand : Stand → ℕ → Stand

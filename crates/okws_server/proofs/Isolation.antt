@@ -20,7 +20,7 @@ use Rattle.okws_server.specs.Ran.{GivesConfig, zero_seed}
 abbrev booted_in : List StoryEvent → List ℕ
 booted_in [] = []
 booted_in (Boots k ∷ story) = k ∷ booted_in story
-booted_in (Talks how items ∷ story) = booted_in story
+booted_in (Talks how items due ∷ story) = booted_in story
 
 -- A story boots what its journal does.
 told_booted : (C : Config) (R : Record) (s : ℕ) (J : List CellEvent) (story : List StoryEvent) → IsStory C R s J story → all_booted J ≡ booted_in story
@@ -28,7 +28,7 @@ told_booted C R s [] story h = sym (ap booted_in h)
 told_booted C R s (cell.Boot k ∷ J) story h = ap (λ ks. k ∷ ks) (told_booted C R s J h.0 h.2) ∙ sym (ap booted_in h.1)
 told_booted C R s (cell.Retired ∷ J) story h = told_booted C R s J story h
 told_booted C R s (cell.Missed worker wanted is ∷ J) story h = told_booted C R s J story h
-told_booted C R s (cell.Dialog d ∷ J) story h = told_booted C R s J h.0 h.4 ∙ sym (ap booted_in h.2)
+told_booted C R s (cell.Dialog d ∷ J) story h = told_booted C R s J h.0 h.6 ∙ sym (ap booted_in h.3)
 told_booted C R s (cell.Speaking worker items ∷ J) story h = told_booted C R s J h.0 h.4 ∙ sym (ap booted_in h.2)
 
 abbrev made : ℕ → Option (List ℕ) → Sent

@@ -23,7 +23,7 @@ use Rattle.monitor_model.specs.Course.{Speaker}
 use Rattle.monitor_model.specs.Entered.{exchanges_at, entered_by}
 use Rattle.monitor_model.specs.Legal.{IsLawful}
 use Rattle.monitor_model.specs.Merged.{IsOwn, list_of, cell_past}
-use Rattle.monitor_model.specs.Sent.{or_else, cut_items, broken_in, IsGiven, IsSent, AreSent, IsToldOf, IsGivenAll, AreGivenAll, sents_of}
+use Rattle.monitor_model.specs.Sent.{or_else, cut_due, broken_in, IsGiven, IsSent, AreSent, IsToldOf, IsGivenAll, AreGivenAll, sents_of}
 use Rattle.monitor_model.specs.Told.{TellsAll}
 use Rattle.monitor_model.specs.Unharmed.{is_harm, IsHarmless, IsUnharmed}
 
@@ -47,21 +47,21 @@ answered_with x C R w opened (Heard heard ∷ Heard other ∷ items) h = h
 answered_with x C R w opened (Heard heard ∷ Said said ∷ items) h = (answered_with x C R w opened items h.0, answers_with x C R w said heard h.1)
 answered_with x C R w opened (Said said ∷ items) h = h
 
-ends_with : (x : List (List Sent)) (C : Config) (R : Record) (w : Speaker) (opened items : List Item) (how : End) → EndsIn C R w opened items how → EndsIn C (with_sents x R) w opened items how
-ends_with x C R w opened items end.Reply h = (h.0, h.1, answered_with x C R w opened h.0 h.2, h.3)
-ends_with x C R w opened items (end.Superseded shown) h = (h.0, answered_with x C R w opened items h.1, h.2)
-ends_with x C R w opened items end.BadFrame h = (answered_with x C R w opened items h.0, h.1)
-ends_with x C R w opened items end.Ended h = (answered_with x C R w opened items h.0, h.1)
-ends_with x C R w opened items end.FrameLimit h = (h.0, h.1, h.2, answered_with x C R w opened h.1 h.3, h.4)
-ends_with x C R w opened items end.LinkFault h = (
+ends_with : (x : List (List Sent)) (C : Config) (R : Record) (w : Speaker) (due : List ℕ) (opened items : List Item) (how : End) → EndsIn C R w due opened items how → EndsIn C (with_sents x R) w due opened items how
+ends_with x C R w due opened items end.Reply h = (h.0, h.1, answered_with x C R w opened h.0 h.2, h.3)
+ends_with x C R w due opened items (end.Superseded shown) h = (h.0, answered_with x C R w opened items h.1, h.2)
+ends_with x C R w due opened items end.BadFrame h = (answered_with x C R w opened items h.0, h.1)
+ends_with x C R w due opened items end.Ended h = (answered_with x C R w opened items h.0, h.1)
+ends_with x C R w due opened items end.FrameLimit h = (h.0, h.1, h.2, answered_with x C R w opened h.1 h.3, h.4)
+ends_with x C R w due opened items end.LinkFault h = (
   h.0,
   elim h.1 [
     | inl front ↦ inl front
-    | inr (inl all) ↦ inr (inl (answered_with x C R w opened items all))
-    | inr (inr last) ↦ inr (inr (last.0, last.1, last.2, last.3, answered_with x C R w opened last.2 last.4, answers_with x C R w last.0 last.1 last.5))
+    | inr (inl all) ↦ inr (inl (answered_with x C R w opened items all.0, all.1))
+    | inr (inr last) ↦ inr (inr (last.0, last.1, last.2, last.3, answered_with x C R w opened last.2 last.4, answers_with x C R w last.0 last.1 last.5, last.6))
   ],
 )
-ends_with x C R w opened items end.Starved h = (
+ends_with x C R w due opened items end.Starved h = (
   h.0,
   elim h.1 [
     | inl front ↦ inl front
@@ -70,12 +70,12 @@ ends_with x C R w opened items end.Starved h = (
   ],
 )
 
-dialog_with : (x : List (List Sent)) (C : Config) (R : Record) (w : Speaker) (items : List Item) (how : End) → IsDialogIn C R w items how → IsDialogIn C (with_sents x R) w items how
-dialog_with x C R w items how (inl h) = inl h
-dialog_with x C R w items how (inr h) = inr (h.0, h.1, ends_with x C R w h.0 items how h.2)
+dialog_with : (x : List (List Sent)) (C : Config) (R : Record) (w : Speaker) (due : List ℕ) (items : List Item) (how : End) → IsDialogIn C R w due items how → IsDialogIn C (with_sents x R) w due items how
+dialog_with x C R w due items how (inl h) = inl h
+dialog_with x C R w due items how (inr h) = inr (h.0, h.1, ends_with x C R w due h.0 items how h.2)
 
 event_with : (x : List (List Sent)) (C : Config) (R : Record) (s : ℕ) (J : List CellEvent) (e : CellEvent) → IsEventIn C R s J e → IsEventIn C (with_sents x R) s J e
-event_with x C R s J (cell.Dialog d) h = dialog_with x C R (speaker_of d.worker s J) d.items d.end h
+event_with x C R s J (cell.Dialog d) h = dialog_with x C R (speaker_of d.worker s J) d.due d.items d.end h
 event_with x C R s J (cell.Speaking worker items) h = (h.0, h.1, answered_with x C R (speaker_of worker s J) h.0 items h.2, h.3)
 event_with x C R s J (cell.Boot k) h = h
 event_with x C R s J cell.Retired h = h
@@ -123,16 +123,16 @@ lawful_still x C seed keepers launcher R h = record {
 
 -- ---- what the links were given
 
-no_fault : (e : End) (items : List Item) → IsFalse (is_harm e) → cut_items e items ≡ None
-no_fault end.LinkFault items h = absurd (cc)
-no_fault end.Reply items h = refl
-no_fault (end.Superseded shown) items h = refl
-no_fault end.BadFrame items h = refl
-no_fault end.Ended items h = refl
-no_fault end.FrameLimit items h = refl
-no_fault end.Starved items h = refl
+no_fault : (e : End) (due : List ℕ) → IsFalse (is_harm e) → cut_due e due ≡ None
+no_fault end.LinkFault due h = absurd (cc)
+no_fault end.Reply due h = refl
+no_fault (end.Superseded shown) due h = refl
+no_fault end.BadFrame due h = refl
+no_fault end.Ended due h = refl
+no_fault end.FrameLimit due h = refl
+no_fault end.Starved due h = refl
 
-neither : (a : Bool) (b c : Option (List Item)) → b ≡ None → c ≡ None → cond a (or_else b c) c ≡ None
+neither : (a : Bool) (b c : Option (List ℕ)) → b ≡ None → c ≡ None → cond a (or_else b c) c ≡ None
 neither true b c h k = rw (h, k) refl
 neither false b c h k = k
 
@@ -142,15 +142,15 @@ unbroken k [] h = refl
 unbroken k (cell.Boot j ∷ J) h = unbroken k J h.1
 unbroken k (cell.Retired ∷ J) h = unbroken k J h.1
 unbroken k (cell.Missed worker wanted is ∷ J) h = unbroken k J h.1
-unbroken k (cell.Dialog d ∷ J) h = neither (incarnation J == k) (cut_items d.end d.items) (broken_in k J) (no_fault d.end d.items h.0) (unbroken k J h.1)
+unbroken k (cell.Dialog d ∷ J) h = neither (incarnation J == k) (cut_due d.end d.due) (broken_in k J) (no_fault d.end d.due h.0) (unbroken k J h.1)
 unbroken k (cell.Speaking worker items ∷ J) h = unbroken k J h.1
 
 given_all : (text : List ℕ) (o : Option (List ℕ)) → IsGiven text None o → IsSome o → o ≡ Some text
 given_all text None h told = absurd (cc)
 given_all text (Some given) h told = ap Some (h.1 ∙ ap (λ (l : List ℕ). text ++ l) h.2 ∙ append-nil text)
 
-given_whole : (text : List ℕ) (broken : Option (List Item)) (o : Option (List ℕ)) → broken ≡ None → IsGiven text broken o → IsSome o → o ≡ Some text
-given_whole text (Some items) o e h told = absurd (cc)
+given_whole : (text : List ℕ) (broken : Option (List ℕ)) (o : Option (List ℕ)) → broken ≡ None → IsGiven text broken o → IsSome o → o ≡ Some text
+given_whole text (Some due) o e h told = absurd (cc)
 given_whole text None o e h told = given_all text o h told
 
 each_given : (C : Config) (seed : List ℕ) (s : ℕ) (J : List CellEvent) (sent : List Sent) → Each IsHarmless J → Each (IsSent C seed s J) sent → Each IsToldOf sent → Each (IsGivenAll C seed s J) sent

@@ -19,7 +19,7 @@ use Rattle.monitor_model.specs.Outside.{Outside}
 use Rattle.monitor_model.specs.Placed.{EachFrom}
 use Rattle.monitor_model.specs.Seen.{proxy_past}
 use Rattle.site_run.specs.Journals.{AllCells, KeepLaws}
-use Rattle.two_worlds.specs.Laws.{HearsTheSame}
+use Rattle.two_worlds.specs.Laws.{HearsTheSame, IsDueTheSame}
 use Rattle.okws_server.specs.Isolation.{AgreeingServersGiveTheSame}
 
 -- What holds of each holds of the one with this number; of one that isn't there what holds of nothing.
@@ -56,6 +56,8 @@ module _ (C : Config) (seed : List ℕ) (n : ℕ) (T : Outside) (R : Record) (co
     faults_are = λ p. at (λ (i : ℕ) (J : List (Entry ProxyEvent)). WithinCount (T.keepers i) (faults J)) (λ i. none_counted (T.keepers i)) 0 R.proxies legal.lawful.faults_are p p (omega arith);
   }
 
-pub served_the_same : HearsTheSame → AgreeingServersGiveTheSame
-served_the_same hears_the_same C D seed n m T U R Q connections others s lawful_C lawful_D laws_R laws_Q first second agree =
-    hears_the_same C D seed _ _ _ _ R Q s lawful_C lawful_D (is_lawful C seed n T R connections laws_R first) (is_lawful D seed m U Q others laws_Q second) agree
+pub served_the_same : HearsTheSame → IsDueTheSame → AgreeingServersGiveTheSame
+served_the_same hears_the_same is_due_the_same C D seed n m T U R Q connections others s lawful_C lawful_D laws_R laws_Q first second agree k =
+    let one = is_lawful C seed n T R connections laws_R first in
+    let two = is_lawful D seed m U Q others laws_Q second in
+    (hears_the_same C D seed _ _ _ _ R Q s lawful_C lawful_D one two agree k, is_due_the_same C D seed _ _ _ _ R Q s lawful_C lawful_D one two agree k)

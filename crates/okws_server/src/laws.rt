@@ -13,7 +13,7 @@ pub fn agreeing_runs_give_the_same()
 }
 
 /// Where the records of two servers' runs agree for a service, whatever else differs between the runs, each
-/// incarnation of it heard the same bytes in both.
+/// incarnation of it heard the same bytes in both, and the same was due where its link failed.
 pub fn agreeing_servers_give_the_same()
     ensures { AgreeingServersGiveTheSame }
 {

@@ -9,6 +9,7 @@ pub mod Finishing
 pub mod Stationing
 pub mod Spent
 pub mod Surveyed
+pub mod Tallying
 pub mod Serving
 pub mod Surviving
 pub mod Listing

@@ -9,7 +9,6 @@ use Rattle.turn_lock.specs.BoardSeats.{SeatIs as Place}
 use Rattle.atomic_table.specs.Seated.{TableId}
 use Rattle.okws_outer.specs.Conns.{ConnWire}
 use Rattle.okws_outer.specs.Doors.{Entrance}
-use Rattle.okws_outer.specs.Streams.{Rose, counted}
 use Rattle.okws_plan.specs.declared.configuration.Config.{Config}
 use Rattle.monitor_model.specs.declared.record.Record.{Record}
 use Rattle.http_front.specs.declared.kept.Kept.{Kept}
@@ -27,93 +26,26 @@ use Rattle.site_worker.specs.declared.door.Attended.{Attended}
 use Rattle.site_run.specs.Places.{PlacesAre}
 use Rattle.site_run.specs.Tied.{AllBegin, AllEnd, LifeEnds}
 use Rattle.site_run.specs.Whole.{AllDrewAt, AllSawAt, AllDrawn}
-use Rattle.okws_serve.specs.Doors.{Tally, TalliesAt, AllTally, AllAttend, connections_of, begun_of, awaited_of, total, until, any_starved, GoesOut, ServesConsole, ServesDoors}
+use Rattle.okws_serve.specs.Doors.{Tally, TalliesAt, AllTally, AllAttend, AllDraw, connections_of, begun_of, awaited_of, total, until, any_starved, GoesOut, ServesConsole, ServesDoors}
 use Rattle.okws_serve.specs.Posts.{DoorIs, AttendedBy, Concludes}
 use Rattle.okws_serve.specs.declared.outfit.Ending.{Ending}
 use Rattle.okws_serve.specs.Manned.{AllAttended, ConsoleDone, DoorsDone, lives_of, served_of}
 use Rattle.okws_serve.proofs.Spent.{oversees_spent}
 use Rattle.okws_serve.proofs.Surveyed.{oversees_surveyed, past_ended}
 use Rattle.okws_serve.proofs.Finishing.{attended_same}
+use Rattle.okws_serve.proofs.Tallying.{Tallied, none_tallied, whole_tallied, cut_tallied, missed_tallied, awaited_tallied, finished_many, as_finished, some_fault}
 use Rattle.okws_serve.proofs.Counting.{one_below, below, below-all, below-from, one-below, none-below, sum_below, sum-all, sum-last, last-below}
-
--- a count after more faults is at least what it was
-counts_whole : (c m e g : ℕ) → counted c m ≤ e → counted c m ≤ counted e g
-counts_whole c m e g l = omega arith
-
--- one fault more
-counts_more : (c m e f : ℕ) → counted c m ≤ e → Rose e f → counted c (m + 1) ≤ f
-counts_more c m e f l r = omega arith
-
--- a tally of turns, with all that was begun in them; where no stop was seen, none was awaited
-pub record Tallied (seen m : ℕ) (e f : Entrance) : Type 0 where
-  pub tally : Tally
-  pub at : TalliesAt tally e f
-  pub begun : begun_of tally ≡ m
-  pub cause : seen ≡ 0 → tally.awaited ≡ 0
-
--- nothing was begun
-none_tallied : (seen : ℕ) (e f : Entrance) → f ≡ e → Tallied seen 0 e f
-none_tallied seen e f same = record {
-  tally = record { whole = 0; cut = 0; missed = 0; awaited = 0 };
-  at = record { finished = let h = ap (λ (x : Entrance). length x.finished) same in omega arith; faults = let h = ap (λ (x : Entrance). x.faults) same in omega arith };
-  begun = refl;
-  cause = λ _. refl;
-}
-
--- a connection more that was served whole
-whole_tallied : (seen m : ℕ) (e g f : Entrance) (more : ℕ) → length f.finished ≡ suc (length g.finished) → f.faults ≡ counted g.faults more → Tallied seen m e g → Tallied seen (suc m) e f
-whole_tallied seen m e g f more l c t =
-    let a = t.at.finished in let b = t.begun in let k = t.at.faults in
-    record {
-      tally = record t.tally { whole = suc t.tally.whole };
-      at = record { finished = omega arith; faults = rw c (counts_whole e.faults (t.tally.cut + t.tally.missed) g.faults more k) };
-      begun = omega arith;
-      cause = t.cause;
-    }
-
--- one more that was cut
-cut_tallied : (seen m : ℕ) (e g f : Entrance) → length f.finished ≡ suc (length g.finished) → Rose g.faults f.faults → Tallied seen m e g → Tallied seen (suc m) e f
-cut_tallied seen m e g f l r t =
-    let a = t.at.finished in let b = t.begun in let k = counts_more e.faults (t.tally.cut + t.tally.missed) g.faults f.faults t.at.faults r in
-    record {
-      tally = record t.tally { cut = suc t.tally.cut };
-      at = record { finished = omega arith; faults = subst (λ x. counted e.faults x ≤ f.faults) (let q : t.tally.cut + t.tally.missed + 1 ≡ suc t.tally.cut + t.tally.missed = omega arith in q) k };
-      begun = omega arith;
-      cause = t.cause;
-    }
-
--- one more that did not come
-missed_tallied : (seen m : ℕ) (e g f : Entrance) → f.finished ≡ g.finished → Rose g.faults f.faults → Tallied seen m e g → Tallied seen (suc m) e f
-missed_tallied seen m e g f same r t =
-    let l = ap length same in
-    let a = t.at.finished in let b = t.begun in let k = counts_more e.faults (t.tally.cut + t.tally.missed) g.faults f.faults t.at.faults r in
-    record {
-      tally = record t.tally { missed = suc t.tally.missed };
-      at = record { finished = omega arith; faults = subst (λ x. counted e.faults x ≤ f.faults) (let q : t.tally.cut + t.tally.missed + 1 ≡ t.tally.cut + suc t.tally.missed = omega arith in q) k };
-      begun = omega arith;
-      cause = t.cause;
-    }
-
--- one more that was awaited when the run was stopped
-awaited_tallied : (seen m : ℕ) (e g f : Entrance) → f ≡ g → 0 < seen → Tallied seen m e g → Tallied seen (suc m) e f
-awaited_tallied seen m e g f same l t =
-    let a = t.at.finished in let b = t.begun in let k = t.at.faults in
-    let n = ap (λ (x : Entrance). length x.finished) same in let q = ap (λ (x : Entrance). x.faults) same in
-    record {
-      tally = record t.tally { awaited = suc t.tally.awaited };
-      at = record { finished = omega arith; faults = rw q k };
-      begun = omega arith;
-      cause = λ z. absurd (omega (arith, z, l));
-    }
 
 module _ {X : Type 0} (wire : X → ConnWire) (C : Config) (n seen : ℕ) where
   -- what one turn at the door adds
   turn_tallied : (m : ℕ) (e g f : Entrance) (J K : Life) (kept : Kept) (reply : Replied) (what : Serving) → is_starved what ≡ false → Serves wire (Handles C n) Starves g f J K kept reply what → WhereAwaited what (0 < seen)
       → Tallied seen m e g → Tallied seen (suc m) e f
   turn_tallied m e g f J K kept reply (serving.Served a) turn s w t =
-      let h = s.finishes.finished in whole_tallied seen m e g f s.ended.faults (ap (λ (x : Entrance). length x.finished) h) (ap (λ (x : Entrance). x.faults) h) t
+      let h = s.finishes.finished in
+      whole_tallied seen m e g f (as_finished s.begun s.ended) (s.attends.told.1 ∙ s.finishes.accepted.faults) (ap (λ (x : Entrance). x.finished) h) (ap (λ (x : Entrance). x.faults) h) t
   turn_tallied m e g f J K kept reply (serving.ConnFault a) turn s w t =
-      let h = s.finishes.finished in cut_tallied seen m e g f (ap (λ (x : Entrance). length x.finished) h) s.rose t
+      let h = s.finishes.finished in
+      cut_tallied seen m e g f (as_finished s.begun s.ended) (some_fault s.begun.faults s.ended.faults s.finishes.accepted.faults s.attends.told.1) (ap (λ (x : Entrance). x.finished) h) (ap (λ (x : Entrance). x.faults) h) t
   turn_tallied m e g f J K kept reply serving.NoConn turn s w t =
       missed_tallied seen m e g f (ap (λ (x : Entrance). x.finished) s.0.kept) s.0.rose t
   turn_tallied m e g f J K kept reply serving.NoneCame turn s w t = awaited_tallied seen m e g f s.0 w t
@@ -156,7 +88,7 @@ door_tallied wire C n most seen e f J K drawn a h =
     let u = below-all most h.numbers h.under in
     let l = last_counts a.starved most h.last h.ends in
     let b = t.begun in
-    let c = h.connections in let g = t.at.finished in
+    let c = h.connections in let g = finished_many t.tally e f t.at in
     record {
       tally = t.tally;
       at = t.at;
@@ -199,6 +131,7 @@ pub record AllTallied {X : Type 0} (wire : X → ConnWire) (C : Config) (n most 
   pub tallies : List Tally
   pub tallied : AllTally tallies olds news
   pub attend : AllAttend wire C n most R ended k olds news as'
+  pub drew : AllDraw wire C n most R ended hand count k olds news as' attend
   pub served : total connections_of tallies ≡ served_of as'
   pub begun : sum_below most hand count k (length as') ≡ total begun_of tallies + starved_in as'
   pub cause : calm → total awaited_of tallies ≡ 0
@@ -222,7 +155,7 @@ module _ {X : Type 0} (wire : X → ConnWire) (C : Config) (n : ℕ) (z : TableI
 
   pub all_tallied : (R : Record) (ended : ℕ → ℕ → Bool) (k : ℕ) (ds : List DoorIs) (as' : List Attended) (es : List DoorIs) → AllAttended wire C n z most k ds as' es → AllDrewAt hand count (map (λ (d : DoorIs). d.place) es)
       → AllBegin C n k (lives_of ds) → AllEnd n k (lives_of es) R ended → AllTallied wire C n most R ended hand count k (map (λ (d : DoorIs). d.entrance) ds) (map (λ (d : DoorIs). d.entrance) es) as' (AllCalm es)
-  all_tallied R ended k [] [] [] h w begin end = record { tallies = []; tallied = tt; attend = tt; served = refl; begun = refl; cause = λ _. refl }
+  all_tallied R ended k [] [] [] h w begin end = record { tallies = []; tallied = tt; attend = tt; drew = tt; served = refl; begun = refl; cause = λ _. refl }
   all_tallied R ended k [] [] (e ∷ es) h w begin end = absurd h
   all_tallied R ended k [] (a ∷ as') es h w begin end = absurd h
   all_tallied R ended k (d ∷ ds) [] es h w begin end = absurd h
@@ -239,6 +172,7 @@ module _ {X : Type 0} (wire : X → ConnWire) (C : Config) (n : ℕ) (z : TableI
         tallies = t.tally ∷ rest.tallies;
         tallied = (t.at, rest.tallied);
         attend = (record { before = d.life; after = e.life; drawn = e.place.drawn; seen = slice_index e.place.seen STOPPED; begins = begin.0; attends = attends; left = end.0 }, rest.attend);
+        drew = (drawn, rest.drew);
         served = omega arith;
         begun = omega arith;
         cause = λ calm. let a = t.cause calm.0 in let b = rest.cause calm.1 in omega (arith, a, b);
@@ -321,12 +255,21 @@ serves_doors wire C n z most many R ended lives old new connections starved life
     let others : below most (drawn_by w.hand (0 + many) w.count) ≡ most - until most e.stopped = ap (below most) drawn ∙ did.drew in
     let s : sum_below most w.hand w.count 0 (length d.attended) ≡ sum_below most w.hand w.count 0 many = ap (sum_below most w.hand w.count 0) m in
     let u = did.few in
+    let both : (h : AllAttend wire C n most R ended 0 old.entrances new.entrances d.attended) × AllDraw wire C n most R ended w.hand w.count 0 old.entrances new.entrances d.attended h
+    = subst (λ x. (h : AllAttend wire C n most R ended 0 x new.entrances d.attended) × AllDraw wire C n most R ended w.hand w.count 0 x new.entrances d.attended h) (sym d.old_is)
+    (subst (λ x. (h : AllAttend wire C n most R ended 0 (map (λ (y : DoorIs). y.entrance) d.before) x d.attended) × AllDraw wire C n most R ended w.hand w.count 0 (map (λ (y : DoorIs). y.entrance) d.before) x d.attended h) (sym d.new_is) (t.attend, t.drew)) in
+    let past : any_starved d.attended ≡ false → most < w.count = first_past wire C n z most w.hand w.count 0 d.before d.attended d.after (omega arith) d.each drew in
     let b = t.begun in
     let c = t.served in
     let f = d.connections_are in
     record {
       attended = d.attended;
-      attend = subst (λ x. AllAttend wire C n most R ended 0 x new.entrances d.attended) (sym d.old_is) (subst (λ x. AllAttend wire C n most R ended 0 (map (λ (y : DoorIs). y.entrance) d.before) x d.attended) (sym d.new_is) t.attend);
+      attend = both.0;
+      hand = w.hand;
+      count = w.count;
+      drew = both.1;
+      seated = λ k below. let q = w.seated k below in omega (arith, q, l);
+      past = λ f. past (sym d.starved_is ∙ f);
       starved_is = d.starved_is;
       tallies = t.tallies;
       tallied = subst (λ x. AllTally t.tallies x new.entrances) (sym d.old_is) (subst (λ x. AllTally t.tallies (map (λ (y : DoorIs). y.entrance) d.before) x) (sym d.new_is) t.tallied);
@@ -334,7 +277,7 @@ serves_doors wire C n z most many R ended lives old new connections starved life
       at_least = λ f.
           let g : any_starved d.attended ≡ false = sym d.starved_is ∙ f in
           let h = none_starved d.attended g in
-          let p = first_past wire C n z most w.hand w.count 0 d.before d.attended d.after (omega arith) d.each drew g in
+          let p = past g in
           omega (arith, all, next, same, others, s, u, b, h, p);
       unstopped = λ none.
           let seen : last.seen ≡ w.greatest = w.saw_last (let q = did.number_is in omega arith) in

@@ -1,11 +1,13 @@
 -- What was done at the doors of a run and at its console.
-use Rattle.std.specs.Prelude.{◌≡◌, ◌≤◌, ℕ, suc, ◌+◌, min, Bool, List, [], ◌∷◌, length, true, false, ◌||◌}
+use Rattle.std.specs.Prelude.{◌≡◌, ◌≤◌, ◌<◌, ℕ, suc, ◌+◌, min, Bool, List, [], ◌∷◌, ◌++◌, length, true, false, ◌||◌, count_by, nat_lt, sum_by}
 use Rattle.std.specs.declared.option.Option.{Option}
 use Rattle.std.specs.declared.option.Option.TheVariants.{Some, None}
+use Rattle.turn_lock.specs.Board.{drawn_by}
 use Rattle.okws_plan.specs.declared.configuration.Config.{Config}
 use Rattle.okws_outer.specs.Conns.{ConnWire}
 use Rattle.okws_outer.specs.Doors.{Entrance}
 use Rattle.okws_outer.specs.Streams.{counted}
+use Rattle.okws_outer.specs.declared.door.Served.{Served}
 use Rattle.monitor_model.specs.declared.record.Record.{Record}
 use Rattle.site_worker.specs.Lives.{Life}
 use Rattle.site_worker.specs.declared.door.Attended.{Attended}
@@ -46,10 +48,21 @@ abbrev pub total : (Tally → ℕ) → List Tally → ℕ
 total f [] = 0
 total f (t ∷ ts) = f t + total f ts
 
--- A door finished as many connections as were served there, and counted each that was cut and each that did not come.
+-- A call of the connection failed.
+abbrev pub had_fault : Served → Bool
+had_fault x = nat_lt 0 x.faults
+
+-- How many calls of these connections failed.
+abbrev pub faults_of : List Served → ℕ
+faults_of since = sum_by (λ (x : Served). x.faults) since
+
+-- A door finished just those connections since that were served there: those of which a call failed were cut, and the others are whole. It counted each call of theirs that failed, and each connection that did not come.
 pub record TalliesAt (t : Tally) (old new : Entrance) : Type 0 where
-  pub finished : length new.finished ≡ connections_of t + length old.finished
-  pub faults : counted old.faults (t.cut + t.missed) ≤ new.faults
+  pub since : List Served
+  pub finished_is : new.finished ≡ since ++ old.finished
+  pub finished : length since ≡ connections_of t
+  pub cut_is : t.cut ≡ count_by had_fault since
+  pub faults : counted old.faults (faults_of since + t.missed) ≤ new.faults
 
 -- The same at each door.
 abbrev pub AllTally : List Tally → List Entrance → List Entrance → Type 0
@@ -79,6 +92,15 @@ AllAttend wire C n most R ended w (e ∷ es) [] as' = ⊥
 AllAttend wire C n most R ended w (e ∷ es) (f ∷ fs) [] = ⊥
 AllAttend wire C n most R ended w (e ∷ es) (f ∷ fs) (a ∷ as') = AttendsAt wire C n most R ended w e f a × AllAttend wire C n most R ended (suc w) es fs as'
 
+-- Of the numbers below the count each worker drew just those that `hand` tells of it.
+abbrev pub AllDraw : {X : Type 0} (wire : X → ConnWire) (C : Config) (n most : ℕ) (R : Record) (ended : ℕ → ℕ → Bool) (hand : ℕ → ℕ) (count w : ℕ) (es fs : List Entrance) (as' : List Attended) → AllAttend wire C n most R ended w es fs as' → Type 0
+AllDraw wire C n most R ended hand count w [] [] [] h = Unit {0}
+AllDraw wire C n most R ended hand count w [] [] (a ∷ as') h = ⊥
+AllDraw wire C n most R ended hand count w [] (f ∷ fs) as' h = ⊥
+AllDraw wire C n most R ended hand count w (e ∷ es) [] as' h = ⊥
+AllDraw wire C n most R ended hand count w (e ∷ es) (f ∷ fs) [] h = ⊥
+AllDraw wire C n most R ended hand count w (e ∷ es) (f ∷ fs) (a ∷ as') h = (h.0.drawn ≡ drawn_by hand w count) × AllDraw wire C n most R ended hand count (suc w) es fs as' h.1
+
 -- Memory was refused to one of the workers, before it took a connection.
 abbrev pub any_starved : List Attended → Bool
 any_starved [] = false
@@ -89,10 +111,15 @@ abbrev pub until : ℕ → Option ℕ → ℕ
 until most None = most
 until most (Some n) = min n most
 
--- The doors of a run were attended, door w by number w, whose life ended in the record: at most `most` connections were begun in all, and none behind those that were begun when the run was stopped; and just so many, unless memory was refused to a worker, where those that were cut or did not come are among them and were counted at their doors; and where the run was stopped, those that were awaited then.
+-- The doors of a run were attended, door w by number w, whose life ended in the record: each number below a count was drawn once, by the worker of a door or, at a stop, by the console's, and the count is above `most` unless memory was refused to a worker; at most `most` connections were begun in all, and none behind those that were begun when the run was stopped; and just so many, unless memory was refused to a worker, where those that were cut or did not come are among them and were counted at their doors, each by itself; and where the run was stopped, those that were awaited then.
 pub record ServesDoors {X : Type 0} (wire : X → ConnWire) (C : Config) (n most : ℕ) (R : Record) (ended : ℕ → ℕ → Bool) (old new : List Entrance) (connections : ℕ) (starved : Bool) (stopped : Option ℕ) : Type 0 where
   pub attended : List Attended
   pub attend : AllAttend wire C n most R ended 0 old new attended
+  pub hand : ℕ → ℕ
+  pub count : ℕ
+  pub drew : AllDraw wire C n most R ended hand count 0 old new attended attend
+  pub seated : (k : ℕ) → k < count → hand k ≤ length new
+  pub past : starved ≡ false → most < count
   pub starved_is : starved ≡ any_starved attended
   pub tallies : List Tally
   pub tallied : AllTally tallies old new

@@ -27,7 +27,7 @@ pub record AreNewest (newest items : List Item) : Type 0 where
   pub before : List Item
   pub whole : items ≡ newest ++ before
 
--- A cell: the site and the seed of its run, its service, its finished events, the newest first, its open dialog, if there is one, its link, if it has one, and what the links that it had before were given, the last one first.
+-- A cell: the site and the seed of its run, its service, its finished events, the newest first, its open dialog, if there is one, its link, if it has one, what the links that it had before were given, the last one first, and whether its events stay in memory.
 pub record Standing : Type 0 where
   pub config : Config
   pub seed : List ℕ
@@ -36,6 +36,7 @@ pub record Standing : Type 0 where
   pub open_dialog : Option Open
   pub link : Option Wire
   pub sent : List Sent
+  pub keeps : Bool
 
 -- What the link of incarnation k, if it is there, and those before it were given.
 abbrev pub all_sent : ℕ → Option Wire → List Sent → List Sent

@@ -85,6 +85,7 @@ impl<L: Link> Model for Cell<L> {
       open_dialog = opened a.speaking;
       link = option_map L.wire a.wire;
       sent = a.sent;
+      keeps = a.events.keeps;
     } };
 
     ghost invariant = { λ a. IsCell (Tied a.incarnation a.last_booted a.events a.speaking (is_some a.wire))
@@ -102,7 +103,7 @@ impl<L: Link> Cell<L> {
         service: u16,
         keeps: bool,
     ) -> Self
-        ensures { result ≡ record { config = arc_value config; seed = seed; service = service; past = []; open_dialog = None; link = None; sent = [] } }
+        ensures { result ≡ record { config = arc_value config; seed = seed; service = service; past = []; open_dialog = None; link = None; sent = []; keeps = keeps } }
     {
         Cell {
             alloc,

@@ -59,6 +59,7 @@ fn finish(events: &mut Events, worker: u16, items: Course, end: End, due: Due)
     requires room { 0 < events.old.room }
     requires unreplied { HasNoReply end }
     ensures past { events.new.past ≡ cell.Dialog (record { worker = worker; items = items.past; end = end; due = due }) ∷ events.old.past }
+    ensures keeps { events.new.keeps ≡ events.old.keeps }
     ensures room { events.new.room + 1 ≡ events.old.room }
 {
     events.finish(Finished::new(worker, items.into_journal(), end, due));
@@ -69,6 +70,7 @@ fn finish_replied(events: &mut Events, worker: u16, items: Course)
     requires room { 0 < events.old.room }
     requires replied { EndsInReply items.newest }
     ensures past { events.new.past ≡ cell.Dialog (record { worker = worker; items = items.past; end = end.Reply; due = [] }) ∷ events.old.past }
+    ensures keeps { events.new.keeps ≡ events.old.keeps }
     ensures room { events.new.room + 1 ≡ events.old.room }
 {
     let (reply, before) = items.into_reply();

@@ -54,7 +54,7 @@ seats_more C seed i s (c ∷ more) y h e seat = (h.0, seats_more C seed (i + 1) 
 
 -- a cell at which nothing happened
 abbrev pub fresh : Config → List ℕ → ℕ → Standing
-fresh C seed s = record { config = C; seed = seed; service = s; past = []; open_dialog = None; link = None; sent = [] }
+fresh C seed s = record { config = C; seed = seed; service = s; past = []; open_dialog = None; link = None; sent = []; keeps = false }
 
 -- the cells of the first n services, at which nothing happened
 pub record AreFresh (C : Config) (seed : List ℕ) (n : ℕ) (cells : List Standing) : Type 0 where

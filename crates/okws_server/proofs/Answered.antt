@@ -34,7 +34,7 @@ pub listens_on : (server : Serving) (old new : Net) → new ≡ record (with_lis
 listens_on server old new e f = e ∙ ap (λ x. record (with_listened server old) { faults = x }) f
 
 -- a site was served over doors that are open
-from_by : {X : Type 0} (wire : X → ConnWire) (server : Serving) (C : Config) (seed : List ℕ) (a m b : Gear) (left : List KeeperIs) (lost : Bool) (old new : Option (List ℕ)) (rose : Type 0) (R : Record) (how : Status) → m ≡ record a { net = with_listened server a.net } →
+from_by : {X : Type 0} (wire : X → ConnWire) (server : Serving) (C : Config) (seed : List ℕ) (a m b : Gear) (left : List KeeperIs) (lost : Bool) (old new : Option (List ℕ)) (rose : Bool → Type 0) (R : Record) (how : Status) → m ≡ record a { net = with_listened server a.net } →
     (ran : Ran) × (missed : Bool) × RanAt wire server C seed m b left ran missed × (R ≡ ran.record) × EndsAs ran missed lost old new rose how → ServesFrom wire server C seed a b left lost old new rose R how
 from_by wire server C seed a m b left lost old new rose R how e h = record {
   ran = h.0;
@@ -44,14 +44,14 @@ from_by wire server C seed a m b left lost old new rose R how e h = record {
   ends = h.4;
 }
 
-ends_over : {X K : Type 0} (wire : X → ConnWire) (server : Serving) (C : Config) (seed : List ℕ) (a b : Gear) (what : K → KeeperIs) (parted : K → Bool) (keepers left : List K) (old new : Option (List ℕ)) (rose : Type 0) (R : Record) (how : Status) →
+ends_over : {X K : Type 0} (wire : X → ConnWire) (server : Serving) (C : Config) (seed : List ℕ) (a b : Gear) (what : K → KeeperIs) (parted : K → Bool) (keepers left : List K) (old new : Option (List ℕ)) (rose : Bool → Type 0) (R : Record) (how : Status) →
     ServesFrom wire server C seed a b (map what left) (list_any parted left) old new rose R how → ServesOver wire server C seed a b what parted keepers left old new rose R how
 ends_over wire server C seed a b what parted keepers left old new rose R status.NetFault h = absurd h.ends
 ends_over wire server C seed a b what parted keepers left old new rose R status.NoMemory h = inr h
 ends_over wire server C seed a b what parted keepers left old new rose R _ h = h
 
 -- a site whose doors are open was served, or memory was refused before
-pub open_over : {X K : Type 0} (wire : X → ConnWire) (server : Serving) (C : Config) (seed : List ℕ) (a m b : Gear) (what : K → KeeperIs) (parted : K → Bool) (keepers left : List K) (old new : Option (List ℕ)) (rose : Type 0) (R : Record) (how : Status) →
+pub open_over : {X K : Type 0} (wire : X → ConnWire) (server : Serving) (C : Config) (seed : List ℕ) (a m b : Gear) (what : K → KeeperIs) (parted : K → Bool) (keepers left : List K) (old new : Option (List ℕ)) (rose : Bool → Type 0) (R : Record) (how : Status) →
     m ≡ record a { net = with_listened server a.net } → ServesOpen wire server C seed m b what parted left old new rose R how → ServesOver wire server C seed a b what parted keepers left old new rose R how
 open_over wire server C seed a m b what parted keepers left old new rose R how e (inl h) =
     let never : NeverRan server a b keepers left = inr (subst (λ (x : Gear). IsUntouched server x b) e h.1, h.2) in
@@ -60,7 +60,7 @@ open_over wire server C seed a m b what parted keepers left old new rose R how e
     ends_over wire server C seed a b what parted keepers left old new rose R how (from_by wire server C seed a m b (map what left) (list_any parted left) old new rose R how e h)
 
 -- no more keepers are left than there may be proxies
-few_from : {X K : Type 0} (wire : X → ConnWire) (server : Serving) (C : Config) (seed : List ℕ) (a b : Gear) (what : K → KeeperIs) (parted : K → Bool) (left : List K) (old new : Option (List ℕ)) (rose : Type 0) (R : Record) (how : Status) (most : ℕ) → length C.proxies ≤ most →
+few_from : {X K : Type 0} (wire : X → ConnWire) (server : Serving) (C : Config) (seed : List ℕ) (a b : Gear) (what : K → KeeperIs) (parted : K → Bool) (left : List K) (old new : Option (List ℕ)) (rose : Bool → Type 0) (R : Record) (how : Status) (most : ℕ) → length C.proxies ≤ most →
     ServesFrom wire server C seed a b (map what left) (list_any parted left) old new rose R how → length left ≤ most
 few_from wire server C seed a b what parted left old new rose R how most few h =
     omega (arith, few, length-map left what, keepers_left wire server C seed _ b (map what left) h.ran h.from.at.given h.from.at.faults h.from.at.over)
@@ -69,7 +69,7 @@ few_never : {K : Type 0} (server : Serving) (a b : Gear) (keepers left : List K)
 few_never server a b keepers left most few (inl h) = omega (arith, few, ap (λ (xs : List _). length xs) h.1)
 few_never server a b keepers left most few (inr h) = omega (arith, ap (λ (xs : List _). length xs) h.1)
 
-pub few_left : {X K : Type 0} (wire : X → ConnWire) (server : Serving) (C : Config) (seed : List ℕ) (a b : Gear) (what : K → KeeperIs) (parted : K → Bool) (keepers left : List K) (old new : Option (List ℕ)) (rose : Type 0) (R : Record) (how : Status) (most : ℕ) →
+pub few_left : {X K : Type 0} (wire : X → ConnWire) (server : Serving) (C : Config) (seed : List ℕ) (a b : Gear) (what : K → KeeperIs) (parted : K → Bool) (keepers left : List K) (old new : Option (List ℕ)) (rose : Bool → Type 0) (R : Record) (how : Status) (most : ℕ) →
     length keepers ≤ most → length C.proxies ≤ most → ServesOver wire server C seed a b what parted keepers left old new rose R how → length left ≤ most
 few_left wire server C seed a b what parted keepers left old new rose R status.NetFault most few many h = omega (arith, few, ap (λ (xs : List _). length xs) h.1)
 few_left wire server C seed a b what parted keepers left old new rose R status.NoMemory most few many (inl h) = few_never server a b keepers left most few h.0
@@ -96,14 +96,14 @@ err_holds (Ok x) e P is h = cc
 err_holds (Err y) e P is h = h
 
 -- the doors could not be had for want of memory
-pub starved_over : {X K : Type 0} (wire : X → ConnWire) (server : Serving) (C : Config) (seed : List ℕ) (a m b : Gear) (what : K → KeeperIs) (parted : K → Bool) (keepers : List K) (old new : Option (List ℕ)) (rose : Type 0) (R : Record) (how : Status) →
+pub starved_over : {X K : Type 0} (wire : X → ConnWire) (server : Serving) (C : Config) (seed : List ℕ) (a m b : Gear) (what : K → KeeperIs) (parted : K → Bool) (keepers : List K) (old new : Option (List ℕ)) (rose : Bool → Type 0) (R : Record) (how : Status) →
     how ≡ status.NoMemory → m ≡ listened server a → b ≡ m → Tells old new no_memory_line rose R → ServesOver wire server C seed a b what parted keepers keepers old new rose R how
 starved_over wire server C seed a m b what parted keepers old new rose R how is listen same told =
     subst (λ s. ServesOver wire server C seed a b what parted keepers keepers old new rose R s) (sym is) (inl (inl (same ∙ listen, refl), told))
 
 -- ---- with rows in memory
 
-memory_site : {X : Type 0} (wire : X → ConnWire) (tells : Type 0) (server : Serving) (C : Config) (seed : List ℕ) (a b : Gear) (left : List KeeperIs) (lost : Bool) (old new : Option (List ℕ)) (rose : Type 0) (R : Record) (how : Status) → server.store ≡ None →
+memory_site : {X : Type 0} (wire : X → ConnWire) (tells : Type 0) (server : Serving) (C : Config) (seed : List ℕ) (a b : Gear) (left : List KeeperIs) (lost : Bool) (old new : Option (List ℕ)) (rose : Bool → Type 0) (R : Record) (how : Status) → server.store ≡ None →
     lost ≡ false → ServesFrom wire server C seed a b left lost old new rose R how → ServesSite wire tells server C seed a b old new rose R how
 memory_site wire tells server C seed a b left lost old new rose R how memory none h =
     let depot : b.depot ≡ a.depot = h.from.at.over.depot in
@@ -154,7 +154,7 @@ none_parted [] = refl
 none_parted (k ∷ ks) = none_parted ks
 
 -- memory was refused to the keepers
-pub memory_starved : {X : Type 0} (wire : X → ConnWire) (tells : Type 0) (server : Serving) (C : Config) (seed : List ℕ) (a b : Gear) (old new : Option (List ℕ)) (rose : Type 0) (R : Record) (how : Status) →
+pub memory_starved : {X : Type 0} (wire : X → ConnWire) (tells : Type 0) (server : Serving) (C : Config) (seed : List ℕ) (a b : Gear) (old new : Option (List ℕ)) (rose : Bool → Type 0) (R : Record) (how : Status) →
     how ≡ status.NoMemory → server.store ≡ None → b ≡ a → Tells old new no_memory_line rose R → ServesConfig wire tells server C seed a b old new rose R how
 memory_starved wire tells server C seed a b old new rose R how is memory same told =
     let depot : b.depot ≡ a.depot = ap (λ (x : Gear). x.depot) same in
@@ -166,7 +166,7 @@ memory_starved wire tells server C seed a b old new rose R how is memory same to
       told,
     ))
 
-pub memory_config : {X K : Type 0} (wire : X → ConnWire) (tells : Type 0) (server : Serving) (C : Config) (seed : List ℕ) (a b : Gear) (what : K → KeeperIs) (parted : K → Bool) (keepers left : List K) (old new : Option (List ℕ)) (rose : Type 0) (R : Record) (how : Status) →
+pub memory_config : {X K : Type 0} (wire : X → ConnWire) (tells : Type 0) (server : Serving) (C : Config) (seed : List ℕ) (a b : Gear) (what : K → KeeperIs) (parted : K → Bool) (keepers left : List K) (old new : Option (List ℕ)) (rose : Bool → Type 0) (R : Record) (how : Status) →
     server.store ≡ None → list_any parted left ≡ false → ServesOver wire server C seed a b what parted keepers left old new rose R how → ServesConfig wire tells server C seed a b old new rose R how
 memory_config wire tells server C seed a b what parted keepers left old new rose R status.NetFault memory none h = (memory_port server C a b memory h.0, h.2)
 memory_config wire tells server C seed a b what parted keepers left old new rose R status.NoMemory memory none (inl h) = inl (memory_never server C a b keepers left memory h.0, h.1)
@@ -175,7 +175,7 @@ memory_config wire tells server C seed a b what parted keepers left old new rose
 memory_config wire tells server C seed a b what parted keepers left old new rose R how memory none h = memory_site wire tells server C seed a b (map what left) (list_any parted left) old new rose R how memory none h
 
 -- the same of the site that was shared
-pub memory_at : {X K : Type 0} (wire : X → ConnWire) (tells : Type 0) (server : Serving) (C D : Config) (seed : List ℕ) (a b : Gear) (what : K → KeeperIs) (parted : K → Bool) (keepers left : List K) (old new : Option (List ℕ)) (rose : Type 0) (R : Record) (how : Status) →
+pub memory_at : {X K : Type 0} (wire : X → ConnWire) (tells : Type 0) (server : Serving) (C D : Config) (seed : List ℕ) (a b : Gear) (what : K → KeeperIs) (parted : K → Bool) (keepers left : List K) (old new : Option (List ℕ)) (rose : Bool → Type 0) (R : Record) (how : Status) →
     D ≡ C → server.store ≡ None → list_any parted left ≡ false → ServesOver wire server D seed a b what parted keepers left old new rose R how → ServesConfig wire tells server C seed a b old new rose R how
 memory_at wire tells server C D seed a b what parted keepers left old new rose R how same memory none h =
     memory_config wire tells server C seed a b what parted keepers left old new rose R how memory none (subst (λ x. ServesOver wire server x seed a b what parted keepers left old new rose R how) same h)
@@ -197,7 +197,7 @@ pub record IsStored {K : Type 0} (server : Serving) (file : List ℕ) (C : Confi
 as_left : (m b e : Gear) → e ≡ record b { depot = e.depot } → b.depot ≡ m.depot → b ≡ record e { depot = m.depot }
 as_left m b e after kept = ap (λ (d : Depot). record b { depot = d }) kept ∙ ap (λ (x : Gear). record x { depot = m.depot }) (sym after)
 
-stored_served : {X K : Type 0} (wire : X → ConnWire) (tells : Type 0) (server : Serving) (file : List ℕ) (C D : Config) (seed : List ℕ) (a m b e : Gear) (what : K → KeeperIs) (parted : K → Bool) (beside : K → Beside) (keepers left : List K) (old new : Option (List ℕ)) (rose : Type 0) (R : Record)
+stored_served : {X K : Type 0} (wire : X → ConnWire) (tells : Type 0) (server : Serving) (file : List ℕ) (C D : Config) (seed : List ℕ) (a m b e : Gear) (what : K → KeeperIs) (parted : K → Bool) (beside : K → Beside) (keepers left : List K) (old new : Option (List ℕ)) (rose : Bool → Type 0) (R : Record)
     (how : Status) → SitesAreAlike D C → (tells → D ≡ C) → IsStored server file C a m b e what parted beside keepers left → ServesFrom wire server D seed m b (map what left) (list_any parted left) old new rose R how → ServesSite wire tells server C seed a e old new rose R how
 stored_served wire tells server file C D seed a m b e what parted beside keepers left old new rose R how alike same is h =
     let kept : b.depot ≡ m.depot = h.from.at.over.depot in
@@ -267,7 +267,7 @@ stored_never server file C a m b e what parted beside keepers left is (inr h) =
       depot = rw is.wanted (none ∙ kept ∙ is.opened);
     })
 
-pub stored_config : {X K : Type 0} (wire : X → ConnWire) (tells : Type 0) (server : Serving) (file : List ℕ) (C D : Config) (seed : List ℕ) (a m b e : Gear) (what : K → KeeperIs) (parted : K → Bool) (beside : K → Beside) (keepers left : List K) (old new : Option (List ℕ)) (rose : Type 0)
+pub stored_config : {X K : Type 0} (wire : X → ConnWire) (tells : Type 0) (server : Serving) (file : List ℕ) (C D : Config) (seed : List ℕ) (a m b e : Gear) (what : K → KeeperIs) (parted : K → Bool) (beside : K → Beside) (keepers left : List K) (old new : Option (List ℕ)) (rose : Bool → Type 0)
     (R : Record) (how : Status) → SitesAreAlike D C → (tells → D ≡ C) → IsStored server file C a m b e what parted beside keepers left → ServesOver wire server D seed m b what parted keepers left old new rose R how → ServesConfig wire tells server C seed a e old new rose R how
 stored_config wire tells server file C D seed a m b e what parted beside keepers left old new rose R status.NetFault alike same is h = (stored_port server file C a m b e what parted beside keepers left h.1 is h.0, h.2)
 stored_config wire tells server file C D seed a m b e what parted beside keepers left old new rose R status.NoMemory alike same is (inl h) = inl (stored_never server file C a m b e what parted beside keepers left is h.0, h.1)
@@ -278,7 +278,7 @@ stored_config wire tells server file C D seed a m b e what parted beside keepers
     stored_served wire tells server file C D seed a m b e what parted beside keepers left old new rose R how alike same is h
 
 -- a store could not be made
-pub missed_config : {X : Type 0} (wire : X → ConnWire) (tells : Type 0) (server : Serving) (file : List ℕ) (C : Config) (seed : List ℕ) (a m b : Gear) (old new : Option (List ℕ)) (rose : Type 0) (R : Record) (how : Status) → how ≡ status.StoreFault →
+pub missed_config : {X : Type 0} (wire : X → ConnWire) (tells : Type 0) (server : Serving) (file : List ℕ) (C : Config) (seed : List ℕ) (a m b : Gear) (old new : Option (List ℕ)) (rose : Bool → Type 0) (R : Record) (how : Status) → how ≡ status.StoreFault →
     server.store ≡ Some file → m ≡ record a { depot = m.depot } → b ≡ m → HasAsked file C.proxies a.depot m.depot → HasFailed a.depot m.depot → Tells old new store_fault_line rose R → ServesConfig wire tells server C seed a b old new rose R how
 missed_config wire tells server file C seed a m b old new rose R how is wanted gear same asked failed told =
     subst (λ s. ServesConfig wire tells server C seed a b old new rose R s) (sym is) (
@@ -292,7 +292,7 @@ missed_config wire tells server file C seed a m b old new rose R how is wanted g
     )
 
 -- memory was refused as the stores were made
-pub stored_starved : {X : Type 0} (wire : X → ConnWire) (tells : Type 0) (server : Serving) (file : List ℕ) (C : Config) (seed : List ℕ) (a m b : Gear) (old new : Option (List ℕ)) (rose : Type 0) (R : Record) (how : Status) → how ≡ status.NoMemory →
+pub stored_starved : {X : Type 0} (wire : X → ConnWire) (tells : Type 0) (server : Serving) (file : List ℕ) (C : Config) (seed : List ℕ) (a m b : Gear) (old new : Option (List ℕ)) (rose : Bool → Type 0) (R : Record) (how : Status) → how ≡ status.NoMemory →
     server.store ≡ Some file → m ≡ record a { depot = m.depot } → b ≡ m → HasAsked file C.proxies a.depot m.depot → (m.depot).faults ≡ (a.depot).faults → Tells old new no_memory_line rose R → ServesConfig wire tells server C seed a b old new rose R how
 stored_starved wire tells server file C seed a m b old new rose R how is wanted gear same asked spared told =
     subst (λ s. ServesConfig wire tells server C seed a b old new rose R s) (sym is) (inl (

@@ -4,7 +4,6 @@ use Rattle.std.specs.Prelude.{Ok}
 use Rattle.std.specs.List.{list_all}
 use Rattle.okws_base.specs.Names.{is_name}
 use Rattle.okws_outer.specs.Printing.{Printed, Counted, Printer, PrintsOn}
-use Rattle.okws_outer.specs.Streams.{Rose}
 use Rattle.okws_outer.proofs.Printed.{printed_first, counted_first}
 use Rattle.okws_plan.specs.Lines.{service_names}
 use Rattle.okws_plan.specs.declared.configuration.Config.{Config}
@@ -19,6 +18,7 @@ use Rattle.play_script.specs.Summary.{TalliesCount, frames_in, kinds_of, rules_o
 use Rattle.play_script.specs.Tally.{tally_of}
 use Rattle.play_script.specs.declared.site.TheConstants.{SITE}
 use Rattle.okws_play.specs.Run.{Run}
+use Rattle.okws_server.specs.Ending.{RoseWhere}
 use Rattle.okws_server.specs.Drill.{Drilled, IsDrilled, Leads}
 use Rattle.okws_server.specs.Headline.{IsMonitored}
 use Rattle.okws_server.specs.Ran.{out_status, zero_seed}
@@ -64,11 +64,11 @@ drilled_by laws law C number events first now start tally text R means site e no
 
 -- how a drill ends whose summary was printed
 ends_at : (number events : ℕ) (R : Record) (text : List ℕ) (old new : Option (List ℕ)) (f g : ℕ) (stopped : Bool) → IsDrilled number events R text →
-    Printed old new text stopped → Counted f g stopped → Drilled number events old new (Rose f g) R (out_status stopped)
+    Printed old new text stopped → Counted f g stopped → Drilled number events old new (RoseWhere f g) R (out_status stopped)
 ends_at number events R text old new f g true h p n = (n.rose refl, text, h, p.part)
-ends_at number events R text old new f g false h p n = (text, h, p.whole refl)
+ends_at number events R text old new f g false h p n = (text, h, p.whole refl, n.still refl)
 
 pub drill_ends : (number events : ℕ) (R : Record) (text : List ℕ) (old : Option (List ℕ)) (f : ℕ) (c : Printer) → IsDrilled number events R text →
-    PrintsOn (at_start old f) c text → Drilled number events old c.given (Rose f c.faults) R (out_status c.stopped)
+    PrintsOn (at_start old f) c text → Drilled number events old c.given (RoseWhere f c.faults) R (out_status c.stopped)
 drill_ends number events R text old f c h on =
     ends_at number events R text old c.given f c.faults c.stopped h (printed_first old c.given text c.stopped on.prints) (counted_first f c.faults c.stopped on.counts)

@@ -1,5 +1,5 @@
 -- What a drill answers, and what it gives to out.
-use Rattle.std.specs.Prelude.{◌≡◌, ℕ, ◌++◌, ◌∷◌, List, Ok, None, reverse}
+use Rattle.std.specs.Prelude.{◌≡◌, ℕ, ◌++◌, ◌∷◌, List, Ok, None, reverse, Bool, true, false}
 use Rattle.std.specs.Io.KnownBytes.{Appends}
 use Rattle.std.specs.declared.option.Option.{Option}
 use Rattle.okws_base.specs.Runs.{Runs}
@@ -44,9 +44,9 @@ pub record IsDrilled (number events : ℕ) (R : Record) (text : List ℕ) : Type
   pub monitored : IsMonitored config zero_seed (drill_script number events) R printed
   pub summed : text ≡ summary (frames_in monitored.told.lines)
 
--- What `drill` answers and gives, and the record that it leaves, the empty one where memory was refused; its script is never refused. `old` and `new` were given to out before and after, and `out_rose` says that its count of faults rose.
-abbrev pub Drilled : ℕ → ℕ → Option (List ℕ) → Option (List ℕ) → Type 0 → Record → Status → Type 0
-Drilled number events old new out_rose R status.Ok = (text : List ℕ) × IsDrilled number events R text × Appends old new text
-Drilled number events old new out_rose R status.OutFault = out_rose × (text : List ℕ) × IsDrilled number events R text × AppendsPrefix old new text
+-- What `drill` answers and gives, and the record that it leaves, the empty one where memory was refused; its script is never refused. `old` and `new` were given to out before and after, and `out_rose` says of its count of faults that it rose, or that it is as before.
+abbrev pub Drilled : ℕ → ℕ → Option (List ℕ) → Option (List ℕ) → (Bool → Type 0) → Record → Status → Type 0
+Drilled number events old new out_rose R status.Ok = (text : List ℕ) × IsDrilled number events R text × Appends old new text × out_rose false
+Drilled number events old new out_rose R status.OutFault = out_rose true × (text : List ℕ) × IsDrilled number events R text × AppendsPrefix old new text
 Drilled number events old new out_rose R status.NoMemory = IsEmptyRecord R × Told old new no_memory_line out_rose
 Drilled number events old new out_rose R _ = ⊥

@@ -1,5 +1,5 @@
 -- What a run answers, and what it gives to out.
-use Rattle.std.specs.Prelude.{◌≡◌, ◌⊎◌, ⊤, ℕ, ◌+◌, Bool, List, [], ◌∷◌, ◌++◌, Result, Ok, Err, Some, None, replicate, if◌then◌else◌}
+use Rattle.std.specs.Prelude.{◌≡◌, ◌⊎◌, ⊤, ℕ, ◌+◌, Bool, List, [], ◌∷◌, ◌++◌, Result, Ok, Err, Some, None, replicate, if◌then◌else◌, true, false}
 use Rattle.std.specs.declared.alloc.AllocError.{AllocError}
 use Rattle.std.specs.Io.KnownBytes.{Appends}
 use Rattle.std.specs.declared.option.Option.{Option}
@@ -48,12 +48,12 @@ abbrev pub IsRefusedBy : Option (List ℕ) → Refusal → Type 0
 IsRefusedBy told refusal = (text : List ℕ) × Tells told text × (meaning text ≡ Err refusal)
 
 -- The configuration is refused, and the last line says where.
-abbrev pub RefusesConfig : Option (List ℕ) → Option (List ℕ) → Option (List ℕ) → Type 0 → Type 0
+abbrev pub RefusesConfig : Option (List ℕ) → Option (List ℕ) → Option (List ℕ) → (Bool → Type 0) → Type 0
 RefusesConfig told old new out_rose =
     (refusal : Refusal) × IsRefusedBy told refusal × Told old new (config_refused refusal.line (rule_number refusal.rule)) out_rose
 
 -- What telling where a configuration is refused answers and gives.
-abbrev pub TellsRefusal : Refusal → Option (List ℕ) → Option (List ℕ) → Type 0 → Status → Type 0
+abbrev pub TellsRefusal : Refusal → Option (List ℕ) → Option (List ℕ) → (Bool → Type 0) → Status → Type 0
 TellsRefusal refusal old new out_rose status.ConfigRefused = Told old new (config_refused refusal.line (rule_number refusal.rule)) out_rose
 TellsRefusal refusal old new out_rose status.NoMemory = Told old new no_memory_line out_rose
 TellsRefusal refusal old new out_rose _ = ⊥
@@ -88,18 +88,18 @@ IsPrepared before after config script (Err stop.NoMemory) = ReadsInOrder before 
 -- ---- check
 
 -- What listing a configuration's queries answers and gives.
-abbrev pub Lists : Config → Option (List ℕ) → Option (List ℕ) → Type 0 → Status → Type 0
-Lists C old new out_rose status.Ok = Appends old new (listing C)
-Lists C old new out_rose status.OutFault = out_rose × AppendsPrefix old new (listing C)
+abbrev pub Lists : Config → Option (List ℕ) → Option (List ℕ) → (Bool → Type 0) → Status → Type 0
+Lists C old new out_rose status.Ok = Appends old new (listing C) × out_rose false
+Lists C old new out_rose status.OutFault = out_rose true × AppendsPrefix old new (listing C)
 Lists C old new out_rose status.NoMemory = BreaksOff old new (listing C) out_rose
 Lists C old new out_rose _ = ⊥
 
 -- A configuration that the file gives is listed.
-abbrev pub ListsFile : Shelf → Shelf → List ℕ → Option (List ℕ) → Option (List ℕ) → Type 0 → Status → Type 0
+abbrev pub ListsFile : Shelf → Shelf → List ℕ → Option (List ℕ) → Option (List ℕ) → (Bool → Type 0) → Status → Type 0
 ListsFile before after path old new out_rose how = (C : Config) × GivesConfig (before.held path) C × Reads before after (path ∷ []) ⊥ × Lists C old new out_rose how
 
--- What `check` answers and gives: `old` and `new` were given to out before and after, and `out_rose` says that its count of faults rose.
-abbrev pub Checked : Shelf → Shelf → List ℕ → Option (List ℕ) → Option (List ℕ) → Type 0 → Status → Type 0
+-- What `check` answers and gives: `old` and `new` were given to out before and after, and `out_rose` says of its count of faults that it rose, or that it is as before.
+abbrev pub Checked : Shelf → Shelf → List ℕ → Option (List ℕ) → Option (List ℕ) → (Bool → Type 0) → Status → Type 0
 Checked before after path old new out_rose status.Ok = ListsFile before after path old new out_rose status.Ok
 Checked before after path old new out_rose status.OutFault = ListsFile before after path old new out_rose status.OutFault
 Checked before after path old new out_rose status.ConfigRefused = Reads before after (path ∷ []) ⊥ × RefusesConfig (before.held path) old new out_rose
@@ -123,21 +123,21 @@ Ends (Some found) before after how =
     ⊎ ((how ≡ status.NoMemory) × PrintsOn before after no_memory_line)
 
 -- What playing a script of this text answers and gives, and the record that it leaves: the empty one where memory was refused, whatever was played.
-abbrev pub Plays : Config → List ℕ → Option (List ℕ) → Option (List ℕ) → Type 0 → Record → Status → Type 0
-Plays C text old new out_rose R status.Ok = (printed : List ℕ) × IsWholeRun C zero_seed text R printed × Appends old new printed
-Plays C text old new out_rose R status.OutFault = out_rose × (printed : List ℕ) × IsWholeRun C zero_seed text R printed × AppendsPrefix old new printed
+abbrev pub Plays : Config → List ℕ → Option (List ℕ) → Option (List ℕ) → (Bool → Type 0) → Record → Status → Type 0
+Plays C text old new out_rose R status.Ok = (printed : List ℕ) × IsWholeRun C zero_seed text R printed × Appends old new printed × out_rose false
+Plays C text old new out_rose R status.OutFault = out_rose true × (printed : List ℕ) × IsWholeRun C zero_seed text R printed × AppendsPrefix old new printed
 Plays C text old new out_rose R status.ScriptRefused =
     (printed : List ℕ) × (line rule : ℕ) × IsRefused C zero_seed text R printed line rule × Told old new (printed ++ script_refused line rule) out_rose
 Plays C text old new out_rose R status.NoMemory = IsEmptyRecord R × (due : List ℕ) × IsDueOf C zero_seed text due × BreaksOff old new due out_rose
 Plays C text old new out_rose R _ = ⊥
 
 -- A script that its file gives is played by the configuration that its file gives.
-abbrev pub PlaysFiles : Shelf → Shelf → List ℕ → List ℕ → Option (List ℕ) → Option (List ℕ) → Type 0 → Record → Status → Type 0
+abbrev pub PlaysFiles : Shelf → Shelf → List ℕ → List ℕ → Option (List ℕ) → Option (List ℕ) → (Bool → Type 0) → Record → Status → Type 0
 PlaysFiles before after config script old new out_rose R how =
     (C : Config) × GivesConfig (before.held config) C × (text : List ℕ) × Tells (before.held script) text × Reads before after (script ∷ config ∷ []) ⊥ × Plays C text old new out_rose R how
 
--- What `play` answers and gives, and the record that it leaves: `old` and `new` were given to out before and after, and `out_rose` says that its count of faults rose.
-abbrev pub Played : Shelf → Shelf → List ℕ → List ℕ → Option (List ℕ) → Option (List ℕ) → Type 0 → Record → Status → Type 0
+-- What `play` answers and gives, and the record that it leaves: `old` and `new` were given to out before and after, and `out_rose` says of its count of faults that it rose, or that it is as before.
+abbrev pub Played : Shelf → Shelf → List ℕ → List ℕ → Option (List ℕ) → Option (List ℕ) → (Bool → Type 0) → Record → Status → Type 0
 Played before after config script old new out_rose R status.Ok = PlaysFiles before after config script old new out_rose R status.Ok
 Played before after config script old new out_rose R status.OutFault = PlaysFiles before after config script old new out_rose R status.OutFault
 Played before after config script old new out_rose R status.ScriptRefused = PlaysFiles before after config script old new out_rose R status.ScriptRefused

@@ -27,7 +27,7 @@ use Rattle.okws_serve.specs.Runs.{Runs, StartIs}
 use Rattle.okws_serve.specs.declared.outfit.Ran.{Ran}
 use Rattle.okws_serve.specs.declared.outfit.TheConstants.{MOST_BEGUN}
 use Rattle.okws_server.specs.Counting.{counts_text}
-use Rattle.okws_server.specs.Ending.{Told, no_memory_line, read_fault_line}
+use Rattle.okws_server.specs.Ending.{Told, no_memory_line, read_fault_line, RoseWhere}
 use Rattle.okws_server.specs.Headline.{IsEmptyRecord}
 use Rattle.okws_server.specs.Ran.{GivesConfig, RefusesConfig}
 use Rattle.okws_server.specs.Views.{Gear, View}
@@ -218,11 +218,11 @@ pub record HasServed {X : Type 0} (wire : X → ConnWire) (tells : Type 0) (serv
   pub closed : Closes server.store keepers lost depot b.depot
 
 -- How a run ends, and what is printed at its end: its counts, and a last line where the log or, else, the console failed. Where memory was refused to the run, or a store has parted from its keeper, that alone.
-abbrev pub EndsAs : Ran → Bool → Bool → Option (List ℕ) → Option (List ℕ) → Type 0 → Status → Type 0
+abbrev pub EndsAs : Ran → Bool → Bool → Option (List ℕ) → Option (List ℕ) → (Bool → Type 0) → Status → Type 0
 EndsAs ran missed lost old new rose status.Ok =
-    ((ran.starved || lost) ≡ false) × ((missed || ran.log_failed) ≡ false) × (ran.console_failed ≡ false) × Appends old new (counts_text ran.counts)
+    ((ran.starved || lost) ≡ false) × ((missed || ran.log_failed) ≡ false) × (ran.console_failed ≡ false) × Appends old new (counts_text ran.counts) × rose false
 EndsAs ran missed lost old new rose status.OutFault =
-    ((ran.starved || lost) ≡ false) × ((missed || ran.log_failed) ≡ false) × (ran.console_failed ≡ false) × rose × AppendsPrefix old new (counts_text ran.counts)
+    ((ran.starved || lost) ≡ false) × ((missed || ran.log_failed) ≡ false) × (ran.console_failed ≡ false) × rose true × AppendsPrefix old new (counts_text ran.counts)
 EndsAs ran missed lost old new rose status.LogFault =
     ((ran.starved || lost) ≡ false) × ((missed || ran.log_failed) ≡ true) × Told old new (counts_text ran.counts ++ log_fault_line) rose
 EndsAs ran missed lost old new rose status.ConsoleFault =
@@ -231,7 +231,7 @@ EndsAs ran missed lost old new rose status.NoMemory = ((ran.starved || lost) ≡
 EndsAs ran missed lost old new rose _ = ⊥
 
 -- A run that never began did nothing but to tell this line.
-pub record Tells (old new : Option (List ℕ)) (line : List ℕ) (rose : Type 0) (R : Record) : Type 0 where
+pub record Tells (old new : Option (List ℕ)) (line : List ℕ) (rose : Bool → Type 0) (R : Record) : Type 0 where
   pub empty : IsEmptyRecord R
   pub told : Told old new line rose
 
@@ -256,7 +256,7 @@ pub record MissesStore (server : Serving) (C : Config) (a b : Gear) : Type 0 whe
   pub failed : HasFailed a.depot b.depot
 
 -- A site whose stores are open was served, and left these keepers; `lost` says whether one of them has parted from its store: the record is the run's, which ended so.
-pub record ServesFrom {X : Type 0} (wire : X → ConnWire) (server : Serving) (C : Config) (seed : List ℕ) (a b : Gear) (keepers : List KeeperIs) (lost : Bool) (old new : Option (List ℕ)) (rose : Type 0) (R : Record) (how : Status) : Type 0 where
+pub record ServesFrom {X : Type 0} (wire : X → ConnWire) (server : Serving) (C : Config) (seed : List ℕ) (a b : Gear) (keepers : List KeeperIs) (lost : Bool) (old new : Option (List ℕ)) (rose : Bool → Type 0) (R : Record) (how : Status) : Type 0 where
   pub ran : Ran
   pub missed : Bool
   pub from : RanFrom wire server C seed a b keepers ran missed
@@ -264,7 +264,7 @@ pub record ServesFrom {X : Type 0} (wire : X → ConnWire) (server : Serving) (C
   pub ends : EndsAs ran missed lost old new rose how
 
 -- A site was served: the record is the run's, which ended so.
-pub record ServesSite {X : Type 0} (wire : X → ConnWire) (tells : Type 0) (server : Serving) (C : Config) (seed : List ℕ) (a b : Gear) (old new : Option (List ℕ)) (rose : Type 0) (R : Record) (how : Status) : Type 0 where
+pub record ServesSite {X : Type 0} (wire : X → ConnWire) (tells : Type 0) (server : Serving) (C : Config) (seed : List ℕ) (a b : Gear) (old new : Option (List ℕ)) (rose : Bool → Type 0) (R : Record) (how : Status) : Type 0 where
   pub ran : Ran
   pub missed : Bool
   pub lost : Bool
@@ -273,20 +273,20 @@ pub record ServesSite {X : Type 0} (wire : X → ConnWire) (tells : Type 0) (ser
   pub ends : EndsAs ran missed lost old new rose how
 
 -- The same over doors that are open, which left these keepers, of each of which it is told what it is and whether it has parted from its store; unless memory was refused before the run began, where none was left.
-abbrev pub ServesOpen : {X K : Type 0} → (X → ConnWire) → Serving → Config → List ℕ → Gear → Gear → (K → KeeperIs) → (K → Bool) → List K → Option (List ℕ) → Option (List ℕ) → Type 0 → Record → Status → Type 0
+abbrev pub ServesOpen : {X K : Type 0} → (X → ConnWire) → Serving → Config → List ℕ → Gear → Gear → (K → KeeperIs) → (K → Bool) → List K → Option (List ℕ) → Option (List ℕ) → (Bool → Type 0) → Record → Status → Type 0
 ServesOpen wire server C seed a b what parted left old new rose R how =
     ((how ≡ status.NoMemory) × IsUntouched server a b × (left ≡ []) × Tells old new no_memory_line rose R)
     ⊎ ((ran : Ran) × (missed : Bool) × RanAt wire server C seed a b (map what left) ran missed × (R ≡ ran.record) × EndsAs ran missed (list_any parted left) old new rose how)
 
 -- What is done of a site over these keepers of its rows, of each of which it is told what it is and whether it has parted from its store, and which of them are left: its doors could not be opened; or memory was refused before the run began; or it was served.
-abbrev pub ServesOver : {X K : Type 0} → (X → ConnWire) → Serving → Config → List ℕ → Gear → Gear → (K → KeeperIs) → (K → Bool) → List K → List K → Option (List ℕ) → Option (List ℕ) → Type 0 → Record → Status → Type 0
+abbrev pub ServesOver : {X K : Type 0} → (X → ConnWire) → Serving → Config → List ℕ → Gear → Gear → (K → KeeperIs) → (K → Bool) → List K → List K → Option (List ℕ) → Option (List ℕ) → (Bool → Type 0) → Record → Status → Type 0
 ServesOver wire server C seed a b what parted keepers left old new rose R status.NetFault = MissesDoors server a b × (left ≡ keepers) × Tells old new net_fault_line rose R
 ServesOver wire server C seed a b what parted keepers left old new rose R status.NoMemory =
     (NeverRan server a b keepers left × Tells old new no_memory_line rose R) ⊎ ServesFrom wire server C seed a b (map what left) (list_any parted left) old new rose R status.NoMemory
 ServesOver wire server C seed a b what parted keepers left old new rose R how = ServesFrom wire server C seed a b (map what left) (list_any parted left) old new rose R how
 
 -- What is done of a site that was read: its stores or its doors could not be opened; or memory was refused before the run began; or it was served.
-abbrev pub ServesConfig : {X : Type 0} → (X → ConnWire) → Type 0 → Serving → Config → List ℕ → Gear → Gear → Option (List ℕ) → Option (List ℕ) → Type 0 → Record → Status → Type 0
+abbrev pub ServesConfig : {X : Type 0} → (X → ConnWire) → Type 0 → Serving → Config → List ℕ → Gear → Gear → Option (List ℕ) → Option (List ℕ) → (Bool → Type 0) → Record → Status → Type 0
 ServesConfig wire tells server C seed a b old new rose R status.StoreFault = MissesStore server C a b × Tells old new store_fault_line rose R
 ServesConfig wire tells server C seed a b old new rose R status.NetFault = MissesPort server C a b × Tells old new net_fault_line rose R
 ServesConfig wire tells server C seed a b old new rose R status.NoMemory =
@@ -300,7 +300,7 @@ pub record ServesFile {X : Type 0} (wire : X → ConnWire) (tells : Type 0) (ser
   pub config : Config
   pub gives : GivesConfig ((a.shelf).held server.config) config
   pub reads : Reads a.shelf b.shelf (server.config ∷ []) ⊥
-  pub serves : ServesConfig wire tells server config a.seed a.gear b.gear a.given b.given (Rose a.faults b.faults) R how
+  pub serves : ServesConfig wire tells server config a.seed a.gear b.gear a.given b.given (RoseWhere a.faults b.faults) R how
 
 -- A file of the record is asked for.
 abbrev pub WantsAudit : Serving → Type 0
@@ -309,12 +309,12 @@ WantsAudit server = is_some server.audit ≡ true
 -- What `serve` answers, and what it leaves. A file of the record is asked for in vain, which is said. Memory may be refused before the configuration is known.
 abbrev pub Served : {X : Type 0} → (X → ConnWire) → Type 0 → Serving → View → View → Record → Status → Type 0
 Served wire tells server a b R status.Usage =
-    WantsAudit server × (b.shelf ≡ a.shelf) × (b.gear ≡ a.gear) × Tells a.given b.given NOT_YET.now (Rose a.faults b.faults) R
-Served wire tells server a b R status.ReadFault = Reads a.shelf b.shelf (server.config ∷ []) (⊤) × (b.gear ≡ a.gear) × Tells a.given b.given read_fault_line (Rose a.faults b.faults) R
+    WantsAudit server × (b.shelf ≡ a.shelf) × (b.gear ≡ a.gear) × Tells a.given b.given NOT_YET.now (RoseWhere a.faults b.faults) R
+Served wire tells server a b R status.ReadFault = Reads a.shelf b.shelf (server.config ∷ []) (⊤) × (b.gear ≡ a.gear) × Tells a.given b.given read_fault_line (RoseWhere a.faults b.faults) R
 Served wire tells server a b R status.ConfigRefused =
-    IsEmptyRecord R × Reads a.shelf b.shelf (server.config ∷ []) ⊥ × (b.gear ≡ a.gear) × RefusesConfig ((a.shelf).held server.config) a.given b.given (Rose a.faults b.faults)
+    IsEmptyRecord R × Reads a.shelf b.shelf (server.config ∷ []) ⊥ × (b.gear ≡ a.gear) × RefusesConfig ((a.shelf).held server.config) a.given b.given (RoseWhere a.faults b.faults)
 Served wire tells server a b R status.NoMemory =
-    (Reads a.shelf b.shelf (server.config ∷ []) ⊥ × (b.gear ≡ a.gear) × Tells a.given b.given no_memory_line (Rose a.faults b.faults) R) ⊎ ServesFile wire tells server a b R status.NoMemory
+    (Reads a.shelf b.shelf (server.config ∷ []) ⊥ × (b.gear ≡ a.gear) × Tells a.given b.given no_memory_line (RoseWhere a.faults b.faults) R) ⊎ ServesFile wire tells server a b R status.NoMemory
 Served wire tells server a b R status.Ok = ServesFile wire tells server a b R status.Ok
 Served wire tells server a b R status.StoreFault = ServesFile wire tells server a b R status.StoreFault
 Served wire tells server a b R status.NetFault = ServesFile wire tells server a b R status.NetFault

@@ -1,6 +1,6 @@
 //! The check of a configuration, which lists its queries.
 
-ghost use Rattle.okws_outer.specs.Streams.{Rose};
+ghost use Rattle.okws_server.specs.Ending.{RoseWhere};
 ghost use Rattle.okws_server.specs.Ran.{Checked, Lists};
 
 use crate::ending::{
@@ -17,7 +17,7 @@ use std::alloc::Global;
 
 /// Prints the listing of a configuration, and answers how the run ends.
 fn list<O: Sink>(alloc: Global, out: &mut O, config: &Config) -> Status
-    ensures { Lists config.now (O.given out.old) (O.given out.new) (Rose (O.faults out.old) (O.faults out.new)) result }
+    ensures { Lists config.now (O.given out.old) (O.given out.new) (RoseWhere (O.faults out.old) (O.faults out.new)) result }
 {
     let mut stopped = false;
     match print_listing(alloc, out, &mut stopped, config) {
@@ -31,7 +31,7 @@ fn list<O: Sink>(alloc: Global, out: &mut O, config: &Config) -> Status
 
 /// Reads a configuration, and prints a line for each of its queries, or where it is refused.
 pub fn check<F: Files, O: Sink>(alloc: Global, files: &mut F, out: &mut O, path: &str) -> Status
-    ensures { Checked (F.shelf files.old) (F.shelf files.new) path.now (O.given out.old) (O.given out.new) (Rose (O.faults out.old) (O.faults out.new)) result }
+    ensures { Checked (F.shelf files.old) (F.shelf files.new) path.now (O.given out.old) (O.given out.new) (RoseWhere (O.faults out.old) (O.faults out.new)) result }
 {
     match read_config(alloc, files, path) {
         Ok(config) => list(alloc, out, &config),

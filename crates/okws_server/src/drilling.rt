@@ -5,12 +5,12 @@ ghost use Rattle.okws_plan.specs.Sound.{IsSound};
 ghost use Rattle.config_reader.specs.Meaning.{meaning};
 ghost use Rattle.config_reader.specs.Ruled.{AreRuled};
 ghost use Rattle.okws_base.specs.Runs.{Each};
-ghost use Rattle.okws_outer.specs.Streams.{Rose};
 ghost use Rattle.monitor_model.specs.Stage.{first_stage};
 ghost use Rattle.play_script.specs.Script.{drill_script, token_seed};
 ghost use Rattle.play_script.specs.Site.{is_drilled_site};
 ghost use Rattle.play_script.specs.declared.site.TheConstants.{SITE};
 ghost use Rattle.play_script.specs.declared.words.TheConstants.{MOST_EVENTS};
+ghost use Rattle.okws_server.specs.Ending.{RoseWhere};
 ghost use Rattle.okws_server.specs.Drill.{CanBePlayed, Drilled, GoesThrough, IsDrilled, Leads};
 
 use crate::ending::{out_status, print_no_memory};
@@ -120,7 +120,7 @@ fn run_drill(alloc: Global, number: u64, events: u32) -> Result<Outcome, AllocEr
 /// Plays a drill of so many events, and prints the summary of what its run heard.
 pub fn drill<O: Sink>(alloc: Global, out: &mut O, number: u64, events: u32) -> (Status, Record)
     requires { events ≤ MOST_EVENTS }
-    ensures { Drilled number events (O.given out.old) (O.given out.new) (Rose (O.faults out.old) (O.faults out.new)) result.1 result.0 }
+    ensures { Drilled number events (O.given out.old) (O.given out.new) (RoseWhere (O.faults out.old) (O.faults out.new)) result.1 result.0 }
 {
     match run_drill(alloc, number, events) {
         Ok(outcome) => {

@@ -4,8 +4,7 @@ ghost use Rattle.std.specs.Prelude.{◌≡◌, OnOk, OnErr, []};
 ghost use Rattle.okws_outer.specs.Printing.{PrintsOn, printer};
 ghost use Rattle.play_script.specs.Refusal.{script_refused};
 ghost use Rattle.play_script.specs.Rule.{script_rule_number};
-ghost use Rattle.okws_server.specs.Ending.{Told, read_fault_line, no_memory_line};
-ghost use Rattle.okws_outer.specs.Streams.{Rose};
+ghost use Rattle.okws_server.specs.Ending.{Told, read_fault_line, no_memory_line, RoseWhere};
 ghost use Rattle.okws_server.specs.Ran.{out_status, TellsRefusal};
 
 use crate::script::Broken;
@@ -29,7 +28,7 @@ pub fn out_status(stopped: bool) -> Status
 
 /// Prints the last line of a run of which nothing was printed.
 pub fn print_last<O: Sink>(out: &mut O, line: &[u8])
-    ensures { Told (O.given out.old) (O.given out.new) line.now (Rose (O.faults out.old) (O.faults out.new)) }
+    ensures { Told (O.given out.old) (O.given out.new) line.now (RoseWhere (O.faults out.old) (O.faults out.new)) }
 {
     let mut stopped = false;
     print(out, &mut stopped, line);
@@ -40,21 +39,21 @@ pub const NO_MEMORY: &[u8] = b"no memory\n";
 
 /// Prints that a file could not be read.
 pub fn print_read_fault<O: Sink>(out: &mut O)
-    ensures { Told (O.given out.old) (O.given out.new) read_fault_line (Rose (O.faults out.old) (O.faults out.new)) }
+    ensures { Told (O.given out.old) (O.given out.new) read_fault_line (RoseWhere (O.faults out.old) (O.faults out.new)) }
 {
     print_last(out, b"read fault\n");
 }
 
 /// Prints that memory was refused.
 pub fn print_no_memory<O: Sink>(out: &mut O)
-    ensures { Told (O.given out.old) (O.given out.new) no_memory_line (Rose (O.faults out.old) (O.faults out.new)) }
+    ensures { Told (O.given out.old) (O.given out.new) no_memory_line (RoseWhere (O.faults out.old) (O.faults out.new)) }
 {
     print_last(out, NO_MEMORY);
 }
 
 /// Prints where a configuration is refused, and answers how the run ends.
 pub fn print_config_refusal<O: Sink>(alloc: Global, out: &mut O, refusal: Refusal) -> Status
-    ensures { TellsRefusal refusal (O.given out.old) (O.given out.new) (Rose (O.faults out.old) (O.faults out.new)) result }
+    ensures { TellsRefusal refusal (O.given out.old) (O.given out.new) (RoseWhere (O.faults out.old) (O.faults out.new)) result }
 {
     match config_refused(alloc, refusal.line as usize, refusal.rule.number()) {
         Ok(line) => {

@@ -4,8 +4,8 @@ ghost use Rattle.std.specs.Prelude.{◌≡◌, ◌≤◌, length};
 ghost use Rattle.std.specs.Arc.{arc_value};
 ghost use Rattle.okws_plan.specs.Sound.{IsSound};
 ghost use Rattle.okws_outer.specs.Printing.{printer};
-ghost use Rattle.okws_outer.specs.Streams.{Rose};
 ghost use Rattle.config_reader.specs.Ruled.{AreRuled};
+ghost use Rattle.okws_server.specs.Ending.{RoseWhere};
 ghost use Rattle.okws_server.specs.Headline.{IsEmptyRecord};
 ghost use Rattle.okws_server.specs.Ran.{Plays, PlaysText, Ends};
 
@@ -143,7 +143,7 @@ fn record_with(alloc: Global, status: Status, left: Record) -> Record
 fn play_to_end<O: Sink>(alloc: Global, config: Config, text: &[u8], out: &mut O) -> (Status, Record)
     requires sound { IsSound config }
     requires rules { AreRuled config }
-    ensures { Plays config text.now (O.given out.old) (O.given out.new) (Rose (O.faults out.old) (O.faults out.new)) result.1 result.0 }
+    ensures { Plays config text.now (O.given out.old) (O.given out.new) (RoseWhere (O.faults out.old) (O.faults out.new)) result.1 result.0 }
 {
     let mut stopped = false;
     match play_text(alloc, config, text, out, &mut stopped) {
@@ -163,7 +163,7 @@ fn play_to_end<O: Sink>(alloc: Global, config: Config, text: &[u8], out: &mut O)
 pub fn play_prepared<O: Sink>(alloc: Global, prepared: Prepared, out: &mut O) -> (Status, Record)
     requires sound { IsSound prepared.config }
     requires rules { AreRuled prepared.config }
-    ensures { Plays prepared.config prepared.script.items (O.given out.old) (O.given out.new) (Rose (O.faults out.old) (O.faults out.new)) result.1 result.0 }
+    ensures { Plays prepared.config prepared.script.items (O.given out.old) (O.given out.new) (RoseWhere (O.faults out.old) (O.faults out.new)) result.1 result.0 }
 {
     let Prepared { config, script } = prepared;
     play_to_end(alloc, config, &script, out)

@@ -5,9 +5,9 @@ ghost use Rattle.std.specs.Arc.{arc_value};
 ghost use Rattle.std.specs.List.{list_any};
 ghost use Rattle.okws_plan.specs.Sound.{IsSound};
 ghost use Rattle.config_reader.specs.Ruled.{AreRuled};
-ghost use Rattle.okws_outer.specs.Streams.{Rose};
 ghost use Rattle.site_making.specs.Keepers.{are_steady, keeper_of};
 ghost use Rattle.store_keeper.specs.Sites.{AllTell};
+ghost use Rattle.okws_server.specs.Ending.{RoseWhere};
 ghost use Rattle.okws_server.specs.Served.{EndsAs, IsGround, IsServing, IsStock, ServesConfig, ServesOpen, ServesOver, ServesWords, Tells, serving_of};
 ghost use Rattle.okws_server.specs.Views.{gear_of, view_of};
 
@@ -74,7 +74,7 @@ fn lacks_memory(ran: &Ran, lost: bool) -> bool
 // Prints the counts of a run, and the last line of one that ends with a fault, or no more than that memory was
 // refused; answers how it ends.
 fn print_end<O: Sink>(out: &mut O, ran: &Ran, missed: bool, lost: bool) -> Status
-    ensures { EndsAs ran.now missed lost (O.given out.old) (O.given out.new) (Rose (O.faults out.old) (O.faults out.new)) result }
+    ensures { EndsAs ran.now missed lost (O.given out.old) (O.given out.new) (RoseWhere (O.faults out.old) (O.faults out.new)) result }
 {
     let mut stopped = false;
     if lacks_memory(ran, lost) {
@@ -103,7 +103,7 @@ fn refused<O: Sink, E: Equipment>(
 ) -> Ended<E>
     ensures status { result.0 ≡ status }
     ensures things { result.2 ≡ things }
-    ensures tells { Tells (O.given out.old) (O.given out.new) line.now (Rose (O.faults out.old) (O.faults out.new)) result.1 }
+    ensures tells { Tells (O.given out.old) (O.given out.new) line.now (RoseWhere (O.faults out.old) (O.faults out.new)) result.1 }
 {
     print_last(out, line);
     (status, empty_record(alloc), things)
@@ -125,7 +125,7 @@ where
     K: Keeper + Send + Drop,
     K::Pin: Send,
     requires { IsGround (serving_of server.now) (arc_value ground.stock.site) (map (keeper_of K.tables K.told K.faults K.steady) ground.stock.keepers.items) (map E.Network.Door.entrance ground.doors.items) }
-    ensures { ServesOpen E.Network.Door.Conn.wire (serving_of server.now) (arc_value ground.stock.site) ground.seed (gear_of E.Network.net E.Children.family E.Console.wire E.Stores.depot E.Sinks.rack things) (gear_of E.Network.net E.Children.family E.Console.wire E.Stores.depot E.Sinks.rack result.0.2) (keeper_of K.tables K.told K.faults K.steady) K.parted result.1.items (O.given out.old) (O.given out.new) (Rose (O.faults out.old) (O.faults out.new)) result.0.1 result.0.0 }
+    ensures { ServesOpen E.Network.Door.Conn.wire (serving_of server.now) (arc_value ground.stock.site) ground.seed (gear_of E.Network.net E.Children.family E.Console.wire E.Stores.depot E.Sinks.rack things) (gear_of E.Network.net E.Children.family E.Console.wire E.Stores.depot E.Sinks.rack result.0.2) (keeper_of K.tables K.told K.faults K.steady) K.parted result.1.items (O.given out.old) (O.given out.new) (RoseWhere (O.faults out.old) (O.faults out.new)) result.0.1 result.0.0 }
 {
     let (things, ran, missed, keepers) = serve_doors::<R, E, K>(rt, alloc, server, ground, things);
     let Some(ran) = ran else {
@@ -156,7 +156,7 @@ where
     requires stock { IsStock (arc_value stock.site) (map (keeper_of K.tables K.told K.faults K.steady) stock.keepers.items) }
     requires steady { (serving_of server.now).store ≡ None → are_steady (map (keeper_of K.tables K.told K.faults K.steady) stock.keepers.items) ≡ true }
     requires words { IsServing (serving_of server.now) }
-    ensures { ServesOver E.Network.Door.Conn.wire (serving_of server.now) (arc_value stock.site) seed (gear_of E.Network.net E.Children.family E.Console.wire E.Stores.depot E.Sinks.rack things) (gear_of E.Network.net E.Children.family E.Console.wire E.Stores.depot E.Sinks.rack result.0.2) (keeper_of K.tables K.told K.faults K.steady) K.parted stock.keepers.items result.1.items (O.given out.old) (O.given out.new) (Rose (O.faults out.old) (O.faults out.new)) result.0.1 result.0.0 }
+    ensures { ServesOver E.Network.Door.Conn.wire (serving_of server.now) (arc_value stock.site) seed (gear_of E.Network.net E.Children.family E.Console.wire E.Stores.depot E.Sinks.rack things) (gear_of E.Network.net E.Children.family E.Console.wire E.Stores.depot E.Sinks.rack result.0.2) (keeper_of K.tables K.told K.faults K.steady) K.parted stock.keepers.items result.1.items (O.given out.old) (O.given out.new) (RoseWhere (O.faults out.old) (O.faults out.new)) result.0.1 result.0.0 }
 {
     match things
         .network
@@ -196,7 +196,7 @@ where
     requires stock { IsStock (arc_value stock.site) (map (keeper_of ⟦<StoredKeeper<K> as Keeper>⟧.tables ⟦<StoredKeeper<K> as Keeper>⟧.told ⟦<StoredKeeper<K> as Keeper>⟧.faults ⟦<StoredKeeper<K> as Keeper>⟧.steady) stock.keepers.items) }
     requires stores { IsSome (serving_of server.now).store }
     requires words { IsServing (serving_of server.now) }
-    ensures { ServesOver E.Network.Door.Conn.wire (serving_of server.now) (arc_value stock.site) seed (gear_of E.Network.net E.Children.family E.Console.wire E.Stores.depot E.Sinks.rack things) (gear_of E.Network.net E.Children.family E.Console.wire E.Stores.depot E.Sinks.rack result.0.2) (keeper_of ⟦<StoredKeeper<K> as Keeper>⟧.tables ⟦<StoredKeeper<K> as Keeper>⟧.told ⟦<StoredKeeper<K> as Keeper>⟧.faults ⟦<StoredKeeper<K> as Keeper>⟧.steady) ⟦<StoredKeeper<K> as Keeper>⟧.parted stock.keepers.items result.1.items (O.given out.old) (O.given out.new) (Rose (O.faults out.old) (O.faults out.new)) result.0.1 result.0.0 }
+    ensures { ServesOver E.Network.Door.Conn.wire (serving_of server.now) (arc_value stock.site) seed (gear_of E.Network.net E.Children.family E.Console.wire E.Stores.depot E.Sinks.rack things) (gear_of E.Network.net E.Children.family E.Console.wire E.Stores.depot E.Sinks.rack result.0.2) (keeper_of ⟦<StoredKeeper<K> as Keeper>⟧.tables ⟦<StoredKeeper<K> as Keeper>⟧.told ⟦<StoredKeeper<K> as Keeper>⟧.faults ⟦<StoredKeeper<K> as Keeper>⟧.steady) ⟦<StoredKeeper<K> as Keeper>⟧.parted stock.keepers.items result.1.items (O.given out.old) (O.given out.new) (RoseWhere (O.faults out.old) (O.faults out.new)) result.0.1 result.0.0 }
 {
     serve_stock::<R, O, E, StoredKeeper<K>>(rt, alloc, server, stock, seed, out, things)
 }
@@ -219,7 +219,7 @@ where
     requires rules { AreRuled config }
     requires words { IsServing (serving_of server.now) }
     requires memory { (serving_of server.now).store ≡ None }
-    ensures { ServesConfig E.Network.Door.Conn.wire (AllTell E.Stores.Keeper.told) (serving_of server.now) config seed (gear_of E.Network.net E.Children.family E.Console.wire E.Stores.depot E.Sinks.rack things) (gear_of E.Network.net E.Children.family E.Console.wire E.Stores.depot E.Sinks.rack result.2) (O.given out.old) (O.given out.new) (Rose (O.faults out.old) (O.faults out.new)) result.1 result.0 }
+    ensures { ServesConfig E.Network.Door.Conn.wire (AllTell E.Stores.Keeper.told) (serving_of server.now) config seed (gear_of E.Network.net E.Children.family E.Console.wire E.Stores.depot E.Sinks.rack things) (gear_of E.Network.net E.Children.family E.Console.wire E.Stores.depot E.Sinks.rack result.2) (O.given out.old) (O.given out.new) (RoseWhere (O.faults out.old) (O.faults out.new)) result.1 result.0 }
 {
     let Ok(stock) = stock_of(alloc, config) else {
         return refused::<O, E>(alloc, out, NO_MEMORY, Status::NoMemory, things);
@@ -247,7 +247,7 @@ where
     requires rules { AreRuled config }
     requires words { IsServing (serving_of server.now) }
     requires stores { (serving_of server.now).store ≡ Some file.now }
-    ensures { ServesConfig E.Network.Door.Conn.wire (AllTell E.Stores.Keeper.told) (serving_of server.now) config seed (gear_of E.Network.net E.Children.family E.Console.wire E.Stores.depot E.Sinks.rack things) (gear_of E.Network.net E.Children.family E.Console.wire E.Stores.depot E.Sinks.rack result.2) (O.given out.old) (O.given out.new) (Rose (O.faults out.old) (O.faults out.new)) result.1 result.0 }
+    ensures { ServesConfig E.Network.Door.Conn.wire (AllTell E.Stores.Keeper.told) (serving_of server.now) config seed (gear_of E.Network.net E.Children.family E.Console.wire E.Stores.depot E.Sinks.rack things) (gear_of E.Network.net E.Children.family E.Console.wire E.Stores.depot E.Sinks.rack result.2) (O.given out.old) (O.given out.new) (RoseWhere (O.faults out.old) (O.faults out.new)) result.1 result.0 }
 {
     match stored_stock(alloc, &mut things.stores, file, config) {
         Ok(stock) => {
@@ -284,7 +284,7 @@ where
     requires sound { IsSound config }
     requires rules { AreRuled config }
     requires words { IsServing (serving_of server.now) }
-    ensures { ServesConfig E.Network.Door.Conn.wire (AllTell E.Stores.Keeper.told) (serving_of server.now) config seed (gear_of E.Network.net E.Children.family E.Console.wire E.Stores.depot E.Sinks.rack things) (gear_of E.Network.net E.Children.family E.Console.wire E.Stores.depot E.Sinks.rack result.2) (O.given out.old) (O.given out.new) (Rose (O.faults out.old) (O.faults out.new)) result.1 result.0 }
+    ensures { ServesConfig E.Network.Door.Conn.wire (AllTell E.Stores.Keeper.told) (serving_of server.now) config seed (gear_of E.Network.net E.Children.family E.Console.wire E.Stores.depot E.Sinks.rack things) (gear_of E.Network.net E.Children.family E.Console.wire E.Stores.depot E.Sinks.rack result.2) (O.given out.old) (O.given out.new) (RoseWhere (O.faults out.old) (O.faults out.new)) result.1 result.0 }
 {
     match server.store {
         None => serve_in_memory::<R, O, E>(rt, alloc, server, config, seed, out, things),

@@ -3,12 +3,11 @@
 ghost use Rattle.std.specs.Prelude.{◌≡◌, Some, None, IsSome, map, string_bytes};
 ghost use Rattle.command_line.specs.Asked.{asked};
 ghost use Rattle.command_line.specs.Meant.{meant};
-ghost use Rattle.okws_outer.specs.Streams.{Rose};
 ghost use Rattle.okws_outer.specs.declared.world.Outside.{Outside};
 ghost use Rattle.okws_world.specs.declared.equipment.Objects.{Objects};
 ghost use Rattle.store_keeper.specs.Sites.{AllTell};
 ghost use Rattle.okws_server.specs.Commands.{Does, Obeys, Says, TellsVersion, IsWithin};
-ghost use Rattle.okws_server.specs.Ending.{Told, no_memory_line, read_fault_line};
+ghost use Rattle.okws_server.specs.Ending.{Told, no_memory_line, read_fault_line, RoseWhere};
 ghost use Rattle.okws_server.specs.Ran.{Played};
 ghost use Rattle.okws_server.specs.Views.{gear_of, view_of};
 
@@ -44,7 +43,7 @@ fn play<F: Files, O: Sink>(
     script: &str,
 ) -> (Status, Record)
     ensures { Played (F.shelf files.old) (F.shelf files.new) config.now script.now
-        (O.given out.old) (O.given out.new) (Rose (O.faults out.old) (O.faults out.new)) result.1 result.0 }
+        (O.given out.old) (O.given out.new) (RoseWhere (O.faults out.old) (O.faults out.new)) result.1 result.0 }
 {
     match prepare(alloc, files, config, script) {
         Ok(prepared) => play_prepared(alloc, prepared, out),
@@ -66,7 +65,7 @@ fn play<F: Files, O: Sink>(
 /// Prints that memory was refused, as where it was refused before the words were there. Takes no memory.
 pub fn answer_no_memory<O: Sink>(out: &mut O) -> Status
     ensures status { result ≡ Status.NoMemory }
-    ensures told { Told (O.given out.old) (O.given out.new) no_memory_line (Rose (O.faults out.old) (O.faults out.new)) }
+    ensures told { Told (O.given out.old) (O.given out.new) no_memory_line (RoseWhere (O.faults out.old) (O.faults out.new)) }
 {
     print_no_memory(out);
     Status::NoMemory
@@ -76,7 +75,7 @@ pub fn answer_no_memory<O: Sink>(out: &mut O) -> Status
 /// memory.
 pub fn answer_read_fault<O: Sink>(out: &mut O) -> Status
     ensures status { result ≡ Status.ReadFault }
-    ensures told { Told (O.given out.old) (O.given out.new) read_fault_line (Rose (O.faults out.old) (O.faults out.new)) }
+    ensures told { Told (O.given out.old) (O.given out.new) read_fault_line (RoseWhere (O.faults out.old) (O.faults out.new)) }
 {
     print_read_fault(out);
     Status::ReadFault
@@ -84,7 +83,7 @@ pub fn answer_read_fault<O: Sink>(out: &mut O) -> Status
 
 /// Says of words that are no command how the program is called.
 pub fn answer_words<O: Sink>(alloc: Global, words: &[String], out: &mut O) -> Status
-    ensures { Says (O.given out.old) (O.given out.new) (Rose (O.faults out.old) (O.faults out.new)) result }
+    ensures { Says (O.given out.old) (O.given out.new) (RoseWhere (O.faults out.old) (O.faults out.new)) result }
 {
     match answer(alloc, words) {
         Ok(text) => {
@@ -97,7 +96,7 @@ pub fn answer_words<O: Sink>(alloc: Global, words: &[String], out: &mut O) -> St
 
 // Tells the program's version.
 fn tell_version<O: Sink>(out: &mut O) -> Status
-    ensures { TellsVersion (O.given out.old) (O.given out.new) (Rose (O.faults out.old) (O.faults out.new)) result }
+    ensures { TellsVersion (O.given out.old) (O.given out.new) (RoseWhere (O.faults out.old) (O.faults out.new)) result }
 {
     let mut stopped = false;
     print(out, &mut stopped, VERSION.as_bytes());

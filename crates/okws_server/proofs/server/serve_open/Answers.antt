@@ -3,9 +3,9 @@ use Rattle.std.specs.Prelude.{IfSome}
 use Rattle.std.specs.Arc.{arc_value}
 use Rattle.std.specs.List.{list_any}
 use Rattle.std.specs.declared.option.Option.{Option}
-use Rattle.okws_outer.specs.Streams.{Rose}
 use Rattle.site_making.specs.Keepers.{KeeperIs, keeper_of}
 use Rattle.okws_serve.specs.declared.outfit.Ran.{Ran}
+use Rattle.okws_server.specs.Ending.{RoseWhere}
 use Rattle.okws_server.specs.Served.{EndsAs, RanAt, serving_of}
 use Rattle.okws_server.specs.Views.{Gear, gear_of}
 use Rattle.okws_server.proofs.server.serve_open.Goals as goal
@@ -22,6 +22,6 @@ returns g c =
       c.serve_doors-things.result.2,
       subst (λ (o : Option Ran). IfSome o (λ ran. RanAt wire (serving_of c.args.server.now) C c.args.ground.seed before after left ran c.serve_doors-things.result.2)) c.in-Some.is c.serve_doors-things.ensures.ran,
       refl,
-      subst (λ (lost : Bool). EndsAs c.in-Some.ran c.serve_doors-things.result.2 lost (g.O.Sink.given c.args.out.now) (g.O.Sink.given c.print_end-status.new.out) (Rose (g.O.Sink.faults c.args.out.now) (g.O.Sink.faults c.print_end-status.new.out)) c.print_end-status.result)
+      subst (λ (lost : Bool). EndsAs c.in-Some.ran c.serve_doors-things.result.2 lost (g.O.Sink.given c.args.out.now) (g.O.Sink.given c.print_end-status.new.out) (RoseWhere (g.O.Sink.faults c.args.out.now) (g.O.Sink.faults c.print_end-status.new.out)) c.print_end-status.result)
           (c.has_lost.ensures ∙ ap (list_any g.K.Keeper.parted) c.deref.ensures.value) c.print_end-status.ensures,
     )

@@ -43,6 +43,10 @@ def write(path, text):
     with open(path, 'w') as f:
         f.write(text)
 
+def read(path):
+    with open(path) as f:
+        return f.read()
+
 def program(path, text):
     """A program of the shell."""
     write(path, '#!/bin/sh\n' + text)
@@ -202,21 +206,20 @@ def the_guestbook_shows_and_takes_entries():
         same(get(server.port), ANN_AND_BOB)
         same(post(server.port, 'id=3&who=cy&note=ho'), response('303 See Other', '', '/guest'))
         same(get(server.port), response('200 OK', '1 ann\n2 bob\n3 cy\n'))
+        wait_until(lambda: read('log') == 'guest 1 post 3\n')
         same(post(server.port, 'id=3&who=di&note='), response('409 Conflict', 'taken\n'))
         same(post(server.port, 'id=x&who=di&note='), response('400 Bad Request', 'bad form\n'))
         same(post(server.port, 'id=-4&who=di&note=', 'Expect: 100-continue\r\n'),
              b'HTTP/1.1 100 Continue\r\n\r\n' + response('303 See Other', '', '/guest'))
         same(server.ends(), (counts(6, 6, 2, 0, 2), 0))
-    with open('log') as f:
-        same(f.read(), 'guest 1 post 3\nguest 1 post -4\n')
+    same(read('log'), 'guest 1 post 3\nguest 1 post -4\n')
 
 def a_log_is_appended_to():
     write('kept', 'before\n')
     with Server(SITE % './svc_probe', 1, '--log', 'kept') as server:
         post(server.port, 'id=-7&who=cy&note=')
         same(server.ends(), (counts(1, 1, 2, 0, 1), 0))
-    with open('kept') as f:
-        same(f.read(), 'before\nguest 1 post -7\n')
+    same(read('kept'), 'before\nguest 1 post -7\n')
 
 def a_log_that_cannot_be_opened_is_a_fault_at_the_end():
     with Server(SITE % './svc_probe', 1, '--log', 'nowhere/log') as server:

@@ -36,11 +36,12 @@ Takes old (Err NoMemory) new = (since : List ℕ) × Consumes old new since
 Takes old (Err (Unlooked frame)) new = ⊥
 Takes old (Err Unsayable) new = ⊥
 
--- The next frame was taken, and nothing was put.
+-- The next frame was taken, and nothing was put; a call of the link failed just where that is told.
 pub record IsHeard (old : Wire) (result : Result ServerFrame Stop) (new : Wire) : Type 0 where
   pub takes : Takes old.left result new.left
   pub given : new.given ≡ old.given
   pub faults : Counts old.faults new.faults (result ≡ Err LinkFault)
+  pub still : (result ≡ Err LinkFault → ⊥) → new.faults ≡ old.faults
 
 -- What was put. All of the frame's one spelling, or after a fault a prefix of it, or nothing, where it has none.
 abbrev pub Puts : Option (List ℕ) → ServiceFrame → Result (Unit {0}) Stop → Option (List ℕ) → Type 0
@@ -52,11 +53,12 @@ Puts old frame (Err BadFrame) new = ⊥
 Puts old frame (Err (Unlooked other)) new = ⊥
 Puts old frame (Err NoMemory) new = ⊥
 
--- The frame was put, and nothing was taken.
+-- The frame was put, and nothing was taken; a call of the link failed just where that is told.
 pub record Says (old : Wire) (frame : ServiceFrame) (result : Result (Unit {0}) Stop) (new : Wire) : Type 0 where
   pub puts : Puts old.given frame result new.given
   pub left : new.left ≡ old.left
   pub faults : Counts old.faults new.faults (result ≡ Err LinkFault)
+  pub still : (result ≡ Err LinkFault → ⊥) → new.faults ≡ old.faults
 
 -- Where the frame was put the next one was taken, and else nothing.
 abbrev pub Answers : Wire → Result (Unit {0}) Stop → Result ServerFrame Stop → Wire → Type 0

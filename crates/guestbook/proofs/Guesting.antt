@@ -43,9 +43,9 @@ any_given : (mid new : Wire) (says : Option ServiceFrame) → SaysAny mid says n
 any_given mid new None said = appends_same mid.given mid.given new.given [] (Appends-nil mid.given) (ap (λ (w : Wire). w.given) said)
 any_given mid new (Some frame) said = subst (λ (t : List ℕ). Appends mid.given new.given t) (sym (append-nil (service_spelling frame))) said.puts.1
 
-any_faults : (mid new : Wire) (says : Option ServiceFrame) → SaysAny mid says new → mid.faults ≤ new.faults
-any_faults mid new None said = omega (arith, ap (λ (w : Wire). w.faults) said)
-any_faults mid new (Some frame) said = said.faults.later
+any_faults : (mid new : Wire) (says : Option ServiceFrame) → SaysAny mid says new → new.faults ≡ mid.faults
+any_faults mid new None said = ap (λ (w : Wire). w.faults) said
+any_faults mid new (Some frame) said = said.still (λ is. cc)
 
 prefix_of : (old new : Option (List ℕ)) (bs : List ℕ) → Appends old new bs → AppendsPrefix old new bs
 prefix_of old new bs p = record { taken = length bs; within = omega arith; given = subst (λ (t : List ℕ). Appends old new t) (sym (take-length bs)) p }
@@ -70,7 +70,7 @@ spoken_more said says = flat_map-append service_spelling said (option_to_list sa
 -- ---- rounds
 
 pub first_run : (wire : Wire) (book : Guestbook) → HasRun wire [] blank wire
-first_run wire book = record { is = refl; spelled = tt; took = Consumes-nil wire.left; gave = Appends-nil wire.given; faults = omega arith }
+first_run wire book = record { is = refl; spelled = tt; took = Consumes-nil wire.left; gave = Appends-nil wire.given; faults = refl }
 
 pub record Runs (start : Wire) (book : Guestbook) (new : Wire) : Type 0 where
   pub frames : List ServerFrame
@@ -91,7 +91,7 @@ next_run start mid new book later before round =
         took = consumes_same start.left round.mid.left new.left _ (heard_more start mid round.mid before.frames before.now round.frame run round.hears) (any_left round.mid new round.says round.said);
         gave = subst (λ (t : List ℕ). Appends start.given new.given t) (sym (spoken_more before.now.said round.says))
             (Appends-trans start.given round.mid.given new.given _ _ (appends_same start.given mid.given round.mid.given _ run.gave round.hears.given) (any_given round.mid new round.says round.said));
-        faults = omega (arith, run.faults, round.hears.faults.later, any_faults round.mid new round.says round.said);
+        faults = any_faults round.mid new round.says round.said ∙ (round.hears.still (λ is. cc) ∙ run.faults);
       };
       knows = record { book_is = refl; awaits_is = refl };
     }
@@ -115,6 +115,7 @@ stops start mid new book later Ended before round = record {
   stopped = (refl, round.takes.1);
   gave = appends_same start.given mid.given new.given _ before.run.gave round.given;
   faults = record { later = omega (arith, before.run.faults, round.faults.later); cause = λ is. absurd (cc) };
+  still = λ other. round.still (λ is. cc) ∙ before.run.faults;
 }
 stops start mid new book later BadFrame before round = record {
   frames = before.frames;
@@ -126,6 +127,7 @@ stops start mid new book later BadFrame before round = record {
   stopped = (round.takes.1, round.takes.3, round.takes.4);
   gave = appends_same start.given mid.given new.given _ before.run.gave round.given;
   faults = record { later = omega (arith, before.run.faults, round.faults.later); cause = λ is. absurd (cc) };
+  still = λ other. round.still (λ is. cc) ∙ before.run.faults;
 }
 stops start mid new book later (Unlooked frame) before round = record {
   frames = before.frames;
@@ -137,6 +139,7 @@ stops start mid new book later (Unlooked frame) before round = record {
   stopped = (round.0.takes.1, ap (λ b. option_map (goes_on before.now.said) (turn before.now.awaits b frame)) before.knows.book_is ∙ ap (λ a. option_map (goes_on before.now.said) (turn a (book_of book) frame)) before.knows.awaits_is ∙ ap (λ (t : Turn). option_map (goes_on before.now.said) t) round.1);
   gave = appends_same start.given mid.given new.given _ before.run.gave round.0.given;
   faults = record { later = omega (arith, before.run.faults, round.0.faults.later); cause = λ is. absurd (cc) };
+  still = λ other. round.0.still (λ is. cc) ∙ before.run.faults;
 }
 stops start mid new book later NoMemory before (inl heard) = record {
   frames = before.frames;
@@ -148,6 +151,7 @@ stops start mid new book later NoMemory before (inl heard) = record {
   stopped = tt;
   gave = prefix_of start.given new.given _ (appends_same start.given mid.given new.given _ before.run.gave heard.given);
   faults = record { later = omega (arith, before.run.faults, heard.faults.later); cause = λ is. absurd (cc) };
+  still = λ other. heard.still (λ is. cc) ∙ before.run.faults;
 }
 stops start mid new book later NoMemory before (inr (frame, heard)) = record {
   frames = before.frames;
@@ -159,6 +163,7 @@ stops start mid new book later NoMemory before (inr (frame, heard)) = record {
   stopped = tt;
   gave = prefix_of start.given new.given _ (appends_same start.given mid.given new.given _ before.run.gave heard.given);
   faults = record { later = omega (arith, before.run.faults, heard.faults.later); cause = λ is. absurd (cc) };
+  still = λ other. heard.still (λ is. cc) ∙ before.run.faults;
 }
 stops start mid new book later LinkFault before (inl heard) = record {
   frames = before.frames;
@@ -169,7 +174,8 @@ stops start mid new book later LinkFault before (inl heard) = record {
   took = Consumes-trans start.left mid.left new.left _ _ before.run.took heard.takes.1;
   stopped = tt;
   gave = prefix_of start.given new.given _ (appends_same start.given mid.given new.given _ before.run.gave heard.given);
-  faults = record { later = omega (arith, before.run.faults, heard.faults.later); cause = λ is. rose_later start.faults mid.faults new.faults before.run.faults (heard.faults.cause refl) };
+  faults = record { later = omega (arith, before.run.faults, heard.faults.later); cause = λ is. rose_later start.faults mid.faults new.faults (omega (arith, before.run.faults)) (heard.faults.cause refl) };
+  still = λ other. absurd (other refl);
 }
 stops start mid new book later LinkFault before (inr fails) =
     let run = before.run in
@@ -186,6 +192,7 @@ stops start mid new book later LinkFault before (inr fails) =
           (subst (λ (t : List ℕ). AppendsPrefix start.given new.given t) (sym (spoken_more before.now.said (Some fails.says) ∙ ap (λ (t : List ℕ). spoken before.now.said ++ t) (append-nil (service_spelling fails.says))))
           (prefix_after start.given fails.mid.given new.given _ _ (appends_same start.given mid.given fails.mid.given _ run.gave fails.hears.given) fails.said.puts.1));
       faults = record { later = omega (arith, rose, fails.said.faults.later); cause = λ is. rose_later start.faults fails.mid.faults new.faults rose (fails.said.faults.cause refl) };
+      still = λ other. absurd (other refl);
     }
 stops start mid new book later Unsayable before round = absurd round
 

@@ -71,13 +71,13 @@ Rounds book old (Err LinkFault) now new = IsHeard old (Err LinkFault) new ⊎ Fa
 Rounds book old (Err NoMemory) now new = IsHeard old (Err NoMemory) new ⊎ ((frame : ServerFrame) × IsHeard old (Ok frame) new)
 Rounds book old (Err Unsayable) now new = ⊥
 
--- So far these frames were heard, the newest first, and what is due where they are heard was said, frame by frame.
+-- So far these frames were heard, the newest first, and what is due where they are heard was said, frame by frame; no call of the link failed.
 pub record HasRun (old : Wire) (frames : List ServerFrame) (now : Told) (new : Wire) : Type 0 where
   pub is : told frames ≡ Some now
   pub spelled : Each HasSpelling frames
   pub took : Consumes old.left new.left (stream frames)
   pub gave : Appends old.given new.given (spoken now.said)
-  pub faults : old.faults ≤ new.faults
+  pub faults : new.faults ≡ old.faults
 
 -- Why it stopped, by the bytes that were taken behind the frames that were heard. Ended: none were taken, and none are left.
 -- BadFrame: whatever frame begins with them, they end inside it, and none are left. Unlooked: they are that frame, which isn't due.
@@ -98,7 +98,7 @@ IsGiven LinkFault old new due = AppendsPrefix old new due
 IsGiven NoMemory old new due = AppendsPrefix old new due
 IsGiven Unsayable old new due = ⊥
 
--- What the guestbook did to the link. It heard these frames, the newest first, all of them due, and it said what is due where they are heard.
+-- What the guestbook did to the link. It heard these frames, the newest first, all of them due, and it said what is due where they are heard. A call of the link failed just where it stopped for that.
 pub record Guests (old : Wire) (stop : Stop) (new : Wire) : Type 0 where
   pub frames : List ServerFrame
   pub now : Told
@@ -109,3 +109,4 @@ pub record Guests (old : Wire) (stop : Stop) (new : Wire) : Type 0 where
   pub stopped : IsStop stop since new.left now
   pub gave : IsGiven stop old.given new.given (spoken now.said)
   pub faults : Counts old.faults new.faults (stop ≡ LinkFault)
+  pub still : (stop ≡ LinkFault → ⊥) → new.faults ≡ old.faults

@@ -1,0 +1,4 @@
+pub mod Access
+pub mod Changes
+pub mod Exactness
+pub mod Sameness

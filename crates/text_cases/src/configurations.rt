@@ -72,9 +72,14 @@ pub fn config(out: &mut String, alloc: Global, file: &[u8]) -> Result<(), AllocE
     }
 }
 
-/// Lines below the five, the first of them line 6.
-pub fn below(out: &mut String, alloc: Global, lines: &[u8]) -> Result<(), AllocError> {
+/// The five lines with these below them.
+pub fn below_five(alloc: Global, lines: &[u8]) -> Result<Vec<u8>, AllocError> {
     let mut file = Vec::from_slice(alloc, FIVE)?;
     file.extend_from_slice(lines)?;
-    config(out, alloc, &file)
+    Ok(file)
+}
+
+/// Lines below the five, the first of them line 6.
+pub fn below(out: &mut String, alloc: Global, lines: &[u8]) -> Result<(), AllocError> {
+    config(out, alloc, &below_five(alloc, lines)?)
 }

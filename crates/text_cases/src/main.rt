@@ -4,6 +4,7 @@
 #![tactic(auto)]
 
 mod calls;
+mod changes;
 mod commands;
 mod configurations;
 mod frames;
@@ -51,6 +52,7 @@ fn tell_words(out: &mut String, alloc: Global, kind: &str, text: &str) -> Result
         "tells" => commands::tells(out, alloc, text),
         "ends" => commands::ends(out, alloc, text),
         "calls" => calls::calls(out, alloc, text),
+        "change" => changes::change(out, alloc, text),
         _ => tell(out, alloc, kind, &bytes_of(alloc, text)?),
     }
 }

@@ -5,3 +5,7 @@ pub mod Same
 pub mod Telling
 pub mod Given
 pub mod Plans
+pub mod Fits
+pub mod Keys
+pub mod Unsound
+pub mod Lawful

@@ -2,8 +2,9 @@
 use Rattle.std.proofs.Common.{◌≡◌, ◌∙◌, ℕ, suc, ◌+◌, ◌<◌, true, List, [], ◌∷◌, ◌++◌, zero, length, get_or, map, take, drop, refl, sym, ap, subst, arith, Option, Some, None}
 use Rattle.std.specs.Prelude.{Bool, ◌&&◌, ◌==◌, IfSome, IsSome, nat_le, slice_set}
 use Rattle.std.specs.List.{list_all}
-use Rattle.std.proofs.lemmas.Bool.{and_parts, false≢true}
+use Rattle.std.proofs.lemmas.Bool.{and_from, and_parts, false≢true}
 use Rattle.std.proofs.lemmas.List.{append_assoc, drop_more, get_or_at, length_push, map-append, set_at, take_more}
+use Rattle.std.proofs.lemmas.List.Folds.{list_all-append}
 use Rattle.okws_base.specs.declared.value.Value.{Value}
 use Rattle.okws_base.specs.declared.limit.TheConstants.{MOST_QUERIES, MOST_TABLES}
 use Rattle.okws_base.specs.Value.{same_bytes}
@@ -56,13 +57,14 @@ areof_next tables told done ks more k q is t d h = record {
       ∙ ap (λ (x : Option (List (List (List Value)))). map (λ (p : ProxyPlan). Some (rows_of_plan p)) done ++ x ∷ []) d ∙ sym (map-append (λ (p : ProxyPlan). Some (rows_of_plan p)) done (q ∷ []));
 }
 
--- The proxies below this number were opened: they are the site's but for their tables' first rows, and these are their keepers. Those behind them are as they were.
+-- The proxies below this number were opened: they are sound, and the site's but for their tables' first rows, and these are their keepers. Those behind them are as they were.
 pub record IsOpened {K : Type 0} (tables : K → List Table) (told : K → Option (List (List (List Value)))) (tells : Type 0) (old plans : List ProxyPlan) (at : ℕ) (ks : List K) : Type 0 where
   pub done : List ProxyPlan
   pub parts : plans ≡ done ++ drop at old
   pub many : length done ≡ at
   pub alike : map bare_plan done ≡ map bare_plan (take at old)
   pub same : tells → done ≡ take at old
+  pub sound : list_all is_sound_plan done ≡ true
   pub keepers : AreOf done (map tables ks) (map told ks)
 
 get_or_any : (xs : List ProxyPlan) (at : ℕ) (p q : ProxyPlan) → at < length xs → get_or xs at p ≡ get_or xs at q
@@ -81,9 +83,9 @@ pub opened_sound : {K : Type 0} (tables : K → List Table) (told : K → Option
 opened_sound tables told tells old plans at ks p all below there h = plan_sound old at p all below (plan_at old h.done plans at p h.parts h.many below there)
 
 pub opened_next : {K : Type 0} (tables : K → List Table) (told : K → Option (List (List (List Value)))) (tells : Type 0) (old plans next : List ProxyPlan) (at : ℕ) (p q : ProxyPlan) (ts : List Table) (ks more : List K) (k : K) → at < length old →
-    p ≡ get_or plans at p → q ≡ get_or plans at q → AreAlike ts p.tables → (tells → ts ≡ p.tables) → next ≡ slice_set plans at (record q { tables = ts }) → more ≡ ks ++ k ∷ [] → tables k ≡ ts → told k ≡ Some (map (λ (t : Table). t.first) ts) →
+    p ≡ get_or plans at p → q ≡ get_or plans at q → AreAlike ts p.tables → (tells → ts ≡ p.tables) → is_sound_plan (record p { tables = ts }) ≡ true → next ≡ slice_set plans at (record q { tables = ts }) → more ≡ ks ++ k ∷ [] → tables k ≡ ts → told k ≡ Some (map (λ (t : Table). t.first) ts) →
     IsOpened tables told tells old plans at ks → IsOpened tables told tells old next (at + 1) more
-opened_next tables told tells old plans next at p q ts ks more k below there again one equal write more_is t d h =
+opened_next tables told tells old plans next at p q ts ks more k below there again one equal sound write more_is t d h =
     let mine : p ≡ get_or old at p = plan_at old h.done plans at p h.parts h.many below there in
     let both : q ≡ p = plan_at old h.done plans at q h.parts h.many below again ∙ get_or_any old at q p below ∙ sym mine in
     let is : next ≡ slice_set plans at (record p { tables = ts }) = write ∙ ap (λ (x : ProxyPlan). slice_set plans at (record x { tables = ts })) both in
@@ -93,6 +95,7 @@ opened_next tables told tells old plans next at p q ts ks more k below there aga
       many = length_push h.done (record p { tables = ts }) ∙ ap (λ (n : ℕ). n + 1) h.many;
       alike = alike_next old h.done at p ts below mine one h.alike;
       same = same_next tells old h.done at p ts below mine equal h.same;
+      sound = list_all-append is_sound_plan h.done ((record p { tables = ts }) ∷ []) ∙ and_from (list_all is_sound_plan h.done) (is_sound_plan (record p { tables = ts }) && true) h.sound (and_from (is_sound_plan (record p { tables = ts })) true sound refl);
       keepers = areof_next tables told h.done ks more k (record p { tables = ts }) more_is t d h.keepers;
     }
 
@@ -134,11 +137,17 @@ pub opened_all : {K : Type 0} (tables : K → List Table) (told : K → Option (
     AreOf plans (map tables ks) (map told ks)
 opened_all tables told tells old plans at ks end h = subst (λ (xs : List ProxyPlan). AreOf xs (map tables ks) (map told ks)) (sym (all_done tables told tells old plans at ks end h)) h.keepers
 
+-- the plans of all are sound
+pub plans_sound : {K : Type 0} (tables : K → List Table) (told : K → Option (List (List (List Value)))) (tells : Type 0) (old plans : List ProxyPlan) (at : ℕ) (ks : List K) → at ≡ length old → IsOpened tables told tells old plans at ks → list_all is_sound_plan plans ≡ true
+plans_sound tables told tells old plans at ks end h = ap (list_all is_sound_plan) (all_done tables told tells old plans at ks end h) ∙ h.sound
+
+pub plans_alike : {K : Type 0} (tables : K → List Table) (told : K → Option (List (List (List Value)))) (tells : Type 0) (old plans : List ProxyPlan) (at : ℕ) (ks : List K) → at ≡ length old → IsOpened tables told tells old plans at ks → map bare_plan plans ≡ map bare_plan old
+plans_alike tables told tells old plans at ks end h = ap (map bare_plan) (all_done tables told tells old plans at ks end h) ∙ h.alike ∙ ap (map bare_plan) (ap (λ (n : ℕ). take n old) end ∙ take_all old)
+
 pub site_alike : {K : Type 0} (tables : K → List Table) (told : K → Option (List (List (List Value)))) (tells : Type 0) (C : Config) (plans : List ProxyPlan) (at : ℕ) (ks : List K) → at ≡ length C.proxies →
     IsOpened tables told tells C.proxies plans at ks → SitesAreAlike (record C { proxies = plans }) C
 site_alike tables told tells C plans at ks end h =
-    ap (λ (xs : List ProxyPlan). record C { proxies = xs })
-    (ap (map bare_plan) (all_done tables told tells C.proxies plans at ks end h) ∙ h.alike ∙ ap (map bare_plan) (ap (λ (n : ℕ). take n C.proxies) end ∙ take_all C.proxies))
+    ap (λ (xs : List ProxyPlan). record C { proxies = xs }) (plans_alike tables told tells C.proxies plans at ks end h)
 
 pub site_same : {K : Type 0} (tables : K → List Table) (told : K → Option (List (List (List Value)))) (tells : Type 0) (C : Config) (plans : List ProxyPlan) (at : ℕ) (ks : List K) → at ≡ length C.proxies →
     IsOpened tables told tells C.proxies plans at ks → tells → record C { proxies = plans } ≡ C

@@ -1,5 +1,5 @@
 -- What a run asks of its stores, and gives back to them.
-use Rattle.std.specs.Prelude.{◌≡◌, ◌≤◌, ◌⊎◌, ℕ, suc, Bool, false, List, [], ◌∷◌, ◌++◌, length, take}
+use Rattle.std.specs.Prelude.{◌≡◌, ◌≤◌, ◌⊎◌, ℕ, suc, Bool, false, List, [], ◌∷◌, ◌++◌, Some, length, slice_get, take}
 use Rattle.std.specs.declared.option.Option.{Option}
 use Rattle.okws_base.specs.declared.value.Value.{Value}
 use Rattle.okws_outer.specs.Depots.{Depot}
@@ -8,6 +8,7 @@ use Rattle.okws_outer.specs.declared.stores.KeeperEnd.{KeeperEnd}
 use Rattle.okws_outer.specs.declared.stores.KeeperStart.{KeeperStart}
 use Rattle.okws_plan.specs.declared.configuration.ProxyPlan.{ProxyPlan}
 use Rattle.store_keeper.specs.Alike.{HasRows}
+use Rattle.store_keeper.specs.Loading.{ReadsUnsound}
 use Rattle.store_keeper.specs.Sites.{HasFirstRows}
 
 -- The making of a proxy's keeper for a file.
@@ -87,6 +88,27 @@ pub record HasFaulty (a b : Depot) : Type 0 where
 -- A making failed and was counted; or a call of a keeper did, which was made and given back.
 abbrev pub HasFailed : Depot → Depot → Type 0
 HasFailed a b = Rose a.faults b.faults ⊎ HasFaulty a b
+
+-- The store of this proxy was given back last, which tells no rows, and what it answered is not sound.
+pub record HasUnsoundAt (p : ℕ) (plan : ProxyPlan) (a b : Depot) : Type 0 where
+  pub end : KeeperEnd
+  pub finished : b.finished ≡ end ∷ a.finished
+  pub proxy_is : end.proxy ≡ p
+  pub answers : ReadsUnsound plan.tables end.rows
+
+-- A store of one of these proxies was given back, which tells no rows, and what it answered is not sound.
+pub record HasUnsound (plans : List ProxyPlan) (a b : Depot) : Type 0 where
+  pub front : List KeeperEnd
+  pub end : KeeperEnd
+  pub rest : List KeeperEnd
+  pub finished : b.finished ≡ front ++ (end ∷ (rest ++ a.finished))
+  pub plan : ProxyPlan
+  pub whose : slice_get plans end.proxy ≡ Some plan
+  pub answers : ReadsUnsound plan.tables end.rows
+
+-- A store of one of these proxies is not to be had: a call failed, which was counted; or its rows are not sound.
+abbrev pub LacksStore : List ProxyPlan → Depot → Depot → Type 0
+LacksStore plans a b = HasFailed a b ⊎ HasUnsound plans a b
 
 -- Of the keepers of these proxies, those of the first ones were made for the file and their tables, and the store of each that was made was given back as it was made; and nothing else was asked.
 pub record HasAsked (file : List ℕ) (plans : List ProxyPlan) (a b : Depot) : Type 0 where

@@ -1,4 +1,5 @@
 pub mod Alike
+pub mod Keys
 pub mod Loading
 pub mod Parting
 pub mod Depots

@@ -1,8 +1,9 @@
 -- What a keeper is asked for all rows of its tables, and what it answers.
-use Rattle.std.specs.Prelude.{◌≡◌, ◌<◌, ℕ, suc, List, [], ◌∷◌, None, Some, Ok, length, slice_get}
+use Rattle.std.specs.Prelude.{◌≡◌, ◌<◌, ℕ, suc, false, List, [], ◌∷◌, None, Some, Ok, length, slice_get}
 use Rattle.std.specs.declared.option.Option.{Option}
 use Rattle.okws_base.specs.declared.value.Value.{Value}
 use Rattle.okws_plan.specs.Configuration.{numbered_from}
+use Rattle.okws_plan.specs.Sound.{has_sound_rows}
 use Rattle.okws_plan.specs.declared.configuration.Table.{Table}
 use Rattle.okws_plan.specs.declared.statement.Statement.{Statement}
 use Rattle.okws_plan.specs.declared.statement.Action.TheVariants.{Select}
@@ -27,3 +28,11 @@ pub record IsReadAt (tables : List Table) (told : Option (List (List (List Value
 abbrev pub AreRead : List Table → Option (List (List (List Value))) → ℕ → List Table → Type 0
 AreRead tables told n [] = Unit {0}
 AreRead tables told n (t ∷ ts) = IsReadAt tables told n t × AreRead tables told (suc n) ts
+
+-- A keeper that was made for these tables tells no rows, and what it answers for one of them is not sound.
+pub record ReadsUnsound (tables : List Table) (told : Option (List (List (List Value)))) : Type 0 where
+  pub silent : told ≡ None
+  pub at : ℕ
+  pub read : Table
+  pub answered : IsReadAt tables told at read
+  pub unsound : has_sound_rows read ≡ false

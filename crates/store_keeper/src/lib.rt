@@ -6,6 +6,7 @@
 mod giving;
 pub mod loading;
 mod opening;
+mod sound;
 mod stored;
 
 pub use giving::give_back;

@@ -1,15 +1,17 @@
 //! The rows of a site's stores.
 
-ghost use Rattle.std.specs.Prelude.{◌≡◌, [], Some, true, map, IfOk, IfErr, IsErrOf, IsSome, OnErr};
+ghost use Rattle.std.specs.Prelude.{◌≡◌, ◌⊎◌, [], Some, true, map, IfOk, IfErr, IsErrOf, IsSome, OnErr};
 ghost use Rattle.okws_plan.specs.Sound.{IsSound, is_sound_plan};
 ghost use Rattle.okws_outer.specs.Depots.{IsNewKeeper, with_made};
 ghost use Rattle.okws_outer.specs.Streams.{Rose};
 ghost use Rattle.store_keeper.specs.Alike.{AreAlike};
-ghost use Rattle.store_keeper.specs.Depots.{HasAsked, HasFailed, HasTried, with_starts};
+ghost use Rattle.store_keeper.specs.Depots.{HasAsked, HasFailed, HasTried, HasUnsoundAt, LacksStore, with_starts};
+ghost use Rattle.store_keeper.specs.Loading.{AreRead, ReadsUnsound};
 ghost use Rattle.store_keeper.specs.Sites.{AllTell, AreOf, HasFirstRows, HaveFirstRows, SitesAreAlike};
 
 use crate::giving::give_back;
 use crate::loading::read_tables;
+use crate::sound::are_sound;
 use crate::stored::StoredKeeper;
 use okws_base::items::Items;
 use okws_outer::error::MakeError;
@@ -35,7 +37,7 @@ struct Opened<K: Keeper> {
     keeper: StoredKeeper<K>,
 }
 
-// Why a store has no keeper beside it.
+// Why the rows of a store are not had.
 fn refusal(error: RunError) -> MakeError
     ensures { result ≡ MakeError.Failed → error ≡ RunError.Failed }
 {
@@ -45,7 +47,33 @@ fn refusal(error: RunError) -> MakeError
     }
 }
 
-// The rows of a new store, in memory beside it. The store keeps them.
+// The tables of a proxy with the rows that its new keeper has, which are sound.
+fn read_sound<K: Keeper>(
+    alloc: Global,
+    keeper: &mut K,
+    plan: &ProxyPlan,
+) -> Result<Vec<Table>, MakeError>
+    requires sound { is_sound_plan plan.now ≡ true }
+    requires tables { K.tables keeper.old ≡ plan.now.tables }
+    requires new { IsNewKeeper plan.now.tables (K.told keeper.old) (K.faults keeper.old) }
+    ensures alike { IfOk result (λ v. AreAlike v.items plan.now.tables) }
+    ensures read { IfOk result (λ v. AreRead plan.now.tables (K.told keeper.old) 0 v.items) }
+    ensures sound { IfOk result (λ v. is_sound_plan (record plan.now { tables = v.items }) ≡ true) }
+    ensures told { K.told keeper.new ≡ K.told keeper.old }
+    ensures tables { K.tables keeper.new ≡ K.tables keeper.old }
+    ensures failed { IsErrOf result MakeError.Failed → Rose 0 (K.faults keeper.new) ⊎ ReadsUnsound plan.now.tables (K.told keeper.new) }
+{
+    let tables = match read_tables(alloc, keeper, plan.tables.as_slice()) {
+        Ok(tables) => tables,
+        Err(error) => return Err(refusal(error)),
+    };
+    if !are_sound(alloc, &tables)? {
+        return Err(MakeError::Failed);
+    }
+    Ok(tables)
+}
+
+// The rows of a new store, in memory beside it. The store keeps them. Where they are not sound there is no keeper.
 fn beside<K: Keeper>(
     alloc: Global,
     mut store: K,
@@ -60,11 +88,12 @@ fn beside<K: Keeper>(
     ensures told { IfOk result (λ o. ⟦<StoredKeeper<K> as Keeper>⟧.told o.keeper ≡ Some (map (λ t. t.first) o.tables.items)) }
     ensures held { IfOk result (λ o. K.told o.keeper.store ≡ K.told store) }
     ensures back { IfErr result (λ e. K.told e.1 ≡ K.told store) }
-    ensures failed { IfErr result (λ e. e.0 ≡ MakeError.Failed → Rose 0 (K.faults e.1)) }
+    ensures sound { IfOk result (λ o. is_sound_plan (record plan.now { tables = o.tables.items }) ≡ true) }
+    ensures failed { IfErr result (λ e. e.0 ≡ MakeError.Failed → Rose 0 (K.faults e.1) ⊎ ReadsUnsound plan.now.tables (K.told e.1)) }
 {
-    let tables = match read_tables(alloc, &mut store, plan.tables.as_slice()) {
+    let tables = match read_sound(alloc, &mut store, plan) {
         Ok(tables) => tables,
-        Err(error) => return Err((refusal(error), store)),
+        Err(error) => return Err((error, store)),
     };
     match StoredKeeper::new(alloc, store, &tables, plan.queries.as_slice()) {
         Ok(keeper) => Ok(Opened { tables, keeper }),
@@ -72,8 +101,8 @@ fn beside<K: Keeper>(
     }
 }
 
-// The rows of a proxy's store, in memory beside it. Where they could not be read the store is given back with
-// them.
+// The rows of a proxy's store, in memory beside it. Where they could not be read, or are not sound, the store is
+// given back with them.
 fn open_proxy<S: Stores>(
     alloc: Global,
     stores: &mut S,
@@ -89,7 +118,8 @@ fn open_proxy<S: Stores>(
     ensures held { IfOk result (λ o. HasFirstRows plan.now (S.Keeper.told o.keeper.store)) }
     ensures made { IfOk result (λ _. S.depot stores.new ≡ with_made file.now proxy plan.now.tables (S.depot stores.old)) }
     ensures tried { OnErr result (HasTried file.now proxy plan.now (S.depot stores.old) (S.depot stores.new)) }
-    ensures failed { IsErrOf result MakeError.Failed → HasFailed (S.depot stores.old) (S.depot stores.new) }
+    ensures sound { IfOk result (λ o. is_sound_plan (record plan.now { tables = o.tables.items }) ≡ true) }
+    ensures failed { IsErrOf result MakeError.Failed → HasFailed (S.depot stores.old) (S.depot stores.new) ⊎ HasUnsoundAt proxy plan.now (S.depot stores.old) (S.depot stores.new) }
     ensures spared { IsErrOf result MakeError.NoMemory → (S.depot stores.new).faults ≡ (S.depot stores.old).faults }
 {
     let store = stores.make(alloc, file, proxy, plan.tables.as_slice())?;
@@ -110,8 +140,8 @@ fn take_plans(alloc: Global, config: &mut Config) -> Vec<ProxyPlan>
     mem::replace(&mut config.proxies, Items::of(Vec::new(alloc))).into_vec()
 }
 
-/// Makes the keepers of a site's rows over stores in a file, by the proxies' numbers. Where one can't be made,
-/// those that were are given back. The stores keep the rows that they have.
+/// Makes the keepers of a site's rows over stores in a file, by the proxies' numbers. Where one can't be made, or
+/// its rows are not sound, those that were are given back. The stores keep the rows that they have.
 pub fn open_site<S: Stores>(
     alloc: Global,
     stores: &mut S,
@@ -125,7 +155,8 @@ pub fn open_site<S: Stores>(
     ensures held { IfOk result (λ s. HaveFirstRows config.proxies (map (λ k. S.Keeper.told k.store) s.keepers.items)) }
     ensures made { IfOk result (λ _. S.depot stores.new ≡ with_starts file.now config.proxies (S.depot stores.old)) }
     ensures asked { OnErr result (HasAsked file.now config.proxies (S.depot stores.old) (S.depot stores.new)) }
-    ensures failed { IsErrOf result MakeError.Failed → HasFailed (S.depot stores.old) (S.depot stores.new) }
+    ensures sound { IfOk result (λ s. IsSound s.config) }
+    ensures failed { IsErrOf result MakeError.Failed → LacksStore config.proxies (S.depot stores.old) (S.depot stores.new) }
     ensures spared { IsErrOf result MakeError.NoMemory → (S.depot stores.new).faults ≡ (S.depot stores.old).faults }
 {
     let mut plans = take_plans(alloc, &mut config);

@@ -1,7 +1,6 @@
 use Rattle.std.proofs.Common.{List, Some, map, sym, subst}
 use Rattle.okws_plan.specs.declared.configuration.Table.{Table}
-use Rattle.store_keeper.specs.Alike.{AreAlike, HasRows}
-use Rattle.store_keeper.specs.Loading.{AreRead}
+use Rattle.store_keeper.specs.Alike.{HasRows}
 use Rattle.store_keeper.proofs.Same.{has_read}
 use Rattle.store_keeper.proofs.Plans.{tables_sound, told_same}
 use Rattle.store_keeper.proofs.opening.beside.Goals as goal
@@ -11,16 +10,13 @@ new-requires-clause-same g c =
     let ts : List Table = c.args.plan.now.tables in
     let items : List Table = c.in-Ok.tables.items in
     let told = g.K.Keeper.told c.args.store in
-    subst (λ (xs : List Table). HasRows (g.K.Keeper.told c.read_tables.new.keeper) (Some (map (λ (t : Table). t.first) xs))) (sym c.deref.ensures.value)
-    (subst (λ o. HasRows o (Some (map (λ (t : Table). t.first) items))) (sym c.read_tables.ensures.told)
-    (has_read ts items told c.requires.new.rows (subst (λ (xs : List Table). AreRead xs told 0 items) c.as_slice.ensures c.in-Ok.ensures.read) (subst (λ (xs : List Table). AreAlike items xs) c.as_slice.ensures c.in-Ok.ensures.alike)
-    (tables_sound c.args.plan.now c.requires.sound)))
+    subst (λ (xs : List Table). HasRows (g.K.Keeper.told c.read_sound.new.keeper) (Some (map (λ (t : Table). t.first) xs))) (sym c.deref.ensures.value)
+    (subst (λ o. HasRows o (Some (map (λ (t : Table). t.first) items))) (sym c.read_sound.ensures.told)
+    (has_read ts items told c.requires.new.rows c.in-Ok.ensures.read c.in-Ok.ensures.alike (tables_sound c.args.plan.now c.requires.sound)))
 
 pub returns-in-Ok-new-clause-same : goal.returns-in-Ok-new-clause-same
 returns-in-Ok-new-clause-same g c = λ some.
     let ts : List Table = c.args.plan.now.tables in
     let items : List Table = c.in-Ok.tables.items in
     let told = g.K.Keeper.told c.args.store in
-    let alike = subst (λ (xs : List Table). AreAlike items xs) c.as_slice.ensures c.in-Ok.ensures.alike in
-    told_same items ts told some c.requires.new.rows
-    (has_read ts items told c.requires.new.rows (subst (λ (xs : List Table). AreRead xs told 0 items) c.as_slice.ensures c.in-Ok.ensures.read) alike (tables_sound c.args.plan.now c.requires.sound)) alike
+    told_same items ts told some c.requires.new.rows (has_read ts items told c.requires.new.rows c.in-Ok.ensures.read c.in-Ok.ensures.alike (tables_sound c.args.plan.now c.requires.sound)) c.in-Ok.ensures.alike

@@ -4,12 +4,13 @@ use Rattle.okws_outer.specs.Depots.{Depot, with_made}
 use Rattle.okws_outer.specs.declared.error.MakeError.TheVariants.{Failed}
 use Rattle.okws_plan.specs.declared.configuration.Table.{Table}
 use Rattle.store_keeper.specs.Sites.{HasFirstRows}
-use Rattle.store_keeper.proofs.Given.{err_is, on_err, one_failed, tried_none, tried_one}
+use Rattle.store_keeper.proofs.Given.{err_is, on_err, tried_none, tried_one}
+use Rattle.store_keeper.proofs.Unsound.{one_lacks}
 use Rattle.store_keeper.proofs.opening.open_proxy.Goals as goal
 
 pub returns-in-Err-clause-failed : goal.returns-in-Err-clause-failed
 returns-in-Err-clause-failed g c = λ failed.
-    one_failed (g.S.Stores.depot c.args.stores.now) (g.S.Stores.depot c.make.new.self) (g.S.Stores.depot c.finish.new.self) c.args.proxy (g.S.Keeper.Keeper.told c.in-Err.store) (g.S.Keeper.Keeper.faults c.in-Err.store)
+    one_lacks c.args.plan.now (g.S.Stores.depot c.args.stores.now) (g.S.Stores.depot c.make.new.self) (g.S.Stores.depot c.finish.new.self) c.args.proxy (g.S.Keeper.Keeper.told c.in-Err.store) (g.S.Keeper.Keeper.faults c.in-Err.store)
     (ap (λ (d : Depot). d.finished) c.in_ok-store.ensures.made) c.finish.ensures (c.in-Err.ensures.failed (err_is c.in-Err.why Failed failed))
 
 pub returns-in_err-store-clause-tried : goal.returns-in_err-store-clause-tried

@@ -17,8 +17,9 @@ use Rattle.okws_base.specs.declared.value.Value.{Value}
 use Rattle.okws_plan.specs.declared.configuration.Config.{Config}
 use Rattle.okws_plan.specs.declared.configuration.Table.{Table}
 use Rattle.monitor_model.specs.declared.record.Record.{Record}
+use Rattle.two_worlds.specs.Agreement.{LawfulConfig}
 use Rattle.site_making.specs.Keepers.{KeeperIs, keeper_of}
-use Rattle.store_keeper.specs.Depots.{AreEnds, Beside, GivesBack, GivesKept, HasAsked, HasFailed, beside_of, with_starts}
+use Rattle.store_keeper.specs.Depots.{AreEnds, Beside, GivesBack, GivesKept, HasAsked, LacksStore, beside_of, with_starts}
 use Rattle.store_keeper.proofs.Given.{asked_all, gives_kept}
 use Rattle.store_keeper.specs.Sites.{HaveFirstRows, SitesAreAlike}
 use Rattle.okws_serve.specs.declared.outfit.Ran.{Ran}
@@ -104,8 +105,8 @@ starved_over wire server C seed a m b what parted keepers old new rose R how is 
 -- ---- with rows in memory
 
 memory_site : {X : Type 0} (wire : X → ConnWire) (tells : Type 0) (server : Serving) (C : Config) (seed : List ℕ) (a b : Gear) (left : List KeeperIs) (lost : Bool) (old new : Option (List ℕ)) (rose : Bool → Type 0) (R : Record) (how : Status) → server.store ≡ None →
-    lost ≡ false → ServesFrom wire server C seed a b left lost old new rose R how → ServesSite wire tells server C seed a b old new rose R how
-memory_site wire tells server C seed a b left lost old new rose R how memory none h =
+    lost ≡ false → LawfulConfig C → ServesFrom wire server C seed a b left lost old new rose R how → ServesSite wire tells server C seed a b old new rose R how
+memory_site wire tells server C seed a b left lost old new rose R how memory none lawful h =
     let depot : b.depot ≡ a.depot = h.from.at.over.depot in
     record {
       ran = h.ran;
@@ -114,6 +115,7 @@ memory_site wire tells server C seed a b left lost old new rose R how memory non
       served = record {
         site = C;
         sited = rw memory refl;
+        lawful = lawful;
         depot = a.depot;
         opened = rw memory refl;
         keepers = left;
@@ -167,18 +169,18 @@ memory_starved wire tells server C seed a b old new rose R how is memory same to
     ))
 
 pub memory_config : {X K : Type 0} (wire : X → ConnWire) (tells : Type 0) (server : Serving) (C : Config) (seed : List ℕ) (a b : Gear) (what : K → KeeperIs) (parted : K → Bool) (keepers left : List K) (old new : Option (List ℕ)) (rose : Bool → Type 0) (R : Record) (how : Status) →
-    server.store ≡ None → list_any parted left ≡ false → ServesOver wire server C seed a b what parted keepers left old new rose R how → ServesConfig wire tells server C seed a b old new rose R how
-memory_config wire tells server C seed a b what parted keepers left old new rose R status.NetFault memory none h = (memory_port server C a b memory h.0, h.2)
-memory_config wire tells server C seed a b what parted keepers left old new rose R status.NoMemory memory none (inl h) = inl (memory_never server C a b keepers left memory h.0, h.1)
-memory_config wire tells server C seed a b what parted keepers left old new rose R status.NoMemory memory none (inr h) = inr (memory_site wire tells server C seed a b (map what left) (list_any parted left) old new rose R status.NoMemory memory none h)
-memory_config wire tells server C seed a b what parted keepers left old new rose R status.StoreFault memory none h = absurd h.ends
-memory_config wire tells server C seed a b what parted keepers left old new rose R how memory none h = memory_site wire tells server C seed a b (map what left) (list_any parted left) old new rose R how memory none h
+    server.store ≡ None → list_any parted left ≡ false → LawfulConfig C → ServesOver wire server C seed a b what parted keepers left old new rose R how → ServesConfig wire tells server C seed a b old new rose R how
+memory_config wire tells server C seed a b what parted keepers left old new rose R status.NetFault memory none lawful h = (memory_port server C a b memory h.0, h.2)
+memory_config wire tells server C seed a b what parted keepers left old new rose R status.NoMemory memory none lawful (inl h) = inl (memory_never server C a b keepers left memory h.0, h.1)
+memory_config wire tells server C seed a b what parted keepers left old new rose R status.NoMemory memory none lawful (inr h) = inr (memory_site wire tells server C seed a b (map what left) (list_any parted left) old new rose R status.NoMemory memory none lawful h)
+memory_config wire tells server C seed a b what parted keepers left old new rose R status.StoreFault memory none lawful h = absurd h.ends
+memory_config wire tells server C seed a b what parted keepers left old new rose R how memory none lawful h = memory_site wire tells server C seed a b (map what left) (list_any parted left) old new rose R how memory none lawful h
 
 -- the same of the site that was shared
 pub memory_at : {X K : Type 0} (wire : X → ConnWire) (tells : Type 0) (server : Serving) (C D : Config) (seed : List ℕ) (a b : Gear) (what : K → KeeperIs) (parted : K → Bool) (keepers left : List K) (old new : Option (List ℕ)) (rose : Bool → Type 0) (R : Record) (how : Status) →
-    D ≡ C → server.store ≡ None → list_any parted left ≡ false → ServesOver wire server D seed a b what parted keepers left old new rose R how → ServesConfig wire tells server C seed a b old new rose R how
-memory_at wire tells server C D seed a b what parted keepers left old new rose R how same memory none h =
-    memory_config wire tells server C seed a b what parted keepers left old new rose R how memory none (subst (λ x. ServesOver wire server x seed a b what parted keepers left old new rose R how) same h)
+    D ≡ C → server.store ≡ None → list_any parted left ≡ false → LawfulConfig C → ServesOver wire server D seed a b what parted keepers left old new rose R how → ServesConfig wire tells server C seed a b old new rose R how
+memory_at wire tells server C D seed a b what parted keepers left old new rose R how same memory none lawful h =
+    memory_config wire tells server C seed a b what parted keepers left old new rose R how memory none lawful (subst (λ x. ServesOver wire server x seed a b what parted keepers left old new rose R how) same h)
 
 -- ---- with rows in files
 
@@ -198,8 +200,8 @@ as_left : (m b e : Gear) → e ≡ record b { depot = e.depot } → b.depot ≡ 
 as_left m b e after kept = ap (λ (d : Depot). record b { depot = d }) kept ∙ ap (λ (x : Gear). record x { depot = m.depot }) (sym after)
 
 stored_served : {X K : Type 0} (wire : X → ConnWire) (tells : Type 0) (server : Serving) (file : List ℕ) (C D : Config) (seed : List ℕ) (a m b e : Gear) (what : K → KeeperIs) (parted : K → Bool) (beside : K → Beside) (keepers left : List K) (old new : Option (List ℕ)) (rose : Bool → Type 0) (R : Record)
-    (how : Status) → SitesAreAlike D C → (tells → D ≡ C) → IsStored server file C a m b e what parted beside keepers left → ServesFrom wire server D seed m b (map what left) (list_any parted left) old new rose R how → ServesSite wire tells server C seed a e old new rose R how
-stored_served wire tells server file C D seed a m b e what parted beside keepers left old new rose R how alike same is h =
+    (how : Status) → SitesAreAlike D C → (tells → D ≡ C) → LawfulConfig D → IsStored server file C a m b e what parted beside keepers left → ServesFrom wire server D seed m b (map what left) (list_any parted left) old new rose R how → ServesSite wire tells server C seed a e old new rose R how
+stored_served wire tells server file C D seed a m b e what parted beside keepers left old new rose R how alike same lawful is h =
     let kept : b.depot ≡ m.depot = h.from.at.over.depot in
     record {
       ran = h.ran;
@@ -208,6 +210,7 @@ stored_served wire tells server file C D seed a m b e what parted beside keepers
       served = record {
         site = D;
         sited = rw is.wanted (alike, same);
+        lawful = lawful;
         depot = m.depot;
         opened = rw is.wanted is.opened;
         keepers = map what left;
@@ -268,25 +271,25 @@ stored_never server file C a m b e what parted beside keepers left is (inr h) =
     })
 
 pub stored_config : {X K : Type 0} (wire : X → ConnWire) (tells : Type 0) (server : Serving) (file : List ℕ) (C D : Config) (seed : List ℕ) (a m b e : Gear) (what : K → KeeperIs) (parted : K → Bool) (beside : K → Beside) (keepers left : List K) (old new : Option (List ℕ)) (rose : Bool → Type 0)
-    (R : Record) (how : Status) → SitesAreAlike D C → (tells → D ≡ C) → IsStored server file C a m b e what parted beside keepers left → ServesOver wire server D seed m b what parted keepers left old new rose R how → ServesConfig wire tells server C seed a e old new rose R how
-stored_config wire tells server file C D seed a m b e what parted beside keepers left old new rose R status.NetFault alike same is h = (stored_port server file C a m b e what parted beside keepers left h.1 is h.0, h.2)
-stored_config wire tells server file C D seed a m b e what parted beside keepers left old new rose R status.NoMemory alike same is (inl h) = inl (stored_never server file C a m b e what parted beside keepers left is h.0, h.1)
-stored_config wire tells server file C D seed a m b e what parted beside keepers left old new rose R status.NoMemory alike same is (inr h) =
-    inr (stored_served wire tells server file C D seed a m b e what parted beside keepers left old new rose R status.NoMemory alike same is h)
-stored_config wire tells server file C D seed a m b e what parted beside keepers left old new rose R status.StoreFault alike same is h = absurd h.ends
-stored_config wire tells server file C D seed a m b e what parted beside keepers left old new rose R how alike same is h =
-    stored_served wire tells server file C D seed a m b e what parted beside keepers left old new rose R how alike same is h
+    (R : Record) (how : Status) → SitesAreAlike D C → (tells → D ≡ C) → LawfulConfig D → IsStored server file C a m b e what parted beside keepers left → ServesOver wire server D seed m b what parted keepers left old new rose R how → ServesConfig wire tells server C seed a e old new rose R how
+stored_config wire tells server file C D seed a m b e what parted beside keepers left old new rose R status.NetFault alike same lawful is h = (stored_port server file C a m b e what parted beside keepers left h.1 is h.0, h.2)
+stored_config wire tells server file C D seed a m b e what parted beside keepers left old new rose R status.NoMemory alike same lawful is (inl h) = inl (stored_never server file C a m b e what parted beside keepers left is h.0, h.1)
+stored_config wire tells server file C D seed a m b e what parted beside keepers left old new rose R status.NoMemory alike same lawful is (inr h) =
+    inr (stored_served wire tells server file C D seed a m b e what parted beside keepers left old new rose R status.NoMemory alike same lawful is h)
+stored_config wire tells server file C D seed a m b e what parted beside keepers left old new rose R status.StoreFault alike same lawful is h = absurd h.ends
+stored_config wire tells server file C D seed a m b e what parted beside keepers left old new rose R how alike same lawful is h =
+    stored_served wire tells server file C D seed a m b e what parted beside keepers left old new rose R how alike same lawful is h
 
 -- a store could not be made
 pub missed_config : {X : Type 0} (wire : X → ConnWire) (tells : Type 0) (server : Serving) (file : List ℕ) (C : Config) (seed : List ℕ) (a m b : Gear) (old new : Option (List ℕ)) (rose : Bool → Type 0) (R : Record) (how : Status) → how ≡ status.StoreFault →
-    server.store ≡ Some file → m ≡ record a { depot = m.depot } → b ≡ m → HasAsked file C.proxies a.depot m.depot → HasFailed a.depot m.depot → Tells old new store_fault_line rose R → ServesConfig wire tells server C seed a b old new rose R how
+    server.store ≡ Some file → m ≡ record a { depot = m.depot } → b ≡ m → HasAsked file C.proxies a.depot m.depot → LacksStore C.proxies a.depot m.depot → Tells old new store_fault_line rose R → ServesConfig wire tells server C seed a b old new rose R how
 missed_config wire tells server file C seed a m b old new rose R how is wanted gear same asked failed told =
     subst (λ s. ServesConfig wire tells server C seed a b old new rose R s) (sym is) (
       record {
         wanted = subst (λ (o : Option (List ℕ)). IsSome o) (sym wanted) refl;
         gear = subst (λ (x : Gear). x ≡ record a { depot = x.depot }) (sym same) gear;
         asked = rw wanted (subst (λ (x : Gear). HasAsked file C.proxies a.depot x.depot) (sym same) asked);
-        failed = subst (λ (x : Gear). HasFailed a.depot x.depot) (sym same) failed;
+        failed = subst (λ (x : Gear). LacksStore C.proxies a.depot x.depot) (sym same) failed;
       },
       told,
     )

@@ -19,9 +19,10 @@ use Rattle.okws_outer.specs.Streams.{AppendsPrefix, Rose}
 use Rattle.okws_plan.specs.declared.configuration.Config.{Config}
 use Rattle.okws_plan.specs.declared.configuration.ProxyPlan.{ProxyPlan}
 use Rattle.monitor_model.specs.declared.record.Record.{Record}
+use Rattle.two_worlds.specs.Agreement.{LawfulConfig}
 use Rattle.site_making.specs.Keepers.{KeeperIs, AreKeepers, are_steady}
 use Rattle.site_making.specs.Making.{IsServable}
-use Rattle.store_keeper.specs.Depots.{Beside, GivesBack, GivesKept, HasAsked, HasFailed, with_starts}
+use Rattle.store_keeper.specs.Depots.{Beside, GivesBack, GivesKept, HasAsked, LacksStore, with_starts}
 use Rattle.store_keeper.specs.Sites.{SitesAreAlike}
 use Rattle.okws_serve.specs.Runs.{Runs, StartIs}
 use Rattle.okws_serve.specs.declared.outfit.Ran.{Ran}
@@ -207,10 +208,11 @@ pub record RanAt {X : Type 0} (wire : X → ConnWire) (server : Serving) (C : Co
 pub record RanFrom {X : Type 0} (wire : X → ConnWire) (server : Serving) (C : Config) (seed : List ℕ) (a b : Gear) (keepers : List KeeperIs) (ran : Ran) (missed : Bool) : Type 0 where
   pub at : RanAt wire server C seed (record a { net = with_listened server a.net }) b keepers ran missed
 
--- The same with the stores opened for it and given back, whose keepers had counted at least the faults of those over which it ran; `lost` says whether one of them had parted from its keeper.
+-- The same of a lawful site, with the stores opened for it and given back, whose keepers had counted at least the faults of those over which it ran; `lost` says whether one of them had parted from its keeper.
 pub record HasServed {X : Type 0} (wire : X → ConnWire) (tells : Type 0) (server : Serving) (C : Config) (seed : List ℕ) (a b : Gear) (ran : Ran) (missed lost : Bool) : Type 0 where
   pub site : Config
   pub sited : IsSited tells server.store C site
+  pub lawful : LawfulConfig site
   pub depot : Depot
   pub opened : Opens server.store C.proxies a.depot depot
   pub keepers : List KeeperIs
@@ -248,12 +250,12 @@ pub record MissesPort (server : Serving) (C : Config) (a b : Gear) : Type 0 wher
   pub doors : MissesDoors server (record a { depot = depot }) (record b { depot = depot })
   pub closed : Returns server.store C.proxies depot b.depot
 
--- A keeper of rows could not be made of the file that is asked for, which was counted, and nothing but the stores was touched; what was made of these was given back as it was made.
+-- A keeper of rows could not be made of the file that is asked for, which was counted, or the rows that are there are not sound; and nothing but the stores was touched: what was made of these was given back as it was made.
 pub record MissesStore (server : Serving) (C : Config) (a b : Gear) : Type 0 where
   pub wanted : IsSome server.store
   pub gear : b ≡ record a { depot = b.depot }
   pub asked : Asks server.store C.proxies a.depot b.depot
-  pub failed : HasFailed a.depot b.depot
+  pub failed : LacksStore C.proxies a.depot b.depot
 
 -- A site whose stores are open was served, and left these keepers; `lost` says whether one of them has parted from its store: the record is the run's, which ended so.
 pub record ServesFrom {X : Type 0} (wire : X → ConnWire) (server : Serving) (C : Config) (seed : List ℕ) (a b : Gear) (keepers : List KeeperIs) (lost : Bool) (old new : Option (List ℕ)) (rose : Bool → Type 0) (R : Record) (how : Status) : Type 0 where

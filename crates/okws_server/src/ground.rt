@@ -6,7 +6,7 @@ ghost use Rattle.okws_base.specs.declared.limit.TheConstants.{MOST_PROXIES};
 ghost use Rattle.okws_plan.specs.Sound.{IsSound};
 ghost use Rattle.config_reader.specs.Ruled.{AreRuled};
 ghost use Rattle.site_making.specs.Keepers.{AreKeepers, IsKeeper, are_steady, keeper_of};
-ghost use Rattle.store_keeper.specs.Depots.{HasAsked, HasFailed, with_starts};
+ghost use Rattle.store_keeper.specs.Depots.{HasAsked, LacksStore, with_starts};
 ghost use Rattle.store_keeper.specs.Sites.{AllTell, HaveFirstRows, SitesAreAlike};
 ghost use Rattle.okws_server.specs.Served.{IsStock};
 
@@ -80,8 +80,8 @@ pub fn stock_of(alloc: Global, config: Config) -> Result<Stock<IndexKeeper>, All
 }
 
 /// A site that was read, with the rows that its stores have, and the keepers of these rows, made by the numbers
-/// of the proxies. The stores keep the rows that they have, and where one can't be made those that were are
-/// given back so.
+/// of the proxies. The stores keep the rows that they have, and where one can't be made, or its rows are not
+/// sound, those that were are given back so.
 pub fn stored_stock<S: Stores>(
     alloc: Global,
     stores: &mut S,
@@ -96,7 +96,8 @@ pub fn stored_stock<S: Stores>(
     ensures held { IfOk result (λ s. HaveFirstRows config.proxies (map (λ k. S.Keeper.told k.store) s.keepers.items)) }
     ensures made { IfOk result (λ _. S.depot stores.new ≡ with_starts file.now config.proxies (S.depot stores.old)) }
     ensures asked { OnErr result (HasAsked file.now config.proxies (S.depot stores.old) (S.depot stores.new)) }
-    ensures failed { IsErrOf result MakeError.Failed → HasFailed (S.depot stores.old) (S.depot stores.new) }
+    ensures sound { IfOk result (λ s. IsSound (arc_value s.site)) }
+    ensures failed { IsErrOf result MakeError.Failed → LacksStore config.proxies (S.depot stores.old) (S.depot stores.new) }
     ensures spared { IsErrOf result MakeError.NoMemory → (S.depot stores.new).faults ≡ (S.depot stores.old).faults }
 {
     read_names(&config);

@@ -1,6 +1,7 @@
-use Rattle.std.proofs.Common.{◌≤◌, arith, length}
+use Rattle.std.proofs.Common.{◌≤◌, arith, length, subst, sym}
 use Rattle.std.specs.Arc.{arc_value}
 use Rattle.okws_base.specs.declared.limit.TheConstants.{MOST_PROXIES}
+use Rattle.okws_plan.specs.Sound.{IsSound}
 use Rattle.site_making.specs.Keepers.{keeper_of}
 use Rattle.store_keeper.specs.contracts.stored.StoredKeeperKeeper.TheImpl as stored
 use Rattle.store_keeper.specs.Depots.{beside_of}
@@ -13,6 +14,9 @@ returns-in-Ok-clause-stock g c =
     stock_at c.in_ok-stored.stored.config (arc_value c.in-Ok.site) _ c.in-Ok.ensures.ok
     (stock_stored (keeper_of (stored.tables-value g.row.S-Keeper g.row.S-Keeper-Pin g.S.Keeper.Keeper g.S.Keeper.Keeper-dict g.S.Keeper.Pin.Pinned g.S.Keeper.Pin.Pinned-dict g.S.Keeper.Pin.Destruct-dict).it (stored.told-value g.row.S-Keeper g.row.S-Keeper-Pin g.S.Keeper.Keeper g.S.Keeper.Keeper-dict g.S.Keeper.Pin.Pinned g.S.Keeper.Pin.Pinned-dict g.S.Keeper.Pin.Destruct-dict).it (stored.faults-value g.row.S-Keeper g.row.S-Keeper-Pin g.S.Keeper.Keeper g.S.Keeper.Keeper-dict g.S.Keeper.Pin.Pinned g.S.Keeper.Pin.Pinned-dict g.S.Keeper.Pin.Destruct-dict).it (stored.steady-value g.row.S-Keeper g.row.S-Keeper-Pin g.S.Keeper.Keeper g.S.Keeper.Keeper-dict g.S.Keeper.Pin.Pinned g.S.Keeper.Pin.Pinned-dict g.S.Keeper.Pin.Destruct-dict).it) c.args.config c.in_ok-stored.stored.config c.in_ok-stored.stored.keepers.items c.in_ok-stored.ensures.alike
     (servable_by c.args.config c.requires.sound c.requires.rules c.read_names.ensures) c.in_ok-stored.ensures.keepers)
+
+pub returns-in-Ok-clause-sound : goal.returns-in-Ok-clause-sound
+returns-in-Ok-clause-sound g c = subst IsSound (sym c.in-Ok.ensures.ok) c.in_ok-stored.ensures.sound
 
 pub give_back-requires-after_bounds : goal.give_back-requires-after_bounds
 give_back-requires-after_bounds g c κs within =

@@ -19,7 +19,7 @@ returns g c =
     let after : Gear = gear_of g.E.Network.Network.net g.E.Children.Children.family g.E.Console.Conn.wire g.E.Stores.Stores.depot g.E.Sinks.Sinks.rack c.serve_stock-ended.result.0.2 in
     memory_at g.E.Network.Door.Conn.Conn.wire (AllTell g.E.Stores.Keeper.Keeper.told) (serving_of c.args.server.now) c.args.config (arc_value c.in-Ok.stock.site) c.args.seed before after (keeper_of row.tables-value.it row.told-value.it row.faults-value.it row.steady-value.it) row.parted-value.it
     c.in-Ok.stock.keepers.items c.serve_stock-ended.result.1.items (g.O.Sink.given c.args.out.now) (g.O.Sink.given c.serve_stock-ended.new.out) (RoseWhere (g.O.Sink.faults c.args.out.now) (g.O.Sink.faults c.serve_stock-ended.new.out)) c.serve_stock-ended.result.0.1
-    c.serve_stock-ended.result.0.0 c.in-Ok.ensures.site c.requires.memory (none_parted c.serve_stock-ended.result.1.items) c.serve_stock-ended.ensures
+    c.serve_stock-ended.result.0.0 c.in-Ok.ensures.site c.requires.memory (none_parted c.serve_stock-ended.result.1.items) (record { sound = c.requires.sound; rules = c.requires.rules }) c.serve_stock-ended.ensures
 
 pub returns-in_default : goal.returns-in_default
 returns-in_default g c =

@@ -31,7 +31,7 @@ returns-in-Ok g c =
     let end : Gear = record after { depot = g.E.Stores.Stores.depot c.give_back.new.stores } in
     stored_config g.E.Network.Door.Conn.Conn.wire (AllTell g.E.Stores.Keeper.Keeper.told) (serving_of c.args.server.now) c.args.file.now c.args.config (arc_value c.in-Ok.stock.site) c.args.seed before middle after end (keeper_of (stored.tables-value g.row.E-Stores-Keeper g.row.E-Stores-Keeper-Pin g.E.Stores.Keeper.Keeper g.E.Stores.Keeper.Keeper-dict g.E.Stores.Keeper.Pin.Pinned g.E.Stores.Keeper.Pin.Pinned-dict g.E.Stores.Keeper.Pin.Destruct-dict).it (stored.told-value g.row.E-Stores-Keeper g.row.E-Stores-Keeper-Pin g.E.Stores.Keeper.Keeper g.E.Stores.Keeper.Keeper-dict g.E.Stores.Keeper.Pin.Pinned g.E.Stores.Keeper.Pin.Pinned-dict g.E.Stores.Keeper.Pin.Destruct-dict).it (stored.faults-value g.row.E-Stores-Keeper g.row.E-Stores-Keeper-Pin g.E.Stores.Keeper.Keeper g.E.Stores.Keeper.Keeper-dict g.E.Stores.Keeper.Pin.Pinned g.E.Stores.Keeper.Pin.Pinned-dict g.E.Stores.Keeper.Pin.Destruct-dict).it (stored.steady-value g.row.E-Stores-Keeper g.row.E-Stores-Keeper-Pin g.E.Stores.Keeper.Keeper g.E.Stores.Keeper.Keeper-dict g.E.Stores.Keeper.Pin.Pinned g.E.Stores.Keeper.Pin.Pinned-dict g.E.Stores.Keeper.Pin.Destruct-dict).it) (stored.parted-value g.row.E-Stores-Keeper g.row.E-Stores-Keeper-Pin g.E.Stores.Keeper.Keeper g.E.Stores.Keeper.Keeper-dict g.E.Stores.Keeper.Pin.Pinned g.E.Stores.Keeper.Pin.Pinned-dict g.E.Stores.Keeper.Pin.Destruct-dict).it
     (beside_of (stored.faults-value g.row.E-Stores-Keeper g.row.E-Stores-Keeper-Pin g.E.Stores.Keeper.Keeper g.E.Stores.Keeper.Keeper-dict g.E.Stores.Keeper.Pin.Pinned g.E.Stores.Keeper.Pin.Pinned-dict g.E.Stores.Keeper.Pin.Destruct-dict).it (stored.told-value g.row.E-Stores-Keeper g.row.E-Stores-Keeper-Pin g.E.Stores.Keeper.Keeper g.E.Stores.Keeper.Keeper-dict g.E.Stores.Keeper.Pin.Pinned g.E.Stores.Keeper.Pin.Pinned-dict g.E.Stores.Keeper.Pin.Destruct-dict).it (λ k. k.parted) (λ k. g.E.Stores.Keeper.Keeper.told k.store)) c.in-Ok.stock.keepers.items c.serve_beside-ended.result.1.items
-    (g.O.Sink.given c.args.out.now) (g.O.Sink.given c.serve_beside-ended.new.out) (RoseWhere (g.O.Sink.faults c.args.out.now) (g.O.Sink.faults c.serve_beside-ended.new.out)) c.serve_beside-ended.result.0.1 c.serve_beside-ended.result.0.0 c.in-Ok.ensures.alike c.in-Ok.ensures.same
+    (g.O.Sink.given c.args.out.now) (g.O.Sink.given c.serve_beside-ended.new.out) (RoseWhere (g.O.Sink.faults c.args.out.now) (g.O.Sink.faults c.serve_beside-ended.new.out)) c.serve_beside-ended.result.0.1 c.serve_beside-ended.result.0.0 c.in-Ok.ensures.alike c.in-Ok.ensures.same (record { sound = c.in-Ok.ensures.sound; rules = c.in-Ok.ensures.stock.servable.rules.queries })
     (record {
       wanted = c.requires.stores;
       before = refl;

@@ -564,6 +564,44 @@ def rows_of_tables_or_columns_in_another_order_are_refused():
         same(said('serve', 'changed', '--port', str(a_port()), '--serve', '0', '--store', name), ('store fault\n', 6))
         same(said('serve', 'ordered', '--port', str(a_port()), '--serve', '0', '--store', name)[1], 0)
 
+def change_schema(path, *statements):
+    """Changes what a database says of its tables, and nothing in them."""
+    database = sqlite3.connect(path, isolation_level=None)
+    database.execute('PRAGMA writable_schema = ON')
+    version = database.execute('PRAGMA schema_version').fetchone()[0]
+    for statement in statements:
+        database.execute(*statement)
+    database.execute(f'PRAGMA schema_version = {version + 1}')
+    database.close()
+
+def shown_by(path, query):
+    database = sqlite3.connect(path)
+    rows = database.execute(query).fetchall()
+    database.close()
+    return rows
+
+def write_past_a_rule(path, word, left_out, statement):
+    """Runs a statement at the store's table as if it had been made without this word; what the database says of it is then as it was."""
+    was = shown_by(path, 'SELECT rowid, type, name, tbl_name, rootpage, sql FROM sqlite_schema')
+    change_schema(path, (f'DELETE FROM sqlite_schema WHERE type = {left_out!r}',), ("UPDATE sqlite_schema SET sql = replace(sql, ?, '')", (word,)))
+    database = sqlite3.connect(path)
+    with database:
+        database.execute(statement)
+    database.close()
+    change_schema(path, ('DELETE FROM sqlite_schema',), *[('INSERT INTO sqlite_schema (rowid, type, name, tbl_name, rootpage, sql) VALUES (?, ?, ?, ?, ?, ?)', row) for row in was])
+
+def rows_that_do_not_fit_their_table_are_refused_and_kept():
+    for name, word, left_out, statement, rows in [
+        ('one_key_twice', ' UNIQUE', 'index', 'UPDATE t0 SET c0 = 1', [(1, 'ann'), (1, 'bob')]),
+        ('another_kind', ' STRICT', 'none', "UPDATE t0 SET c0 = 'x' WHERE c0 = 2", [(1, 'ann'), ('x', 'bob')]),
+    ]:
+        with Server(SITE % './svc_probe', 1, '--store', name) as server:
+            same(get(server.port), ANN_AND_BOB)
+            same(server.ends()[1], 0)
+        write_past_a_rule(f'{name}.0', word, left_out, statement)
+        same(said('serve', 'site', '--port', str(a_port()), '--serve', '1', '--store', name), ('store fault\n', 6))
+        same(shown_by(f'{name}.0', 'SELECT c0, c1 FROM t0 NOT INDEXED ORDER BY id'), rows)
+
 def who_holds_a_file_of_rows_for_a_moment_is_waited_for():
     write('good', 'okws 1\nproxy main\ntable main one id INT KEY a TEXT\n')
     same(said('serve', 'good', '--port', str(a_port()), '--serve', '0', '--store', 'held')[1], 0)
@@ -733,7 +771,7 @@ CHECKS = [
     a_server_without_standard_output_tells_no_client, connections_wait_where_there_is_no_descriptor_for_them,
     what_goes_wrong_is_told_on_standard_error, a_limit_on_the_size_of_files_is_a_fault_where_its_signal_is_ignored, a_child_has_path_alone_and_three_descriptors, a_file_of_rows_has_all_rows_after_an_orderly_end,
     a_new_file_of_rows_has_its_tables_when_the_doors_open,
-    rows_of_tables_or_columns_in_another_order_are_refused, who_holds_a_file_of_rows_for_a_moment_is_waited_for, a_page_of_many_places_is_refused_soon,
+    rows_of_tables_or_columns_in_another_order_are_refused, rows_that_do_not_fit_their_table_are_refused_and_kept, who_holds_a_file_of_rows_for_a_moment_is_waited_for, a_page_of_many_places_is_refused_soon,
     silent_clients_keep_no_door, a_slow_client_is_cut_off, a_client_may_take_its_time_within_its_patience, a_server_without_end_outlives_its_console,
     a_stop_ends_a_run_whose_console_is_open, a_stop_tells_no_more_than_were_asked_for, what_has_begun_is_answered_behind_a_stop, no_client_waits_behind_the_last_connection,
     a_status_tells_how_a_site_stands, a_status_tells_what_was_given_up,

@@ -1,8 +1,10 @@
 """A running `okws serve`: its console over two pipes, its children, and its end."""
-import dataclasses, os, re, shutil, signal, subprocess, threading, time
+import concurrent.futures, dataclasses, os, re, shutil, signal, subprocess, threading, time
 
 PATIENCE = 2.0      # seconds for a child to end by itself, and again once it was told to
-ANSWERS = re.compile(r'published \d+|relaunched \d+|dead \d+|refused \d+ \d+|no memory')
+COUNTING = 2.0      # seconds for the server to tell its counts, which wait for a launch that is under way
+COUNTS = ('connections', 'accepts', 'launches', 'publications', 'logged', 'up', 'down', 'dead')      # as `status` tells them
+ANSWERS = re.compile(r'published \d+|relaunched \d+|dead \d+|status( \d+){8}|stopping \d+|refused \d+ \d+|no memory')
 IS_CONNECTED = '01'      # the state of a socket of TCP
 
 
@@ -90,7 +92,8 @@ class Server:
         outlived_by_none = ['setpriv', '--pdeathsig', 'KILL', '--'] if shutil.which('setpriv') else []
         self.process = subprocess.Popen([*outlived_by_none, okws, *words], stdin=subprocess.PIPE, stdout=subprocess.PIPE, process_group=0,
                                         restore_signals=False)
-        self.turn = threading.Lock()
+        self.turn, self.counting = threading.Lock(), threading.Lock()
+        self.counted = None
         self.last = []
 
     def ask(self, line, content=b''):
@@ -106,6 +109,20 @@ class Server:
                 return answer
             self.last.append(answer)
             return None
+
+    def counts(self):
+        """The server's counts by their names, or None where it has none to tell, or hasn't told them within a bound. One that is late is still
+        read, in its turn, so that the next answer is that to the next line; until then nobody asks for another."""
+        with self.counting:
+            if self.counted is None or self.counted.done():
+                self.counted = concurrent.futures.Future()
+                threading.Thread(target=lambda told: told.set_result(self.ask('status')), args=(self.counted,), daemon=True).start()
+            told = self.counted
+        try:
+            name, *numbers = (told.result(COUNTING) or 'none').split()
+        except concurrent.futures.TimeoutError:
+            return None
+        return dict(zip(COUNTS, map(int, numbers))) if name == 'status' else None
 
     def begins(self):
         """Whether the run began: its console answers once its doors are open and its services launched."""

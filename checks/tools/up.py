@@ -35,6 +35,45 @@ def a_site_is_kept_and_steered():
         run('okws-ctl', 'status', status=3, cwd='kept')
 
 
+def a_status_has_the_servers_counts():
+    with Up('counted', '--log', 'log') as up:
+        same(ask(up.port, content='2 bob')[0], 303)
+        same(ask(up.port), (200, '1 ann\n2 bob\n'))
+        write('counted/page', '@{rows}')
+        same((up.ctl('publish', 'page', 'page'), up.ctl('relaunch', 'notes')), ('published 1\n', 'relaunched 2\n'))
+        wanted = {'connections': 2, 'accepts': 2, 'launches': 2, 'publications': 1, 'logged': 1, 'up': 1, 'down': 0, 'dead': 0}
+        wait_until(lambda: status_of(up)['counts'] == wanted)      # a client has its answer before its connection counts
+        has(up.ctl('status'), 'counts    connections 2, accepts 2, launches 2, publications 1, logged 1, up 1, down 0, dead 0\n')
+
+
+def behind(folder, lines):
+    """A program in a folder that is the real one, whose console's lines come through this command of the shell."""
+    write(f'{folder}/program', f'#!/bin/bash\n[ "$1" = serve ] || exec "$REAL" "$@"\nexec "$REAL" "$@" < <({lines})\n')
+    os.chmod(f'{folder}/program', 0o755)
+    return {'environment': {'REAL': os.environ['OKWS']}}
+
+
+def an_older_servers_counts_are_not_known():
+    """An older server has no command `status`, as this one has none `counts`."""
+    with Up('older', '--okws', './program', **behind('older', 'exec sed -u "s/^status$/counts/"')) as up:
+        same(status_of(up)['counts'], None)
+        has(up.ctl('status'), 'ready', 'counts    not known')
+        same(up.ctl('relaunch', 'notes'), 'relaunched 2\n')
+        same(ask(up.port), ANN)
+
+
+def a_status_does_not_wait_for_a_late_answer_which_is_no_others():
+    """The first `status` comes to the server once the file `now` is there, and what follows it behind it."""
+    late = 'while IFS= read -r line; do [ "$line" != status ] || until [ -e now ]; do sleep 0.1; done; printf "%s\\n" "$line"; done'
+    with Up('late_counts', '--okws', './program', **behind('late_counts', late)) as up:
+        same([status_of(up)['counts'] for _ in range(2)], [None, None])
+        has(up.ctl('status'), 'ready', 'counts    not known')
+        write('late_counts/now', '')
+        same(up.ctl('relaunch', 'notes'), 'relaunched 2\n')
+        same(status_of(up)['counts']['launches'], 2)
+        same(ask(up.port), ANN)
+
+
 def paths_may_have_spaces():
     write('a site/the pages/page.txt', '@{rows}')
     with Up('a site', '--templates', 'the pages', '--store', 'the rows', '--log', 'the log', '--run', 'a run') as up:
@@ -240,7 +279,7 @@ def orders_that_name_nothing_do_not_come_to_the_server():
         write('orders/big', 'x' * 300000)
         has(up.ctl('publish', 'page', 'big', status=1), 'more than 262144 bytes')
         has(up.ctl('publish', 'page', 'nowhere', status=1), 'No such file')
-        has(up.ctl('status', status=1), '1 children of 2 services run')
+        has(up.ctl('status', status=1), '1 children of 2 services run', 'up 1, down 0, dead 1')
         for words in (['relaunch'], ['reboot', 'notes'], ['publish', 'page'], ['--nothing', 'status']):
             up.ctl(*words, status=2)
         for sent in (b'publish page 9\nend\n', b'nonsense\n', b'\xff\xfe\n', b'relaunch ' + b'x' * 5000 + b'\n'):
@@ -312,13 +351,14 @@ def words_that_are_none_are_refused():
 
 
 CHECKS = [
-    a_site_is_kept_and_steered, paths_may_have_spaces, a_folder_is_one_boxs, what_a_killed_box_leaves_is_taken_over, what_is_no_socket_is_left_alone,
+    a_site_is_kept_and_steered, a_status_has_the_servers_counts, an_older_servers_counts_are_not_known,
+    a_status_does_not_wait_for_a_late_answer_which_is_no_others, paths_may_have_spaces, a_folder_is_one_boxs, what_a_killed_box_leaves_is_taken_over, what_is_no_socket_is_left_alone,
     template_files_that_fit_nothing_are_told, a_file_whose_name_is_no_text_is_told_on_one_line,
     a_hangup_publishes_what_changed_and_opens_the_log_anew, a_reload_says_what_it_did, a_reload_tells_of_another_configuration,
     the_next_run_has_the_same_site, a_run_has_no_end_without_a_count, a_request_is_answered_before_the_end, a_second_signal_waits_for_nobody,
     a_box_can_be_ended_at_any_moment_of_its_start, a_refused_configuration_is_told_in_words, what_another_holds_ends_the_box_with_its_status,
     a_killed_server_ends_the_box_and_a_killed_child_is_told, orders_that_name_nothing_do_not_come_to_the_server,
-    a_refused_page_has_no_commands_in_it, what_a_box_makes_is_its_users_alone, a_file_that_takes_no_log_is_told_at_once, a_limit_on_the_size_of_files_ends_no_box,
-    systemd_is_told,
+    a_refused_page_has_no_commands_in_it, what_a_box_makes_is_its_users_alone, a_file_that_takes_no_log_is_told_at_once,
+    a_limit_on_the_size_of_files_ends_no_box, systemd_is_told,
     words_that_are_none_are_refused,
 ]

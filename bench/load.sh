@@ -3,10 +3,13 @@
 #   bench/load.sh [OKWS [CONNECTIONS [CLIENTS [DOORS]]]]      at the top of the repository, after make bin and make services; 1000000, 64 and 8
 # First `ab` asks so many times, one request a connection, and each must be answered by 200 and the same length. The server's memory once all are
 # answered is at most a twentieth more than after the first fifth of them. Then `wrk` asks without a pause, and behind three seconds the console is
-# told `stop`: the server ends with 0 within three seconds more, its port is closed, and it has as many requests that came to a service as the two
-# tools had whole answers of 200. It has some connections more, on which a tool asked nothing: wrk looks so whether its address can be reached. The
-# number that `stop` was answered by is that of the connections, and greater by no more than the doors. Clients who were still waiting for a door
-# then had no answer, which wrk counts as errors of its sockets.
+# told `stop`: the server ends with 0 within three seconds more, its port is closed, and it has just as many requests that came to a service as the two
+# tools had whole answers of 200. It has some connections more, on which a tool wrote nothing before it closed them. wrk begins one, to see whether its
+# address can be reached (wrk.connect in its script.c). ab begins connections until it has written all of its requests, and writes nothing on those that
+# are set up behind that (start_connect and write_request in its ab.c): fewer than the clients. How many of these there were, the console tells by
+# `status` before wrk begins; so the number of all connections is known to the last one. The number that `stop` was answered by is that of the
+# connections, and greater by no more than the doors. Clients who were still waiting for a door then had no answer, which wrk counts as errors of its
+# sockets.
 # Needs ab (apache2-utils), wrk and python3. Loopback only, on a port that the system gives. The last line is 'N passed, M failed'.
 set -euo pipefail
 okws=$(readlink -f "${1:-bin/okws}")
@@ -23,6 +26,7 @@ python3 - "$work" "$okws" "${2:-1000000}" "${3:-64}" "${4:-8}" <<'END'
 import re, socket, subprocess, sys, time
 work, okws, many, clients, doors = sys.argv[1], sys.argv[2], int(sys.argv[3]), int(sys.argv[4]), int(sys.argv[5])
 passed = failed = 0
+LISTENS, WAITS = "0A", "06"      # of a listener, and of what has ended and keeps its number for a while
 
 
 def holds(what, is_so):
@@ -51,9 +55,29 @@ def is_open():
         return False
 
 
-def listens():
+def states():
+    """The states of the sockets at the port."""
     with open("/proc/net/tcp") as told:
-        return any(line.split()[1:4:2] == ["0100007F:%04X" % port, "0A"] for line in told.readlines()[1:])
+        return {words[3] for words in map(str.split, told) if words[1] == "0100007F:%04X" % port}
+
+
+def answer(line):
+    """What the console answers."""
+    server.stdin.write(line)
+    server.stdin.flush()
+    return server.stdout.readline().decode().strip()
+
+
+def settled():
+    """How many connections have ended and how many requests came to a service, once no client is connected and no more of either are counted."""
+    before = None
+    for _ in range(120):
+        now = [int(word) for word in answer(b"status\n").split()[1:3]]
+        if now == before and states() <= {LISTENS, WAITS}:
+            break
+        before = now
+        time.sleep(0.5)
+    return now
 
 
 with socket.socket() as some:
@@ -62,7 +86,7 @@ with socket.socket() as some:
 address = f"http://127.0.0.1:{port}/guest"
 server = subprocess.Popen([okws, "serve", "site.okws", "--port", str(port), "--always", "--doors", str(doors)], cwd=work, stdin=subprocess.PIPE, stdout=subprocess.PIPE)
 try:
-    while not listens():
+    while LISTENS not in states():
         if server.poll() is not None:
             sys.exit("the server has ended")
         time.sleep(0.1)
@@ -82,25 +106,29 @@ try:
     holds("each answer was 200, and as long as the first", number(r"Failed requests:\s+(\d+)", account) + number(r"Non-2xx responses:\s+(\d+)", account) == 0)
     holds("the memory is level", len(sizes) >= 10 and resident() <= sizes[1] * 1.05)
 
+    ended, came = settled()
+    silent = ended - many
+    print(f"{ended} connections, {came} requests: ab wrote nothing on {silent} connections", flush=True)
+    holds("each request came to a service", came == many)
+    holds("ab begins fewer connections than it has clients on which it writes nothing", 0 <= silent < clients)
+
     # A stop under load.
     wrk = subprocess.Popen(["wrk", "-t", "2", "-c", str(clients), "-d", "10s", address], stdout=subprocess.PIPE, text=True)
     time.sleep(3)
     begun = time.monotonic()
-    server.stdin.write(b"stop\n")
-    server.stdin.flush()
-    answer = server.stdout.readline()
-    told = number(r"^stopping (\d+)$", answer.decode())
+    stopping = answer(b"stop\n")
+    told = number(r"^stopping (\d+)$", stopping)
     rest, status = server.stdout.read().decode(), server.wait(60)
     took = time.monotonic() - begun
     holds("the port is closed", not is_open())
     account = wrk.communicate()[0]
     whole = many + number(r"(\d+) requests in", account) - number(r"Non-2xx or 3xx responses: (\d+)", account)
     connections, accepts = number(r"connections (\d+)", rest), number(r"accepts (\d+)", rest)
-    print(f"the server ended behind {took:.2f} s, with {status}: {answer.decode().strip()}; connections {connections}, accepts {accepts}; whole answers {whole}")
+    print(f"the server ended behind {took:.2f} s, with {status}: {stopping}; connections {connections}, accepts {accepts}; whole answers {whole}")
     print(" ".join(account.split("\n")[-5:]))
     holds("the run ends with 0 within three seconds", (status, took < 3) == (0, True))
     holds("every request that came to a service was answered whole, and no other", accepts == whole)
-    holds("the other connections are at most as many as the clients: on some the tools ask nothing", whole <= connections <= whole + clients)
+    holds("the other connections are those on which ab wrote nothing, and the one of wrk", connections == whole + silent + 1)
     holds("the number that was told is that of the connections that were begun, with the doors that waited", connections <= told <= connections + doors)
 finally:
     if server.poll() is None:

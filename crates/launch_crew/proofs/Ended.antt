@@ -1,8 +1,7 @@
 -- What is known of a crew's children through its steps: those that run have their links, and those that have ended are known to have.
 use Rattle.std.proofs.Common.{◌≡◌, ◌≢◌, ◌∙◌, ⊎_elim, ℕ, zero, suc, ◌+◌, ◌<◌, ◌≤◌, Bool, true, false, List, [], ◌∷◌, ◌++◌, Option, Some, None, length, refl, sym, ap, subst, arith, eq-eqb}
-use Rattle.std.specs.Prelude.{IsTrue, ◌==◌, ◌&&◌, ◌||◌, is_some, option_map, replicate, slice_set}
-use Rattle.std.specs.List.{list_any}
-use Rattle.std.proofs.lemmas.Bool.{and_from, and_parts, cases_lt, false≢true, or_cases, or_left, or_right}
+use Rattle.std.specs.Prelude.{IsTrue, ◌==◌, ◌&&◌, ◌||◌, is_some, nat_le, option_map, replicate, slice_set}
+use Rattle.std.proofs.lemmas.Bool.{and_from, and_parts, cases_lt, false≢true, le-leb, or_cases, or_left, or_right}
 use mathlib.Core.Logic.{dite}
 use native.Mathlib.Decide.{ℕ_discrete}
 use Rattle.okws_outer.specs.Families.{Family}
@@ -15,7 +14,7 @@ use Rattle.monitor_model.specs.Cell.{last_booted}
 use Rattle.site_cells.proofs.Onlys.{link_else, only_else}
 use Rattle.site_cells.specs.Row.{OnlyAt, link_at, seen_at}
 use Rattle.launch_crew.specs.Crews.{CrewIs, StaffIs, child_of, crew_of, running_at}
-use Rattle.launch_crew.specs.Ended.{Attended, Attends, StaysEnded, ended_at, family_ended, life_ended, tells_ended}
+use Rattle.launch_crew.specs.Ended.{Attended, Attends, StaysEnded, ended_at, ended_since, family_ended, life_ended, tells_ended}
 use Rattle.launch_crew.specs.Recorded.{Recorded}
 use Rattle.launch_crew.specs.Steps.{AsksLife, Empties, Misses, Starts}
 use Rattle.launch_crew.specs.Told.{TellsMore, with_end_of}
@@ -115,57 +114,87 @@ attended_asked s r a answer b asks h t =
 
 -- ---- what was known of ended children still is
 
-any_behind : (test : ChildEnd → Bool) (more before : List ChildEnd) → list_any test before ≡ true → list_any test (more ++ before) ≡ true
-any_behind test [] before h = h
-any_behind test (e ∷ more) before h = or_right (test e) (list_any test (more ++ before)) (any_behind test more before h)
+since_behind : (old s k : ℕ) (more before : List ChildEnd) → ended_since old s k before ≡ true → ended_since old s k (more ++ before) ≡ true
+since_behind old s k [] before h = h
+since_behind old s k (e ∷ more) before h = or_right (nat_le old (length (more ++ before)) && ended_at s k e) (ended_since old s k (more ++ before)) (since_behind old s k more before h)
 
-pub family_stays : (f g : Family) (s k : ℕ) → TellsMore f g → IsTrue (family_ended f s k) → IsTrue (family_ended g s k)
-family_stays f g s k more h = subst (λ ends. list_any (ended_at s k) ends ≡ true) (sym more.finished_is) (any_behind (ended_at s k) more.ends f.finished h)
+longer_behind : (more before : List ChildEnd) → length before ≤ length (more ++ before)
+longer_behind [] before = omega arith
+longer_behind (e ∷ more) before = let rest = longer_behind more before in omega (arith, rest)
+
+-- the children that were finished are as many, or more
+pub more_finished_now : (f g : Family) → TellsMore f g → length f.finished ≤ length g.finished
+more_finished_now f g more = subst (λ (ends : List ChildEnd). length f.finished ≤ length ends) (sym more.finished_is) (longer_behind more.ends f.finished)
+
+pub family_stays : (old : ℕ) (f g : Family) (s k : ℕ) → TellsMore f g → IsTrue (family_ended old f s k) → IsTrue (family_ended old g s k)
+family_stays old f g s k more h = subst (λ ends. ended_since old s k ends ≡ true) (sym more.finished_is) (since_behind old s k more.ends f.finished h)
 
 -- a child still runs, or is told of by what was finished
-still_told : (c d : CrewIs) (s k : ℕ) → TellsMore c.family d.family → (IsTrue (life_ended (child_of c s) k) → IsTrue (tells_ended d s k)) → IsTrue (tells_ended c s k) → IsTrue (tells_ended d s k)
-still_told c d s k more lives told =
-    ⊎_elim lives (λ (h : family_ended c.family s k ≡ true). or_right (life_ended (child_of d s) k) (family_ended d.family s k) (family_stays c.family d.family s k more h))
-    (or_cases (life_ended (child_of c s) k) (family_ended c.family s k) told)
+still_told : (old : ℕ) (c d : CrewIs) (s k : ℕ) → TellsMore c.family d.family → (IsTrue (life_ended (child_of c s) k) → IsTrue (tells_ended old d s k)) → IsTrue (tells_ended old c s k) → IsTrue (tells_ended old d s k)
+still_told old c d s k more lives told =
+    ⊎_elim lives (λ (h : family_ended old c.family s k ≡ true). or_right (life_ended (child_of d s) k) (family_ended old d.family s k) (family_stays old c.family d.family s k more h))
+    (or_cases (life_ended (child_of c s) k) (family_ended old c.family s k) told)
 
-still_runs : (c d : CrewIs) (s k : ℕ) → child_of d s ≡ child_of c s → IsTrue (life_ended (child_of c s) k) → IsTrue (tells_ended d s k)
-still_runs c d s k same h = or_left (life_ended (child_of d s) k) (family_ended d.family s k) (ap (λ (x : Option Life). life_ended x k) same ∙ h)
+still_runs : (old : ℕ) (c d : CrewIs) (s k : ℕ) → child_of d s ≡ child_of c s → IsTrue (life_ended (child_of c s) k) → IsTrue (tells_ended old d s k)
+still_runs old c d s k same h = or_left (life_ended (child_of d s) k) (family_ended old d.family s k) (ap (λ (x : Option Life). life_ended x k) same ∙ h)
 
 none_ended : (child : Option Life) (k : ℕ) → child ≡ None → IsTrue (life_ended child k) → ⊥
 none_ended child k none h = false≢true (sym (ap (λ (x : Option Life). life_ended x k) none) ∙ h)
 
 -- a child that has ended was finished with its link
-ended_finished : (s k last : ℕ) (child : Option Life) (link : Option Wire) (f g : Family) → g ≡ with_end_of child link f → Attends s child (is_some link) last → IsTrue (life_ended child k) → IsTrue (family_ended g s k)
-ended_finished s k last None link f g is attends h = absurd (false≢true h)
-ended_finished s k last (Some life) None f g is attends h = absurd (false≢true attends.1)
-ended_finished s k last (Some life) (Some wire) f g is attends h =
-    subst (λ (x : Family). list_any (ended_at s k) x.finished ≡ true) (sym is)
-    (or_left ((life.service == s) && ((life.incarnation == k) && life.ended)) (list_any (ended_at s k) f.finished) (and_from (life.service == s) ((life.incarnation == k) && life.ended) (eq-eqb life.service s attends.0) h))
+ended_finished : (old s k last : ℕ) (child : Option Life) (link : Option Wire) (f g : Family) → g ≡ with_end_of child link f → old ≤ length f.finished → Attends s child (is_some link) last → IsTrue (life_ended child k) → IsTrue (family_ended old g s k)
+ended_finished old s k last None link f g is since attends h = absurd (false≢true h)
+ended_finished old s k last (Some life) None f g is since attends h = absurd (false≢true attends.1)
+ended_finished old s k last (Some life) (Some wire) f g is since attends h =
+    let ends = (life.service == s) && ((life.incarnation == k) && life.ended) in
+    subst (λ (x : Family). ended_since old s k x.finished ≡ true) (sym is)
+    (or_left (nat_le old (length f.finished) && ends) (ended_since old s k f.finished)
+    (and_from (nat_le old (length f.finished)) ends (le-leb old (length f.finished) since)
+    (and_from (life.service == s) ((life.incarnation == k) && life.ended) (eq-eqb life.service s attends.0) h)))
 
 pub stays_emptied : (s : ℕ) (c d : CrewIs) → Attended c → Empties s c d → StaysEnded c d
-stays_emptied s c d a h t k = still_told c d t k (more_emptied s c d h) (λ lives. dite (ℕ_discrete t s)
-    (λ is. or_right (life_ended (child_of d t) k) (family_ended d.family t k)
-    (subst (λ n. family_ended d.family n k ≡ true) (sym is)
-    (ended_finished s k (last_booted (seen_at c.watch s)) (child_of c s) h.link c.family d.family h.family_is
-    (subst (λ (x : Bool). Attends s (child_of c s) x (last_booted (seen_at c.watch s))) (sym h.link_is) (a s))
-    (subst (λ n. life_ended (child_of c n) k ≡ true) is lives))))
-    (λ apart. still_runs c d t k (child_else s t None c d h.running_is apart) lives))
+stays_emptied s c d a h = record {
+  more = more_finished_now c.family d.family (more_emptied s c d h);
+  told = λ old t k since. still_told old c d t k (more_emptied s c d h) (λ lives. dite (ℕ_discrete t s)
+      (λ is. or_right (life_ended (child_of d t) k) (family_ended old d.family t k)
+      (subst (λ n. family_ended old d.family n k ≡ true) (sym is)
+      (ended_finished old s k (last_booted (seen_at c.watch s)) (child_of c s) h.link c.family d.family h.family_is since
+      (subst (λ (x : Bool). Attends s (child_of c s) x (last_booted (seen_at c.watch s))) (sym h.link_is) (a s))
+      (subst (λ n. life_ended (child_of c n) k ≡ true) is lives))))
+      (λ apart. still_runs old c d t k (child_else s t None c d h.running_is apart) lives));
+}
 
 pub stays_started : (s k : ℕ) (c d : CrewIs) → child_of c s ≡ None → Starts s k c d → StaysEnded c d
-stays_started s i c d none h t k = still_told c d t k h.tries.told (λ lives. dite (ℕ_discrete t s)
-    (λ is. absurd (none_ended (child_of c t) k (ap (child_of c) is ∙ none) lives))
-    (λ apart. still_runs c d t k (child_else s t (Some (new_life s i)) c d h.running_is apart) lives))
+stays_started s i c d none h = record {
+  more = more_finished_now c.family d.family h.tries.told;
+  told = λ old t k since. still_told old c d t k h.tries.told (λ lives. dite (ℕ_discrete t s)
+      (λ is. absurd (none_ended (child_of c t) k (ap (child_of c) is ∙ none) lives))
+      (λ apart. still_runs old c d t k (child_else s t (Some (new_life s i)) c d h.running_is apart) lives));
+}
 
 pub stays_missed : (s k : ℕ) (c d : CrewIs) → Misses s k c d → StaysEnded c d
-stays_missed s i c d h t k = still_told c d t k h.tries.told (still_runs c d t k (ap (λ lives. running_at lives t) h.running_is))
+stays_missed s i c d h = record {
+  more = more_finished_now c.family d.family h.tries.told;
+  told = λ old t k since. still_told old c d t k h.tries.told (still_runs old c d t k (ap (λ lives. running_at lives t) h.running_is));
+}
 
 pub stays_same : (c d : CrewIs) → d.running ≡ c.running → d.family ≡ c.family → StaysEnded c d
-stays_same c d running family s k h =
-    ap (λ (f : Family). life_ended (child_of d s) k || family_ended f s k) family
-    ∙ (ap (λ lives. life_ended (running_at lives s) k || family_ended c.family s k) running ∙ h)
+stays_same c d running family = record {
+  more = more_finished_now c.family d.family (more_same c.family d.family family);
+  told = λ old s k since h.
+      ap (λ (f : Family). life_ended (child_of d s) k || family_ended old f s k) family
+      ∙ (ap (λ lives. life_ended (running_at lives s) k || family_ended old c.family s k) running ∙ h);
+}
 
 pub stays_on : (a b c : CrewIs) → StaysEnded a b → StaysEnded b c → StaysEnded a c
-stays_on a b c h i s k told = i s k (h s k told)
+stays_on a b c h i = record {
+  more = omega (arith, h.more, i.more);
+  told = λ old s k since told. i.told old s k (omega (arith, since, h.more)) (h.told old s k since told);
+}
+
+-- nothing happened yet
+pub stays_here : (c : CrewIs) → StaysEnded c c
+stays_here c = stays_same c c refl refl
 
 -- ---- a child was asked
 
@@ -176,18 +205,22 @@ yes_stays stopped No ended h = h
 yes_stays stopped Failed ended h = h
 
 pub stays_asked : (s : ℕ) (r : Recorded) (a : StaffIs) (answer : Ended) (b : StaffIs) → AsksLife s a answer b → StaysEnded (crew_of r a) (crew_of r b)
-stays_asked s r a answer b asks t k =
+stays_asked s r a answer b asks =
     let running = ap (λ (x : StaffIs). x.running) asks.is in
     let family = ap (λ (x : StaffIs). x.family) asks.is in
-    still_told (crew_of r a) (crew_of r b) t k (more_same a.family b.family family)
-    (λ lives. dite (ℕ_discrete t s)
-    (λ is.
-    let before = asks.before in
-    let h = and_parts (before.incarnation == k) before.ended (sym (ap (λ (x : Option Life). life_ended x k) (ap (running_at a.running) is ∙ asks.was)) ∙ lives) in
-    or_left (life_ended (running_at b.running t) k) (family_ended b.family t k)
-    (ap (λ (x : Option Life). life_ended x k) (ap (running_at b.running) is ∙ (ap (λ lives. running_at lives s) running ∙ some_here a.running s before asks.after asks.was))
-    ∙ (ap (λ (x : Life). (x.incarnation == k) && x.ended) asks.asks.life ∙ and_from (before.incarnation == k) (ended_after before.stopped answer before.ended) h.0 (yes_stays before.stopped answer before.ended h.1))))
-    (λ apart. still_runs (crew_of r a) (crew_of r b) t k (ap (λ lives. running_at lives t) running ∙ here_else a.running s t (Some asks.after) apart) lives))
+    let same = more_same a.family b.family family in
+    record {
+      more = more_finished_now a.family b.family same;
+      told = λ old t k since. still_told old (crew_of r a) (crew_of r b) t k same
+          (λ lives. dite (ℕ_discrete t s)
+          (λ is.
+          let before = asks.before in
+          let h = and_parts (before.incarnation == k) before.ended (sym (ap (λ (x : Option Life). life_ended x k) (ap (running_at a.running) is ∙ asks.was)) ∙ lives) in
+          or_left (life_ended (running_at b.running t) k) (family_ended old b.family t k)
+          (ap (λ (x : Option Life). life_ended x k) (ap (running_at b.running) is ∙ (ap (λ lives. running_at lives s) running ∙ some_here a.running s before asks.after asks.was))
+          ∙ (ap (λ (x : Life). (x.incarnation == k) && x.ended) asks.asks.life ∙ and_from (before.incarnation == k) (ended_after before.stopped answer before.ended) h.0 (yes_stays before.stopped answer before.ended h.1))))
+          (λ apart. still_runs old (crew_of r a) (crew_of r b) t k (ap (λ lives. running_at lives t) running ∙ here_else a.running s t (Some asks.after) apart) lives));
+    }
 
 -- ---- no child runs any more
 
@@ -199,10 +232,10 @@ idle_so_far u c d h before s within = dite (ℕ_discrete s u)
 pub all_idle : (n : ℕ) (lives : List (Option Life)) → length lives ≤ n → ((s : ℕ) → s < n → running_at lives s ≡ None) → (s : ℕ) → running_at lives s ≡ None
 all_idle n lives long idle s = ⊎_elim (λ (h : s < n). idle s h) (λ (h : n ≤ s). none_beyond lives s (omega (arith, long, h))) (cases_lt s n)
 
-pub family_tells : (c : CrewIs) → ((s : ℕ) → child_of c s ≡ None) → (s k : ℕ) → IsTrue (tells_ended c s k) → IsTrue (family_ended c.family s k)
-family_tells c idle s k told =
-    ⊎_elim (λ (h : life_ended (child_of c s) k ≡ true). absurd (none_ended (child_of c s) k (idle s) h)) (λ (h : family_ended c.family s k ≡ true). h)
-    (or_cases (life_ended (child_of c s) k) (family_ended c.family s k) told)
+pub family_tells : (old : ℕ) (c : CrewIs) → ((s : ℕ) → child_of c s ≡ None) → (s k : ℕ) → IsTrue (tells_ended old c s k) → IsTrue (family_ended old c.family s k)
+family_tells old c idle s k told =
+    ⊎_elim (λ (h : life_ended (child_of c s) k ≡ true). absurd (none_ended (child_of c s) k (idle s) h)) (λ (h : family_ended old c.family s k ≡ true). h)
+    (or_cases (life_ended (child_of c s) k) (family_ended old c.family s k) told)
 
 -- whether the link is there, by what it tells
 pub linked_map : {L : Type 0} (f : L → Wire) (link : Option L) → is_some (option_map f link) ≡ is_some link

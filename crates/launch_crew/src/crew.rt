@@ -243,7 +243,7 @@ impl<N: Backed, J: Site, C: CellNames, K: Keeper, S: Sink, F: Children> Crew<N, 
         ensures ends { EndsPieces result.cells.cells self.recorder.own result.own }
         ensures children { (ends : List ChildEnd) × Finishes ends self.staff.family (F.family result.children) }
         ensures all { Attended (crew_of self.recorder self.staff) → EndsAll N.site N.run_seed result.cells (crew_of self.recorder self.staff) (F.family result.children) }
-        ensures ended { Attended (crew_of self.recorder self.staff) → (s k : ℕ) → IsTrue (tells_ended (crew_of self.recorder self.staff) s k) → IsTrue (family_ended (F.family result.children) s k) }
+        ensures ended { Attended (crew_of self.recorder self.staff) → (old s k : ℕ) → old ≤ length self.staff.family.finished → IsTrue (tells_ended old (crew_of self.recorder self.staff) s k) → IsTrue (family_ended old (F.family result.children) s k) }
     {
         let mut crew = self;
         for service in 0..crew.recorder.services() {

@@ -9,7 +9,7 @@ use Rattle.launch_crew.proofs.Emptying.{below_emptied, emptied_so_far}
 use Rattle.site_cells.proofs.Onlys.{only_else}
 use Rattle.okws_outer.specs.Families.{Family}
 use Rattle.launch_crew.specs.Ended.{family_ended}
-use Rattle.launch_crew.proofs.Ended.{all_idle, attended_emptied, family_tells, idle_so_far, stays_emptied, stays_on}
+use Rattle.launch_crew.proofs.Ended.{all_idle, attended_emptied, family_tells, idle_so_far, stays_emptied, stays_here, stays_on}
 use Rattle.launch_crew.specs.Listed.{CellsGo, EndsPieces}
 use Rattle.launch_crew.proofs.Ending.{below_none as none_below, ends_all, ends_next, ends_none}
 use Rattle.launch_crew.specs.Finished.{EndsAll}
@@ -29,7 +29,7 @@ loop-service-init g c = record {
   children = ([], refl);
   idle = λ s less. absurd (none_below s less);
   attended = λ h. h;
-  ended = λ h s k told. told;
+  ended = λ h. stays_here (crew_of c.args.self.recorder c.args.self.staff);
   all = λ h. none_ended_yet g.N.Numbered.site g.N.Numbered.run_seed (crew_of c.args.self.recorder c.args.self.staff);
 }
 
@@ -75,10 +75,11 @@ returns-clause-ends g c =
     (subst (λ (xs : List Own). EndsPieces r.watch.cells c.args.self.recorder.own xs) (sym parts.2) all)
 
 pub returns-clause-ended : goal.returns-clause-ended
-returns-clause-ended g c = λ h s k told.
+returns-clause-ended g c = λ h old s k since told.
     let crew = crew_of c.loop-service.crew.recorder c.loop-service.crew.staff in
     let long : length crew.running ≤ c.loop-service.service = omega (arith, c.fits.ensures.running_are, c.services-service-end.ensures.is, c.loop-service-test.false) in
-    subst (λ (f : Family). family_ended f s k ≡ true) (sym c.into_children.ensures) (family_tells crew (all_idle c.loop-service.service crew.running long c.loop-service.invariant.idle) s k (c.loop-service.invariant.ended h s k told))
+    subst (λ (f : Family). family_ended old f s k ≡ true) (sym c.into_children.ensures)
+    (family_tells old crew (all_idle c.loop-service.service crew.running long c.loop-service.invariant.idle) s k ((c.loop-service.invariant.ended h).told old s k since told))
 
 pub returns-clause-all : goal.returns-clause-all
 returns-clause-all g c = λ h.

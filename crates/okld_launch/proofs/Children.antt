@@ -39,10 +39,10 @@ pub stays_asked : (s : ℕ) (answer : Ended) (r : Recorded) (a b : StaffIs) → 
 stays_asked s answer r a b h = record { attended = attended_asked s r a answer b h; ended = λ at. ended_asked s r a answer b h }
 
 -- a child that runs as incarnation k said that it has ended
-pub asked_yes : (s k : ℕ) (c d : CrewIs) (before after : Life) → child_of c s ≡ Some before → child_of d s ≡ Some after → Asks before after Yes → RunsAs k (child_of c s) → tells_ended d s k ≡ true
-asked_yes s k c d before after was is asks runs =
+pub asked_yes : (s k : ℕ) (c d : CrewIs) (before after : Life) → child_of c s ≡ Some before → child_of d s ≡ Some after → Asks before after Yes → RunsAs k (child_of c s) → (old : ℕ) → tells_ended old d s k ≡ true
+asked_yes s k c d before after was is asks runs old =
     let runs_so : RunsAs k (Some before) = subst (RunsAs k) was runs in
-    or_left (life_ended (child_of d s) k) (family_ended d.family s k)
+    or_left (life_ended (child_of d s) k) (family_ended old d.family s k)
     (subst (λ (child : Option Life). life_ended child k ≡ true) (sym is)
     (and_from (after.incarnation == k) after.ended (eq-eqb after.incarnation k (ap (λ (life : Life). life.incarnation) asks.life ∙ runs_so.0))
     (ap (λ (life : Life). life.ended) asks.life ∙ ap (λ (stopped : Bool). not stopped || before.ended) runs_so.1)))

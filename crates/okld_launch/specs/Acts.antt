@@ -123,61 +123,61 @@ pub record ComesUp {E : Type 0} (s k : ℕ) (answer : Result (Unit {0}) E) (a b 
 -- ---- a launch
 
 -- What was done of the launch a is ended so, and leaves b; `on` tells what was known of a.
-pub record ClosesSo (C : Config) (seed : List ℕ) (on : (ℕ → ℕ → Bool) → (ℕ → ℕ → Bool) → LaunchIs → Type 0) (a : LaunchIs) (answer : Attempt) (b : LauncherIs) : Type 0 where
+pub record ClosesSo (C : Config) (seed : List ℕ) (first : Family) (on : (ℕ → ℕ → Bool) → (ℕ → ℕ → Bool) → LaunchIs → Type 0) (a : LaunchIs) (answer : Attempt) (b : LauncherIs) : Type 0 where
   pub closes : Closes C a.launcher.journal.holder a answer b
-  pub whole : (up ended : ℕ → ℕ → Bool) → on up ended a → IsClosed C seed (attempt_ups a.service answer up) ended b
+  pub whole : (up ended : ℕ → ℕ → Bool) → on up ended a → IsClosed C seed first (attempt_ups a.service answer up) ended b
   pub holder : b.journal.holder ≡ a.launcher.journal.holder
 
 -- One attempt is made at a launch of s.
-pub record AttemptsSo (C : Config) (seed : List ℕ) (s : ℕ) (answer : Attempt) (a b : LauncherIs) : Type 0 where
+pub record AttemptsSo (C : Config) (seed : List ℕ) (first : Family) (s : ℕ) (answer : Attempt) (a b : LauncherIs) : Type 0 where
   pub attempts : Attempts C a.journal.holder s a.journal.past a.crew.family answer b
-  pub whole : (up ended : ℕ → ℕ → Bool) → IsClosed C seed up ended a → IsClosed C seed (attempt_ups s answer up) ended b
+  pub whole : (up ended : ℕ → ℕ → Bool) → IsClosed C seed first up ended a → IsClosed C seed first (attempt_ups s answer up) ended b
   pub holder : b.journal.holder ≡ a.journal.holder
 
 -- A launch of s ends, since no other incarnation may begin, and enters this.
-pub record EndsSo (C : Config) (seed : List ℕ) (s : ℕ) (answer : Launched) (last : Option LauncherEvent) (a b : LauncherIs) : Type 0 where
+pub record EndsSo (C : Config) (seed : List ℕ) (first : Family) (s : ℕ) (answer : Launched) (last : Option LauncherEvent) (a b : LauncherIs) : Type 0 where
   pub ends : Ends C a.journal.holder s a.journal.past answer b
   pub enters : Enters a.journal.holder (option_to_list last) a.journal.past b.journal.past
   pub closing : (t j : ℕ) → is_one (is_crashed_of t j) last ≡ false
   pub down : launch_up answer ≡ false
-  pub whole : (up ended : ℕ → ℕ → Bool) → IsClosed C seed up ended a → IsClosed C seed up ended b
+  pub whole : (up ended : ℕ → ℕ → Bool) → IsClosed C seed first up ended a → IsClosed C seed first up ended b
   pub holder : b.journal.holder ≡ a.journal.holder
 
 -- Service s is given up once more, in a turn that this opened.
-pub record GivesUpSo (C : Config) (seed : List ℕ) (s : ℕ) (opening : LauncherEvent) (answer : Crashed) (events : List LauncherEvent) (a b : LauncherIs) : Type 0 where
+pub record GivesUpSo (C : Config) (seed : List ℕ) (first : Family) (s : ℕ) (opening : LauncherEvent) (answer : Crashed) (events : List LauncherEvent) (a b : LauncherIs) : Type 0 where
   pub again : GivesUpAgain a.journal.holder s a.journal.past answer b
   pub enters : (J : List (Entry LauncherEvent)) → Enters a.journal.holder (option_to_list (Some opening)) J a.journal.past → Enters a.journal.holder events J b.journal.past
   pub few : length events ≤ most_entered C
-  pub whole : (up ended : ℕ → ℕ → Bool) → IsClosed C seed up ended a → IsClosed C seed up ended b
+  pub whole : (up ended : ℕ → ℕ → Bool) → IsClosed C seed first up ended a → IsClosed C seed first up ended b
   pub holder : b.journal.holder ≡ a.journal.holder
 
 -- A turn that this opened goes on with a launch of s.
-pub record GoesSo (C : Config) (seed : List ℕ) (s : ℕ) (opening : Option LauncherEvent) (answer : Launched) (events : List LauncherEvent) (a b : LauncherIs) : Type 0 where
+pub record GoesSo (C : Config) (seed : List ℕ) (first : Family) (s : ℕ) (opening : Option LauncherEvent) (answer : Launched) (events : List LauncherEvent) (a b : LauncherIs) : Type 0 where
   pub goes : Goes C a.journal.holder s a.journal.past a.crew.family answer b
   pub enters : (J : List (Entry LauncherEvent)) → Enters a.journal.holder (option_to_list opening) J a.journal.past → Enters a.journal.holder events J b.journal.past
   pub few : length events ≤ most_entered C
-  pub whole : (up ended : ℕ → ℕ → Bool) → IsClosed C seed up ended a → IsClosed C seed (ups_after (launch_up answer) events up) ended b
+  pub whole : (up ended : ℕ → ℕ → Bool) → IsClosed C seed first up ended a → IsClosed C seed first (ups_after (launch_up answer) events up) ended b
   pub oldest : (t j : ℕ) → is_one (is_crashed_of t j) (oldest events) ≡ is_one (is_crashed_of t j) opening
   pub holder : b.journal.holder ≡ a.journal.holder
 
 -- A turn leaves this, which goes so: whether an incarnation came up in it, and which child has ended by what it tells.
-pub record TurnsSo (Goes : Type 0) (C : Config) (seed : List ℕ) (came : Bool) (ends : (ℕ → ℕ → Bool) → ℕ → ℕ → Bool) (events : List LauncherEvent) (a b : LauncherIs) : Type 0 where
+pub record TurnsSo (Goes : Type 0) (C : Config) (seed : List ℕ) (first : Family) (came : Bool) (ends : (ℕ → ℕ → Bool) → ℕ → ℕ → Bool) (events : List LauncherEvent) (a b : LauncherIs) : Type 0 where
   pub goes : Goes
   pub enters : Enters a.journal.holder events a.journal.past b.journal.past
   pub few : length events ≤ most_entered C
-  pub whole : (up ended : ℕ → ℕ → Bool) → IsClosed C seed up ended a → IsClosed C seed (ups_after came events up) (ends ended) b
+  pub whole : (up ended : ℕ → ℕ → Bool) → IsClosed C seed first up ended a → IsClosed C seed first (ups_after came events up) (ends ended) b
   pub holder : b.journal.holder ≡ a.journal.holder
 
 -- The launch a goes on with its Installs, or breaks off.
-pub record InstallsSo (C : Config) (seed : List ℕ) (a : LaunchIs) (answer : Result LaunchIs LaunchIs) : Type 0 where
+pub record InstallsSo (C : Config) (seed : List ℕ) (first : Family) (a : LaunchIs) (answer : Result LaunchIs LaunchIs) : Type 0 where
   pub ok : IfOk answer (λ b. GoesOn a b)
   pub err : IfErr answer (λ b. GoesOn a b)
-  pub way : IfOk answer (λ b. (up ended : ℕ → ℕ → Bool) → HasCleared C seed up ended a → HasInstalled C seed up ended b)
-  pub broken : IfErr answer (λ b. (up ended : ℕ → ℕ → Bool) → HasCleared C seed up ended a → BreaksOff C seed up ended b)
+  pub way : IfOk answer (λ b. (up ended : ℕ → ℕ → Bool) → HasCleared C seed first up ended a → HasInstalled C seed first up ended b)
+  pub broken : IfErr answer (λ b. (up ended : ℕ → ℕ → Bool) → HasCleared C seed first up ended a → BreaksOff C seed first up ended b)
 
 -- The launch a ends with its incarnation up, or breaks off.
-pub record ComesUpSo (C : Config) (seed : List ℕ) (a : LaunchIs) (answer : Result LauncherIs LaunchIs) : Type 0 where
+pub record ComesUpSo (C : Config) (seed : List ℕ) (first : Family) (a : LaunchIs) (answer : Result LauncherIs LaunchIs) : Type 0 where
   pub ok : IfOk answer (λ l. (l.journal ≡ a.launcher.journal) × (up_in l a.service ≡ a.incarnation))
   pub err : IfErr answer (λ b. GoesOn a b)
-  pub whole : IfOk answer (λ l. (up ended : ℕ → ℕ → Bool) → HasBooted C seed up ended a → IsClosed C seed (with_up a.service a.incarnation up) ended l)
-  pub broken : IfErr answer (λ b. (up ended : ℕ → ℕ → Bool) → HasBooted C seed up ended a → BreaksOff C seed up ended b)
+  pub whole : IfOk answer (λ l. (up ended : ℕ → ℕ → Bool) → HasBooted C seed first up ended a → IsClosed C seed first (with_up a.service a.incarnation up) ended l)
+  pub broken : IfErr answer (λ b. (up ended : ℕ → ℕ → Bool) → HasBooted C seed first up ended a → BreaksOff C seed first up ended b)

@@ -5,6 +5,7 @@ use Rattle.okws_base.specs.declared.journal.Entry.{Entry}
 use Rattle.okws_plan.specs.Configuration.{cols}
 use Rattle.okws_plan.specs.declared.configuration.Config.{Config}
 use Rattle.okws_plan.specs.declared.event.LauncherEvent.{LauncherEvent}
+use Rattle.okws_outer.specs.Families.{Family}
 use Rattle.monitor_model.specs.declared.record.CellEvent.{CellEvent}
 use Rattle.monitor_model.specs.declared.record.Own.{Own}
 use Rattle.monitor_model.specs.declared.record.Record.{Record}
@@ -79,41 +80,41 @@ pub record IsUnderWay (C : Config) (seed : List ℕ) (up : ℕ → ℕ → Bool)
   pub ups_are : UpsAreBegun up J
   pub list_is : items ≡ after_steps steps C seed (of_cells cells) s k (all_pieces C seed (of_cells cells) before fates)
 
--- Which child has ended, by what was asked, is told of the crew.
-abbrev pub EndsAreTold : (ℕ → ℕ → Bool) → CrewIs → Type 0
-EndsAreTold ended c = (s k : ℕ) → IsTrue (ended s k) → IsTrue (tells_ended c s k)
+-- Which child has ended, by what was asked, is told of the crew, and not by a child that had been finished when `first` was told of them.
+abbrev pub EndsAreTold : Family → (ℕ → ℕ → Bool) → CrewIs → Type 0
+EndsAreTold first ended c = (length first.finished ≤ length c.family.finished) × ((s k : ℕ) → IsTrue (ended s k) → IsTrue (tells_ended (length first.finished) c s k))
 
--- No launch is under way: the launcher's list is made of whole pieces. Each child that runs has its cell, and `ended` tells of children that were asked and have ended, which is told of the crew.
-pub record IsClosed (C : Config) (seed : List ℕ) (up ended : ℕ → ℕ → Bool) (l : LauncherIs) : Type 0 where
+-- No launch is under way: the launcher's list is made of whole pieces. Each child that runs has its cell, and `ended` tells of children that were asked since `first` was told of them and have ended, which is told of the crew.
+pub record IsClosed (C : Config) (seed : List ℕ) (first : Family) (up ended : ℕ → ℕ → Bool) (l : LauncherIs) : Type 0 where
   pub whole : IsWhole C seed up l.journal.past l.crew.watch.cells l.crew.own
   pub attended : Attended l.crew
-  pub told : EndsAreTold ended l.crew
+  pub told : EndsAreTold first ended l.crew
 
 -- A launch is under way after so many of its steps, or before it ended what was there.
-pub record IsOnWay (C : Config) (seed : List ℕ) (up ended : ℕ → ℕ → Bool) (steps : Option ℕ) (a : LaunchIs) : Type 0 where
+pub record IsOnWay (C : Config) (seed : List ℕ) (first : Family) (up ended : ℕ → ℕ → Bool) (steps : Option ℕ) (a : LaunchIs) : Type 0 where
   pub way : IsUnderWay C seed up a.service a.incarnation steps a.launcher.journal.past a.launcher.crew.watch.cells a.launcher.crew.own
   pub attended : Attended a.launcher.crew
-  pub told : EndsAreTold ended a.launcher.crew
+  pub told : EndsAreTold first ended a.launcher.crew
 
 -- It is begun, and did nothing yet.
-abbrev pub HasBegun : Config → List ℕ → (ℕ → ℕ → Bool) → (ℕ → ℕ → Bool) → LaunchIs → Type 0
-HasBegun C seed up ended a = IsOnWay C seed up ended None a
+abbrev pub HasBegun : Config → List ℕ → Family → (ℕ → ℕ → Bool) → (ℕ → ℕ → Bool) → LaunchIs → Type 0
+HasBegun C seed first up ended a = IsOnWay C seed first up ended None a
 
 -- It has ended what was there.
-abbrev pub HasCleared : Config → List ℕ → (ℕ → ℕ → Bool) → (ℕ → ℕ → Bool) → LaunchIs → Type 0
-HasCleared C seed up ended a = IsOnWay C seed up ended (Some 0) a
+abbrev pub HasCleared : Config → List ℕ → Family → (ℕ → ℕ → Bool) → (ℕ → ℕ → Bool) → LaunchIs → Type 0
+HasCleared C seed first up ended a = IsOnWay C seed first up ended (Some 0) a
 
 -- It has installed at each column of the service too.
-abbrev pub HasInstalled : Config → List ℕ → (ℕ → ℕ → Bool) → (ℕ → ℕ → Bool) → LaunchIs → Type 0
-HasInstalled C seed up ended a = IsOnWay C seed up ended (Some (length (cols C a.service))) a
+abbrev pub HasInstalled : Config → List ℕ → Family → (ℕ → ℕ → Bool) → (ℕ → ℕ → Bool) → LaunchIs → Type 0
+HasInstalled C seed first up ended a = IsOnWay C seed first up ended (Some (length (cols C a.service))) a
 
 -- It has booted the cell too.
-abbrev pub HasBooted : Config → List ℕ → (ℕ → ℕ → Bool) → (ℕ → ℕ → Bool) → LaunchIs → Type 0
-HasBooted C seed up ended a = IsOnWay C seed up ended (Some (suc (length (cols C a.service)))) a
+abbrev pub HasBooted : Config → List ℕ → Family → (ℕ → ℕ → Bool) → (ℕ → ℕ → Bool) → LaunchIs → Type 0
+HasBooted C seed first up ended a = IsOnWay C seed first up ended (Some (suc (length (cols C a.service)))) a
 
 -- It goes no further.
-abbrev pub BreaksOff : Config → List ℕ → (ℕ → ℕ → Bool) → (ℕ → ℕ → Bool) → LaunchIs → Type 0
-BreaksOff C seed up ended a = (n : ℕ) × IsOnWay C seed up ended (Some n) a
+abbrev pub BreaksOff : Config → List ℕ → Family → (ℕ → ℕ → Bool) → (ℕ → ℕ → Bool) → LaunchIs → Type 0
+BreaksOff C seed first up ended a = (n : ℕ) × IsOnWay C seed first up ended (Some n) a
 
 -- What came up after an attempt at a launch of s, by its answer.
 abbrev pub attempt_ups : ℕ → Attempted → (ℕ → ℕ → Bool) → ℕ → ℕ → Bool

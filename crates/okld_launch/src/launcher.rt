@@ -101,7 +101,7 @@ impl<N: Staffed, J: Site, C: CellNames, K: Keeper, S: Sink, F: Children + Drop> 
         requires site { arc_value site ≡ N.site }
         requires seed { seed ≡ N.run_seed }
         ensures ok { IfOk result (λ l. (l.journal ≡ journal) × (l.crew ≡ crew_of crew.recorder crew.staff)) }
-        ensures closed { IfOk result (λ l. IsClosed N.site N.run_seed (λ s k. false) (λ s k. false) l) }
+        ensures closed { IfOk result (λ l. IsClosed N.site N.run_seed N.children (λ s k. false) (λ s k. false) l) }
         ensures err { IfErr result (λ c. c ≡ crew) }
     {
         let services = crew.recorder.services();
@@ -140,7 +140,7 @@ impl<N: Staffed, J: Site, C: CellNames, K: Keeper, S: Sink, F: Children> Launche
         ensures caused { AllCaused (came_up result.1.recorder.sat) result.0 result.0 }
         ensures below { (s : ℕ) → Below s (begun result.0 s) result.1.recorder.sat result.1.recorder.watch }
         ensures shown { (s : ℕ) → s < length N.site.services → slice_index result.1.recorder.sat.board s ≡ begun result.0 s }
-        ensures whole { (up ended : ℕ → ℕ → Bool) → IsClosed N.site N.run_seed up ended self → IsWhole N.site N.run_seed up result.0 result.1.recorder.watch.cells result.1.recorder.own }
+        ensures whole { (up ended : ℕ → ℕ → Bool) → IsClosed N.site N.run_seed N.children up ended self → IsWhole N.site N.run_seed up result.0 result.1.recorder.watch.cells result.1.recorder.own }
         ensures spare { length N.site.services ≤ result.1.recorder.room }
     {
         let Launcher {

@@ -38,7 +38,7 @@ impl<N: Staffed, J: Site, C: CellNames, K: Keeper, S: Sink, F: Children> Booted<
         rt: &R,
         locks: &Locks<N, J, K, S>,
     ) -> (Launcher<N, J, C, K, S, F>, Attempt)
-        ensures { ClosesSo N.site N.run_seed (HasBooted N.site N.run_seed) self result.1 result.0 }
+        ensures { ClosesSo N.site N.run_seed N.children (HasBooted N.site N.run_seed N.children) self result.1 result.0 }
     {
         let incarnation = self.incarnation;
         match self.up(rt, locks) {
@@ -63,7 +63,7 @@ impl<N: Staffed, J: Site, C: CellNames, K: Keeper, S: Sink, F: Children> Install
         locks: &Locks<N, J, K, S>,
         cells: &CellLocks<N, C, Noted<N, J, K, S, F>>,
     ) -> (Launcher<N, J, C, K, S, F>, Attempt)
-        ensures { ClosesSo N.site N.run_seed (HasInstalled N.site N.run_seed) self result.1 result.0 }
+        ensures { ClosesSo N.site N.run_seed N.children (HasInstalled N.site N.run_seed N.children) self result.1 result.0 }
     {
         let Installed {
             mut launcher,
@@ -102,7 +102,7 @@ impl<N: Staffed, J: Site, C: CellNames, K: Keeper, S: Sink, F: Children> Revoked
         locks: &Locks<N, J, K, S>,
         cells: &CellLocks<N, C, Noted<N, J, K, S, F>>,
     ) -> (Launcher<N, J, C, K, S, F>, Attempt)
-        ensures { ClosesSo N.site N.run_seed (HasCleared N.site N.run_seed) self result.1 result.0 }
+        ensures { ClosesSo N.site N.run_seed N.children (HasCleared N.site N.run_seed N.children) self result.1 result.0 }
     {
         match self.install(rt, locks) {
             Ok(installed) => installed.close(rt, locks, cells),
@@ -119,7 +119,7 @@ impl<N: Staffed, J: Site, C: CellNames, K: Keeper, S: Sink, F: Children> Quiet<N
         locks: &Locks<N, J, K, S>,
         cells: &CellLocks<N, C, Noted<N, J, K, S, F>>,
     ) -> (Launcher<N, J, C, K, S, F>, Attempt)
-        ensures { ClosesSo N.site N.run_seed (HasBegun N.site N.run_seed) self result.1 result.0 }
+        ensures { ClosesSo N.site N.run_seed N.children (HasBegun N.site N.run_seed N.children) self result.1 result.0 }
     {
         self.revoke(rt, locks, cells).close(rt, locks, cells)
     }
@@ -179,7 +179,7 @@ impl<N: Staffed, J: Site, C: CellNames, K: Keeper, S: Sink, F: Children> Launche
         requires service { service < length N.site.services }
         requires may { Allows N.site self.journal.past service next.Begin }
         requires cause { MayLaunch service self }
-        ensures { AttemptsSo N.site N.run_seed service result.1 self result.0 }
+        ensures { AttemptsSo N.site N.run_seed N.children service result.1 self result.0 }
     {
         let mut launcher = self;
         let Ok(()) = launcher.reserve() else {
@@ -199,7 +199,7 @@ impl<N: Staffed, J: Site, C: CellNames, K: Keeper, S: Sink, F: Children> Launche
         requires service { service < length N.site.services }
         requires allows { Allows N.site self.journal.past service what }
         requires no_more { what ≢ next.Begin }
-        ensures { EndsSo N.site N.run_seed service result.1 result.2 self result.0 }
+        ensures { EndsSo N.site N.run_seed N.children service result.1 result.2 self result.0 }
     {
         let mut launcher = self;
         match what {
@@ -221,7 +221,7 @@ impl<N: Staffed, J: Site, C: CellNames, K: Keeper, S: Sink, F: Children> Launche
         requires service { service < length N.site.services }
         requires dead { is_some (given_up self.journal.past service) ≡ true }
         requires fell { fell self.journal.past service ≡ true }
-        ensures { GivesUpSo N.site N.run_seed service crash result.1 result.2 self result.0 }
+        ensures { GivesUpSo N.site N.run_seed N.children service crash result.1 result.2 self result.0 }
     {
         let mut launcher = self;
         launcher.keeps();
@@ -251,7 +251,7 @@ impl<N: Staffed, J: Site, C: CellNames, K: Keeper, S: Sink, F: Children> Launche
     ) -> (Self, Launched, Entered)
         requires service { service < length N.site.services }
         requires cause { MayLaunch service self }
-        ensures { GoesSo N.site N.run_seed service opening result.1 result.2 self result.0 }
+        ensures { GoesSo N.site N.run_seed N.children service opening result.1 result.2 self result.0 }
     {
         let mut launcher = self;
         launcher.keeps();
@@ -298,7 +298,7 @@ impl<N: Staffed, J: Site, C: CellNames, K: Keeper, S: Sink, F: Children> Launche
         ensures goes { Goes N.site self.journal.holder service self.journal.past self.crew.family result.1 result.0 }
         ensures enters { Enters self.journal.holder result.2 self.journal.past result.0.journal.past }
         ensures few { length result.2 ≤ most_entered N.site }
-        ensures whole { (up ended : ℕ → ℕ → Bool) → IsClosed N.site N.run_seed up ended self → IsClosed N.site N.run_seed (ups_after (launch_up result.1) result.2 up) ended result.0 }
+        ensures whole { (up ended : ℕ → ℕ → Bool) → IsClosed N.site N.run_seed N.children up ended self → IsClosed N.site N.run_seed N.children (ups_after (launch_up result.1) result.2 up) ended result.0 }
         ensures holder { result.0.journal.holder ≡ self.journal.holder }
     {
         self.keeps();
@@ -319,7 +319,7 @@ impl<N: Staffed, J: Site, C: CellNames, K: Keeper, S: Sink, F: Children> Launche
         ensures goes { GoesAsked N.site self.journal.holder service self.journal.past self.crew.family result.1 result.0 }
         ensures enters { Enters self.journal.holder result.2 self.journal.past result.0.journal.past }
         ensures few { length result.2 ≤ most_entered N.site }
-        ensures whole { (up ended : ℕ → ℕ → Bool) → IsClosed N.site N.run_seed up ended self → IsClosed N.site N.run_seed (ups_after (launch_up result.1) result.2 up) ended result.0 }
+        ensures whole { (up ended : ℕ → ℕ → Bool) → IsClosed N.site N.run_seed N.children up ended self → IsClosed N.site N.run_seed N.children (ups_after (launch_up result.1) result.2 up) ended result.0 }
         ensures holder { result.0.journal.holder ≡ self.journal.holder }
     {
         let mut launcher = self;
@@ -350,7 +350,7 @@ impl<N: Staffed, J: Site, C: CellNames, K: Keeper, S: Sink, F: Children> Launche
         ensures goes { GoesCrashed N.site self.journal.holder service incarnation self.journal.past self.crew.family result.1 result.0 }
         ensures enters { Enters self.journal.holder result.2 self.journal.past result.0.journal.past }
         ensures few { length result.2 ≤ most_entered N.site }
-        ensures whole { (up ended : ℕ → ℕ → Bool) → IsClosed N.site N.run_seed up ended self → IsClosed N.site N.run_seed (ups_after (crash_up result.1) result.2 up) ended result.0 }
+        ensures whole { (up ended : ℕ → ℕ → Bool) → IsClosed N.site N.run_seed N.children up ended self → IsClosed N.site N.run_seed N.children (ups_after (crash_up result.1) result.2 up) ended result.0 }
         ensures holder { result.0.journal.holder ≡ self.journal.holder }
     {
         self.note_crash(rt, gate, locks, cells, service, incarnation)
@@ -369,7 +369,7 @@ impl<N: Staffed, J: Site, C: CellNames, K: Keeper, S: Sink, F: Children> Launche
         requires service { service < length N.site.services }
         requires counted { 0 < incarnation }
         requires begun { incarnation ≤ begun self.journal.past service }
-        ensures { TurnsSo (GoesCrashed N.site self.journal.holder service incarnation self.journal.past self.crew.family result.1 result.0) N.site N.run_seed (crash_up result.1) (λ ended. ended) result.2 self result.0 }
+        ensures { TurnsSo (GoesCrashed N.site self.journal.holder service incarnation self.journal.past self.crew.family result.1 result.0) N.site N.run_seed N.children (crash_up result.1) (λ ended. ended) result.2 self result.0 }
     {
         let mut launcher = self;
         if launcher.make_room(1).is_err() {

@@ -121,7 +121,7 @@ impl<N: Staffed, J: Site, C: CellNames, K: Keeper, S: Sink, F: Children> Quiet<N
         cells: &CellLocks<N, C, Noted<N, J, K, S, F>>,
     ) -> Revoked<N, J, C, K, S, F>
         ensures on { GoesOn self result }
-        ensures way { (up ended : ℕ → ℕ → Bool) → HasBegun N.site N.run_seed up ended self → HasCleared N.site N.run_seed up ended result }
+        ensures way { (up ended : ℕ → ℕ → Bool) → HasBegun N.site N.run_seed N.children up ended self → HasCleared N.site N.run_seed N.children up ended result }
     {
         let Quiet {
             mut launcher,
@@ -144,7 +144,7 @@ impl<N: Staffed, J: Site, C: CellNames, K: Keeper, S: Sink, F: Children> Revoked
         rt: &R,
         locks: &Locks<N, J, K, S>,
     ) -> Result<Installed<N, J, C, K, S, F>, Broken<N, J, C, K, S, F>>
-        ensures { InstallsSo N.site N.run_seed self result }
+        ensures { InstallsSo N.site N.run_seed N.children self result }
     {
         let Revoked {
             mut launcher,
@@ -173,7 +173,7 @@ impl<N: Staffed, J: Site, C: CellNames, K: Keeper, S: Sink, F: Children> Booted<
         rt: &R,
         locks: &Locks<N, J, K, S>,
     ) -> Result<Launcher<N, J, C, K, S, F>, Broken<N, J, C, K, S, F>>
-        ensures { ComesUpSo N.site N.run_seed self result }
+        ensures { ComesUpSo N.site N.run_seed N.children self result }
     {
         let Booted {
             mut launcher,
@@ -199,7 +199,7 @@ impl<N: Staffed, J: Site, C: CellNames, K: Keeper, S: Sink, F: Children> Broken<
         ensures journal { result.journal ≡ entered self.launcher.journal (event.Failed self.service self.incarnation) }
         ensures family { result.crew.family ≡ self.launcher.crew.family }
         ensures down { up_in result self.service ≡ 0 }
-        ensures whole { (up ended : ℕ → ℕ → Bool) → HasInstalled N.site N.run_seed up ended self → IsClosed N.site N.run_seed up ended result }
+        ensures whole { (up ended : ℕ → ℕ → Bool) → HasInstalled N.site N.run_seed N.children up ended self → IsClosed N.site N.run_seed N.children up ended result }
     {
         let Broken {
             mut launcher,
@@ -218,7 +218,7 @@ impl<N: Staffed, J: Site, C: CellNames, K: Keeper, S: Sink, F: Children> Broken<
     ) -> Launcher<N, J, C, K, S, F>
         ensures journal { result.journal ≡ self.launcher.journal }
         ensures out { IsOut N.site self.service result }
-        ensures whole { (up ended : ℕ → ℕ → Bool) → BreaksOff N.site N.run_seed up ended self → IsClosed N.site N.run_seed up ended result }
+        ensures whole { (up ended : ℕ → ℕ → Bool) → BreaksOff N.site N.run_seed N.children up ended self → IsClosed N.site N.run_seed N.children up ended result }
     {
         let Broken {
             mut launcher,

@@ -46,7 +46,7 @@ impl<N: Staffed, J: Site, C: CellNames, K: Keeper, S: Sink, F: Children> Launche
         ensures goes { GoesTended N.site self.journal.holder service self result.1 result.0 }
         ensures enters { Enters self.journal.holder result.2 self.journal.past result.0.journal.past }
         ensures few { length result.2 ≤ most_entered N.site }
-        ensures whole { (up ended : ℕ → ℕ → Bool) → IsClosed N.site N.run_seed up ended self → IsClosed N.site N.run_seed (ups_after (tend_up result.1) result.2 up) (ends_after true result.2 ended) result.0 }
+        ensures whole { (up ended : ℕ → ℕ → Bool) → IsClosed N.site N.run_seed N.children up ended self → IsClosed N.site N.run_seed N.children (ups_after (tend_up result.1) result.2 up) (ends_after true result.2 ended) result.0 }
         ensures holder { result.0.journal.holder ≡ self.journal.holder }
     {
         self.tend_service(rt, gate, locks, cells, service)
@@ -62,7 +62,7 @@ impl<N: Staffed, J: Site, C: CellNames, K: Keeper, S: Sink, F: Children> Launche
         service: u16,
     ) -> (Self, Tended, Entered)
         requires { service < length N.site.services }
-        ensures { TurnsSo (GoesTended N.site self.journal.holder service self result.1 result.0) N.site N.run_seed (tend_up result.1) (ends_after true result.2) result.2 self result.0 }
+        ensures { TurnsSo (GoesTended N.site self.journal.holder service self result.1 result.0) N.site N.run_seed N.children (tend_up result.1) (ends_after true result.2) result.2 self result.0 }
     {
         let mut launcher = self;
         launcher.keeps();
@@ -111,7 +111,7 @@ impl<N: Staffed, J: Site, C: CellNames, K: Keeper, S: Sink, F: Children> Launche
         ensures goes { GoesIf N.site self.journal.holder service self result.1 result.0 }
         ensures enters { Enters self.journal.holder result.2 self.journal.past result.0.journal.past }
         ensures few { length result.2 ≤ most_entered N.site }
-        ensures whole { (up ended : ℕ → ℕ → Bool) → IsClosed N.site N.run_seed up ended self → IsClosed N.site N.run_seed (ups_after (launch_up_if result.1) result.2 up) ended result.0 }
+        ensures whole { (up ended : ℕ → ℕ → Bool) → IsClosed N.site N.run_seed N.children up ended self → IsClosed N.site N.run_seed N.children (ups_after (launch_up_if result.1) result.2 up) ended result.0 }
         ensures holder { result.0.journal.holder ≡ self.journal.holder }
     {
         match self.up_now(service) {

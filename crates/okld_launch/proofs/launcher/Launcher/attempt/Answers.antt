@@ -26,7 +26,7 @@ begin-incarnation-requires-clause-cause g c =
 pub returns-in_default : goal.returns-in_default
 returns-in_default g c = record {
   attempts = inl (ap (λ (x : LauncherIs). x.journal.past) c.reserve.ensures.same);
-  whole = λ up ended whole. closed_roomier g.N.Numbered.site g.N.Numbered.run_seed up ended c.args.self c.reserve.new.self c.reserve.new.self.journal.room c.reserve.new.self.crew.room c.reserve.ensures.same whole;
+  whole = λ up ended whole. closed_roomier g.N.Numbered.site g.N.Numbered.run_seed g.N.Staffed.children up ended c.args.self c.reserve.new.self c.reserve.new.self.journal.room c.reserve.new.self.crew.room c.reserve.ensures.same whole;
   holder = ap (λ (x : LauncherIs). x.journal.holder) c.reserve.ensures.same;
 }
 
@@ -52,8 +52,8 @@ returns g c =
           (subst (λ (n : ℕ). Closes C n (launch_of m s k) c.close.result.1 c.close.result.0) here c.close.ensures.closes);
       whole = λ up ended whole.
           let m = c.begin-incarnation.new.self in
-          let reserved = closed_roomier g.N.Numbered.site g.N.Numbered.run_seed up ended c.args.self c.reserve.new.self c.reserve.new.self.journal.room c.reserve.new.self.crew.room c.reserve.ensures.same whole in
-          c.close.ensures.whole up ended (way_opens g.N.Numbered.site g.N.Numbered.run_seed up ended c.reserve.new.self m c.args.service c.begin-incarnation.result c.begin-incarnation.ensures.is c.begin-incarnation.ensures.journal c.begin-incarnation.ensures.list.0
+          let reserved = closed_roomier g.N.Numbered.site g.N.Numbered.run_seed g.N.Staffed.children up ended c.args.self c.reserve.new.self c.reserve.new.self.journal.room c.reserve.new.self.crew.room c.reserve.ensures.same whole in
+          c.close.ensures.whole up ended (way_opens g.N.Numbered.site g.N.Numbered.run_seed g.N.Staffed.children up ended c.reserve.new.self m c.args.service c.begin-incarnation.result c.begin-incarnation.ensures.is c.begin-incarnation.ensures.journal c.begin-incarnation.ensures.list.0
           (record { watch_is = c.begin-incarnation.ensures.list.1; running_is = c.begin-incarnation.ensures.running; family_is = c.begin-incarnation.ensures.family }) reserved);
       holder = c.close.ensures.holder ∙ here;
     }

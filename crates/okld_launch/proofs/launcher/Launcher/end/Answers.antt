@@ -10,7 +10,7 @@ returns-in-Ok g c = record {
   enters = c.in-Ok.ensures.entered;
   closing = λ t j. refl;
   down = refl;
-  whole = λ up ended whole. closed_given g.N.Numbered.site g.N.Numbered.run_seed up ended c.args.self c.give_up.new.self c.give_up.result c.args.service c.give_up.ensures.entered c.give_up.ensures.err c.give_up.ensures.same whole;
+  whole = λ up ended whole. closed_given g.N.Numbered.site g.N.Numbered.run_seed g.N.Staffed.children up ended c.args.self c.give_up.new.self c.give_up.result c.args.service c.give_up.ensures.entered c.give_up.ensures.err c.give_up.ensures.same whole;
   holder = c.give_up.ensures.holder;
 }
 
@@ -20,7 +20,7 @@ returns-in-Err g c = record {
   enters = c.in-Err.ensures.err;
   closing = λ t j. refl;
   down = refl;
-  whole = λ up ended whole. closed_given g.N.Numbered.site g.N.Numbered.run_seed up ended c.args.self c.give_up.new.self c.give_up.result c.args.service c.give_up.ensures.entered c.give_up.ensures.err c.give_up.ensures.same whole;
+  whole = λ up ended whole. closed_given g.N.Numbered.site g.N.Numbered.run_seed g.N.Staffed.children up ended c.args.self c.give_up.new.self c.give_up.result c.args.service c.give_up.ensures.entered c.give_up.ensures.err c.give_up.ensures.same whole;
   holder = c.give_up.ensures.holder;
 }
 

@@ -11,7 +11,7 @@ returns-in-Ok g c = record {
   again = (c.in-Ok.ensures.tries, c.in-Ok.ensures.entered);
   enters = search rules;
   few = search rules;
-  whole = λ up ended whole. closed_given g.N.Numbered.site g.N.Numbered.run_seed up ended c.args.self c.give_up.new.self c.give_up.result c.args.service c.give_up.ensures.entered c.give_up.ensures.err c.give_up.ensures.same whole;
+  whole = λ up ended whole. closed_given g.N.Numbered.site g.N.Numbered.run_seed g.N.Staffed.children up ended c.args.self c.give_up.new.self c.give_up.result c.args.service c.give_up.ensures.entered c.give_up.ensures.err c.give_up.ensures.same whole;
   holder = c.give_up.ensures.holder;
 }
 
@@ -20,6 +20,6 @@ returns-in-Err g c = record {
   again = c.in-Err.ensures.err;
   enters = search rules;
   few = search rules;
-  whole = λ up ended whole. closed_given g.N.Numbered.site g.N.Numbered.run_seed up ended c.args.self c.give_up.new.self c.give_up.result c.args.service c.give_up.ensures.entered c.give_up.ensures.err c.give_up.ensures.same whole;
+  whole = λ up ended whole. closed_given g.N.Numbered.site g.N.Numbered.run_seed g.N.Staffed.children up ended c.args.self c.give_up.new.self c.give_up.result c.args.service c.give_up.ensures.entered c.give_up.ensures.err c.give_up.ensures.same whole;
   holder = c.give_up.ensures.holder;
 }

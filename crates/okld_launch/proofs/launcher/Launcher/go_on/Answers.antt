@@ -41,7 +41,7 @@ loop-what-preserved g c =
       c.next-what-in-loop-what.ensures,
       omega (arith, below, fell_begun C w s c.loop-what.failed J f m.journal.past m.crew.family inv.0),
       failed_may w s m.journal.past after failed.0,
-      λ up ended whole. subst (λ (x : Attempt). IsClosed C g.N.Numbered.run_seed (attempt_ups s x up) ended after) c.in-Failed.is (c.attempt-after.ensures.whole up ended (inv.5 up ended whole)),
+      λ up ended whole. subst (λ (x : Attempt). IsClosed C g.N.Numbered.run_seed g.N.Staffed.children (attempt_ups s x up) ended after) c.in-Failed.is (c.attempt-after.ensures.whole up ended (inv.5 up ended whole)),
     )
 
 pub loop-what-smaller : goal.loop-what-smaller
@@ -84,8 +84,8 @@ returns-in-Up g c = record {
   whole = λ up ended whole.
       let C = g.N.Numbered.site in
       let after = c.attempt-after.result.0 in
-      let h = subst (λ (x : Attempt). IsClosed C g.N.Numbered.run_seed (attempt_ups c.args.service x up) ended after) c.in-Up.is (c.attempt-after.ensures.whole up ended (c.loop-what.invariant.5 up ended whole)) in
-      subst (λ (events : List LauncherEvent). IsClosed C g.N.Numbered.run_seed (ups_after true events up) ended after) (sym c.new-entered.ensures) h;
+      let h = subst (λ (x : Attempt). IsClosed C g.N.Numbered.run_seed g.N.Staffed.children (attempt_ups c.args.service x up) ended after) c.in-Up.is (c.attempt-after.ensures.whole up ended (c.loop-what.invariant.5 up ended whole)) in
+      subst (λ (events : List LauncherEvent). IsClosed C g.N.Numbered.run_seed g.N.Staffed.children (ups_after true events up) ended after) (sym c.new-entered.ensures) h;
   oldest = λ t j.
       subst (λ (events : List LauncherEvent). is_one (is_crashed_of t j) (oldest events) ≡ is_one (is_crashed_of t j) c.args.opening) (sym c.new-entered.ensures)
       (oldest_of t j c.args.opening c.args.service (c.greatest-first.result + 1) c.loop-what.failed (Some (event.Begun c.args.service c.in-Up.incarnation)) refl);
@@ -123,7 +123,7 @@ returns-in-NoMemory g c = record {
       few_as g.N.Numbered.site c.args.self.journal.holder c.args.service c.loop-what.failed c.greatest-first.result c.args.self.journal.past c.args.self.crew.family m.journal.past m.crew.family c.args.opening c.last_begun-begun.result c.new-entered-in-NoMemory.result
       c.new-entered-in-NoMemory.ensures c.greatest-first.ensures.is c.keeps.ensures.is.tried_are c.loop-what.invariant.0;
   whole = λ up ended whole.
-      subst (λ (x : Attempt). IsClosed g.N.Numbered.site g.N.Numbered.run_seed (attempt_ups c.args.service x up) ended c.attempt-after.result.0) c.in-NoMemory.is (c.attempt-after.ensures.whole up ended (c.loop-what.invariant.5 up ended whole));
+      subst (λ (x : Attempt). IsClosed g.N.Numbered.site g.N.Numbered.run_seed g.N.Staffed.children (attempt_ups c.args.service x up) ended c.attempt-after.result.0) c.in-NoMemory.is (c.attempt-after.ensures.whole up ended (c.loop-what.invariant.5 up ended whole));
   oldest = λ t j.
       let s = c.args.service in
       let k = c.greatest-first.result + 1 + c.loop-what.failed in
@@ -145,7 +145,7 @@ returns g c = record {
       few_as g.N.Numbered.site c.args.self.journal.holder c.args.service c.loop-what.failed c.greatest-first.result c.args.self.journal.past c.args.self.crew.family m.journal.past m.crew.family c.args.opening c.end-launcher.result.2 c.new-entered-2.result
       c.new-entered-2.ensures c.greatest-first.ensures.is c.keeps.ensures.is.tried_are c.loop-what.invariant.0;
   whole = λ up ended whole.
-      subst (λ (b : Bool). IsClosed g.N.Numbered.site g.N.Numbered.run_seed (ups_after b c.new-entered-2.result up) ended c.end-launcher.result.0) (sym c.end-launcher.ensures.down) (c.end-launcher.ensures.whole up ended (c.loop-what.invariant.5 up ended whole));
+      subst (λ (b : Bool). IsClosed g.N.Numbered.site g.N.Numbered.run_seed g.N.Staffed.children (ups_after b c.new-entered-2.result up) ended c.end-launcher.result.0) (sym c.end-launcher.ensures.down) (c.end-launcher.ensures.whole up ended (c.loop-what.invariant.5 up ended whole));
   oldest = λ t j.
       subst (λ (events : List LauncherEvent). is_one (is_crashed_of t j) (oldest events) ≡ is_one (is_crashed_of t j) c.args.opening) (sym c.new-entered-2.ensures)
       (oldest_of t j c.args.opening c.args.service (c.greatest-first.result + 1) c.loop-what.failed c.end-launcher.result.2 (c.end-launcher.ensures.closing t j));

@@ -13,7 +13,7 @@ invariant-loop-what g l =
     × (l.launcher.journal.holder ≡ l.fn.self.journal.holder) × Allows g.N.Numbered.site l.launcher.journal.past l.service l.what
     × (begun l.fn.self.journal.past l.service + 1 + l.failed ≤ MOST_INCARNATIONS + 1)
     × MayLaunch l.service l.launcher
-    × ((up ended : ℕ → ℕ → Bool) → IsClosed g.N.Numbered.site g.N.Numbered.run_seed up ended l.fn.self → IsClosed g.N.Numbered.site g.N.Numbered.run_seed up ended l.launcher)
+    × ((up ended : ℕ → ℕ → Bool) → IsClosed g.N.Numbered.site g.N.Numbered.run_seed g.N.Staffed.children up ended l.fn.self → IsClosed g.N.Numbered.site g.N.Numbered.run_seed g.N.Staffed.children up ended l.launcher)
 
 abbrev pub decreases-loop-what : goal.decreases-loop-what
 decreases-loop-what g l = MOST_INCARNATIONS - begun l.launcher.journal.past l.service

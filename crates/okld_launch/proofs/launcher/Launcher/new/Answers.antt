@@ -5,8 +5,8 @@ use Rattle.okld_launch.proofs.Failing.{none_failed}
 use Rattle.okld_launch.proofs.Kin.{kin_none}
 use Rattle.okld_launch.proofs.KinChange.{idle_of}
 use Rattle.okld_launch.proofs.Caused.{unused_caused}
+use Rattle.okld_launch.proofs.OnWay.{told_first}
 use Rattle.okld_launch.proofs.Pieces.{whole_none}
-use Rattle.std.proofs.lemmas.Bool.{false≢true}
 use Rattle.launch_crew.specs.Crews.{crew_of}
 use Rattle.okld_launch.proofs.Faults.{no_faults}
 use Rattle.okld_launch.proofs.launcher.Launcher.new.Goals as goal
@@ -29,5 +29,5 @@ pub returns-clause-closed : goal.returns-clause-closed
 returns-clause-closed g c = record {
   whole = whole_none g.N.Numbered.site g.N.Numbered.run_seed (λ s k. false) c.args.journal.past c.args.crew.recorder.watch.cells c.args.crew.recorder.own c.requires.none c.requires.unused.none (λ s k. refl);
   attended = c.requires.attended;
-  told = λ s k h. absurd (false≢true h);
+  told = told_first g.N.Staffed.children (crew_of c.args.crew.recorder c.args.crew.staff) c.requires.children;
 }

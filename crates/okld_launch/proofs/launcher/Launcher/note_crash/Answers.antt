@@ -24,7 +24,7 @@ returns-then-is_err g c = record {
   goes = search rules;
   enters = search rules;
   few = search rules;
-  whole = λ up ended whole. closed_roomy g.N.Numbered.site g.N.Numbered.run_seed up ended c.args.self c.make_room.new.self c.make_room.new.self.journal.room c.make_room.ensures.same whole;
+  whole = λ up ended whole. closed_roomy g.N.Numbered.site g.N.Numbered.run_seed g.N.Staffed.children up ended c.args.self c.make_room.new.self c.make_room.new.self.journal.room c.make_room.ensures.same whole;
   holder = search rules;
 }
 
@@ -33,7 +33,7 @@ returns-then-incarnation-greatest g c = record {
   goes = search rules;
   enters = search rules;
   few = search rules;
-  whole = λ up ended whole. closed_entered g.N.Numbered.site g.N.Numbered.run_seed up ended c.make_room.new.self c.crash-crash.new.self (event.Crashed c.args.service c.args.incarnation) tt c.crash-crash.ensures.entered (closed_roomy g.N.Numbered.site g.N.Numbered.run_seed up ended c.args.self c.make_room.new.self c.make_room.new.self.journal.room c.make_room.ensures.same whole);
+  whole = λ up ended whole. closed_entered g.N.Numbered.site g.N.Numbered.run_seed g.N.Staffed.children up ended c.make_room.new.self c.crash-crash.new.self (event.Crashed c.args.service c.args.incarnation) tt c.crash-crash.ensures.entered (closed_roomy g.N.Numbered.site g.N.Numbered.run_seed g.N.Staffed.children up ended c.args.self c.make_room.new.self c.make_room.new.self.journal.room c.make_room.ensures.same whole);
   holder = search rules;
 }
 
@@ -53,8 +53,8 @@ returns-then-is_some g c = record {
       let l = c.crash-crash.new.self in
       let a = c.give_up_again.result in
       let down = again_down l.journal.holder c.args.service l.journal.past a.1 a.0 c.give_up_again.ensures.again in
-      subst (λ (b : Bool). IsClosed g.N.Numbered.site g.N.Numbered.run_seed (ups_after b a.2 up) ended a.0) (sym down)
-      (c.give_up_again.ensures.whole up ended (closed_entered g.N.Numbered.site g.N.Numbered.run_seed up ended c.make_room.new.self c.crash-crash.new.self (event.Crashed c.args.service c.args.incarnation) tt c.crash-crash.ensures.entered (closed_roomy g.N.Numbered.site g.N.Numbered.run_seed up ended c.args.self c.make_room.new.self c.make_room.new.self.journal.room c.make_room.ensures.same whole)));
+      subst (λ (b : Bool). IsClosed g.N.Numbered.site g.N.Numbered.run_seed g.N.Staffed.children (ups_after b a.2 up) ended a.0) (sym down)
+      (c.give_up_again.ensures.whole up ended (closed_entered g.N.Numbered.site g.N.Numbered.run_seed g.N.Staffed.children up ended c.make_room.new.self c.crash-crash.new.self (event.Crashed c.args.service c.args.incarnation) tt c.crash-crash.ensures.entered (closed_roomy g.N.Numbered.site g.N.Numbered.run_seed g.N.Staffed.children up ended c.args.self c.make_room.new.self c.make_room.new.self.journal.room c.make_room.ensures.same whole)));
   holder = search rules;
 }
 
@@ -73,7 +73,7 @@ returns g c = record {
   few = search rules;
   whole = λ up ended whole.
       let a = c.go_on-launcher.result in
-      subst (λ (b : Bool). IsClosed g.N.Numbered.site g.N.Numbered.run_seed (ups_after b a.2 up) ended a.0) (sym (ap crash_up c.crashed_as.ensures ∙ crash_as a.1))
-      (c.go_on-launcher.ensures.whole up ended (closed_entered g.N.Numbered.site g.N.Numbered.run_seed up ended c.make_room.new.self c.crash-crash.new.self (event.Crashed c.args.service c.args.incarnation) tt c.crash-crash.ensures.entered (closed_roomy g.N.Numbered.site g.N.Numbered.run_seed up ended c.args.self c.make_room.new.self c.make_room.new.self.journal.room c.make_room.ensures.same whole)));
+      subst (λ (b : Bool). IsClosed g.N.Numbered.site g.N.Numbered.run_seed g.N.Staffed.children (ups_after b a.2 up) ended a.0) (sym (ap crash_up c.crashed_as.ensures ∙ crash_as a.1))
+      (c.go_on-launcher.ensures.whole up ended (closed_entered g.N.Numbered.site g.N.Numbered.run_seed g.N.Staffed.children up ended c.make_room.new.self c.crash-crash.new.self (event.Crashed c.args.service c.args.incarnation) tt c.crash-crash.ensures.entered (closed_roomy g.N.Numbered.site g.N.Numbered.run_seed g.N.Staffed.children up ended c.args.self c.make_room.new.self c.make_room.new.self.journal.room c.make_room.ensures.same whole)));
   holder = search rules;
 }

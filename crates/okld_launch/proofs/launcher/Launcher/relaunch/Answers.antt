@@ -20,9 +20,9 @@ go_on-requires-clause-cause g c =
     subst (MayLaunch s) (sym c.ask-asked.ensures.entered) (asked_follows (came_up m.crew.sat) (entered m.journal (event.Asked s)).past m.journal.past m.journal.holder s (begun m.journal.past s))
 
 pub returns-then-is_err-clause-whole : goal.returns-then-is_err-clause-whole
-returns-then-is_err-clause-whole g c = λ up ended whole. closed_roomy g.N.Numbered.site g.N.Numbered.run_seed up ended c.args.self c.make_room.new.self c.make_room.new.self.journal.room c.make_room.ensures.same whole
+returns-then-is_err-clause-whole g c = λ up ended whole. closed_roomy g.N.Numbered.site g.N.Numbered.run_seed g.N.Staffed.children up ended c.args.self c.make_room.new.self c.make_room.new.self.journal.room c.make_room.ensures.same whole
 
 pub returns-clause-whole : goal.returns-clause-whole
 returns-clause-whole g c = λ up ended whole.
-    let roomy = closed_roomy g.N.Numbered.site g.N.Numbered.run_seed up ended c.args.self c.make_room.new.self c.make_room.new.self.journal.room c.make_room.ensures.same whole in
-    c.go_on.ensures.whole up ended (closed_entered g.N.Numbered.site g.N.Numbered.run_seed up ended c.make_room.new.self c.ask-asked.new.self (event.Asked c.args.service) tt c.ask-asked.ensures.entered roomy)
+    let roomy = closed_roomy g.N.Numbered.site g.N.Numbered.run_seed g.N.Staffed.children up ended c.args.self c.make_room.new.self c.make_room.new.self.journal.room c.make_room.ensures.same whole in
+    c.go_on.ensures.whole up ended (closed_entered g.N.Numbered.site g.N.Numbered.run_seed g.N.Staffed.children up ended c.make_room.new.self c.ask-asked.new.self (event.Asked c.args.service) tt c.ask-asked.ensures.entered roomy)

@@ -1,4 +1,4 @@
-use Rattle.std.proofs.Common.{rules, ◌∙◌, sym, ap, subst, inl, ℕ, Bool, true, List}
+use Rattle.std.proofs.Common.{rules, ◌∙◌, sym, ap, subst, inl, ℕ, Bool, true, List, length}
 use Rattle.okws_plan.specs.declared.event.LauncherEvent.TheVariants as event
 use Rattle.monitor_model.specs.Causes.{is_crashed_of}
 use Rattle.launch_crew.specs.Coming.{came_up}
@@ -30,7 +30,7 @@ returns-in-Some g c = record {
   enters = search rules;
   few = search rules;
   whole = λ up ended whole.
-      subst (λ (events : List LauncherEvent). IsClosed g.N.Numbered.site g.N.Numbered.run_seed up (ends_after true events ended) c.args.self) (sym c.nothing.ensures) whole;
+      subst (λ (events : List LauncherEvent). IsClosed g.N.Numbered.site g.N.Numbered.run_seed g.N.Staffed.children up (ends_after true events ended) c.args.self) (sym c.nothing.ensures) whole;
   holder = search rules;
 }
 
@@ -47,9 +47,10 @@ returns-in_default-up_now g c = record {
   whole = λ up ended whole.
       let C = g.N.Numbered.site in
       let seed = g.N.Numbered.run_seed in
+      let first = g.N.Staffed.children in
       let a = c.go_on-launcher.result in
-      subst (λ (b : Bool). IsClosed C seed (ups_after b a.2 up) (ends_after true a.2 ended) a.0) (sym (ap tend_up c.tended_as.ensures ∙ tend_as a.1))
-      (subst (λ (e : ℕ → ℕ → Bool). IsClosed C seed (ups_after (launch_up a.1) a.2 up) e a.0) (sym (ends_none a.2 ended c.go_on-launcher.ensures.oldest)) (c.go_on-launcher.ensures.whole up ended whole));
+      subst (λ (b : Bool). IsClosed C seed first (ups_after b a.2 up) (ends_after true a.2 ended) a.0) (sym (ap tend_up c.tended_as.ensures ∙ tend_as a.1))
+      (subst (λ (e : ℕ → ℕ → Bool). IsClosed C seed first (ups_after (launch_up a.1) a.2 up) e a.0) (sym (ends_none a.2 ended c.go_on-launcher.ensures.oldest)) (c.go_on-launcher.ensures.whole up ended whole));
   holder = search rules;
 }
 
@@ -59,8 +60,8 @@ returns-in-No g c = record {
   enters = search rules;
   few = search rules;
   whole = λ up ended whole.
-      let asked = closed_asked g.N.Numbered.site g.N.Numbered.run_seed up ended c.args.self c.ended.new.self c.ended.ensures.same c.ended.ensures.stays whole in
-      subst (λ (events : List LauncherEvent). IsClosed g.N.Numbered.site g.N.Numbered.run_seed up (ends_after true events ended) c.ended.new.self) (sym c.nothing-in-No.ensures) asked;
+      let asked = closed_asked g.N.Numbered.site g.N.Numbered.run_seed g.N.Staffed.children up ended c.args.self c.ended.new.self c.ended.ensures.same c.ended.ensures.stays whole in
+      subst (λ (events : List LauncherEvent). IsClosed g.N.Numbered.site g.N.Numbered.run_seed g.N.Staffed.children up (ends_after true events ended) c.ended.new.self) (sym c.nothing-in-No.ensures) asked;
   holder = search rules;
 }
 
@@ -70,9 +71,9 @@ returns-then-is_err g c = record {
   enters = search rules;
   few = search rules;
   whole = λ up ended whole.
-      let asked = closed_asked g.N.Numbered.site g.N.Numbered.run_seed up ended c.args.self c.ended.new.self c.ended.ensures.same c.ended.ensures.stays whole in
-      let roomy = closed_roomy g.N.Numbered.site g.N.Numbered.run_seed up ended c.ended.new.self c.make_room.new.self c.make_room.new.self.journal.room c.make_room.ensures.same asked in
-      subst (λ (events : List LauncherEvent). IsClosed g.N.Numbered.site g.N.Numbered.run_seed up (ends_after true events ended) c.make_room.new.self) (sym c.nothing-then-is_err.ensures) roomy;
+      let asked = closed_asked g.N.Numbered.site g.N.Numbered.run_seed g.N.Staffed.children up ended c.args.self c.ended.new.self c.ended.ensures.same c.ended.ensures.stays whole in
+      let roomy = closed_roomy g.N.Numbered.site g.N.Numbered.run_seed g.N.Staffed.children up ended c.ended.new.self c.make_room.new.self c.make_room.new.self.journal.room c.make_room.ensures.same asked in
+      subst (λ (events : List LauncherEvent). IsClosed g.N.Numbered.site g.N.Numbered.run_seed g.N.Staffed.children up (ends_after true events ended) c.make_room.new.self) (sym c.nothing-then-is_err.ensures) roomy;
   holder = search rules;
 }
 
@@ -91,16 +92,17 @@ returns g c = record {
   whole = λ up ended whole.
       let C = g.N.Numbered.site in
       let seed = g.N.Numbered.run_seed in
+      let first = g.N.Staffed.children in
       let s = c.args.service in
       let k = c.in-Some-up_now.incarnation in
       let a = c.go_on-launcher-2.result in
-      let asked = closed_asked g.N.Numbered.site g.N.Numbered.run_seed up ended c.args.self c.ended.new.self c.ended.ensures.same c.ended.ensures.stays whole in
-      let yes = told_yes C s k c.args.self c.ended.new.self c.in-Yes.ensures.asks c.in-Some-up_now.ensures.some.0 c.in-Some-up_now.ensures.some.1 c.keeps.ensures.is in
-      let said = closed_ended C seed up ended c.ended.new.self s k yes asked in
-      let roomy = closed_roomy C seed up (with_up s k ended) c.ended.new.self c.make_room.new.self c.make_room.new.self.journal.room c.make_room.ensures.same said in
-      let crashed = closed_entered C seed up (with_up s k ended) c.make_room.new.self c.crash-crash.new.self (event.Crashed s k) tt c.crash-crash.ensures.entered roomy in
+      let asked = closed_asked g.N.Numbered.site g.N.Numbered.run_seed g.N.Staffed.children up ended c.args.self c.ended.new.self c.ended.ensures.same c.ended.ensures.stays whole in
+      let yes = told_yes C s k c.args.self c.ended.new.self c.in-Yes.ensures.asks c.in-Some-up_now.ensures.some.0 c.in-Some-up_now.ensures.some.1 c.keeps.ensures.is (length first.finished) in
+      let said = closed_ended C seed first up ended c.ended.new.self s k yes asked in
+      let roomy = closed_roomy C seed first up (with_up s k ended) c.ended.new.self c.make_room.new.self c.make_room.new.self.journal.room c.make_room.ensures.same said in
+      let crashed = closed_entered C seed first up (with_up s k ended) c.make_room.new.self c.crash-crash.new.self (event.Crashed s k) tt c.crash-crash.ensures.entered roomy in
       let went = c.go_on-launcher-2.ensures.whole up (with_up s k ended) crashed in
-      subst (λ (b : Bool). IsClosed C seed (ups_after b a.2 up) (ends_after true a.2 ended) a.0) (sym (ap tend_up c.tended_as-2.ensures ∙ tend_as a.1))
-      (subst (λ (e : ℕ → ℕ → Bool). IsClosed C seed (ups_after (launch_up a.1) a.2 up) e a.0) (sym (ends_crashed a.2 ended s k (λ t j. c.go_on-launcher-2.ensures.oldest t j ∙ ap (is_crashed_of t j) c.crash-crash.ensures.is))) went);
+      subst (λ (b : Bool). IsClosed C seed first (ups_after b a.2 up) (ends_after true a.2 ended) a.0) (sym (ap tend_up c.tended_as-2.ensures ∙ tend_as a.1))
+      (subst (λ (e : ℕ → ℕ → Bool). IsClosed C seed first (ups_after (launch_up a.1) a.2 up) e a.0) (sym (ends_crashed a.2 ended s k (λ t j. c.go_on-launcher-2.ensures.oldest t j ∙ ap (is_crashed_of t j) c.crash-crash.ensures.is))) went);
   holder = search rules;
 }

@@ -6,7 +6,7 @@ use Rattle.okld_launch.proofs.states.Booted.close.Goals as goal
 pub returns-in-Ok : goal.returns-in-Ok
 returns-in-Ok g c = record {
   closes = search rules;
-  whole = λ up ended way. subst (λ (a : LaunchIs). IsClosed g.N.Numbered.site g.N.Numbered.run_seed (with_up c.args.self.service a.incarnation up) ended c.in-Ok.launcher) (sym c.self.view_is) (c.in-Ok.ensures.whole up ended way);
+  whole = λ up ended way. subst (λ (a : LaunchIs). IsClosed g.N.Numbered.site g.N.Numbered.run_seed g.N.Staffed.children (with_up c.args.self.service a.incarnation up) ended c.in-Ok.launcher) (sym c.self.view_is) (c.in-Ok.ensures.whole up ended way);
   holder = search rules;
 }
 

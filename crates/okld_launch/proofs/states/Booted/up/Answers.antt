@@ -13,9 +13,9 @@ returns-in-Ok g c = record {
   ok = search rules;
   err = tt;
   whole = λ up ended way.
-      let h = subst (HasBooted g.N.Numbered.site g.N.Numbered.run_seed up ended) (sym c.self.view_is) way in
-      subst (λ (a : LaunchIs). IsClosed g.N.Numbered.site g.N.Numbered.run_seed (with_up a.service a.incarnation up) ended c.up.new.self) c.self.view_is
-      (closes_up g.N.Numbered.site g.N.Numbered.run_seed up ended c.self.inside.launcher c.up.new.self c.self.inside.service c.self.inside.incarnation c.up.ensures.journal (stays_same c.self.inside.launcher.crew c.up.new.self.crew c.up.ensures.running c.up.ensures.cells c.up.ensures.family) c.up.ensures.cells c.in-Ok.ensures.added h);
+      let h = subst (HasBooted g.N.Numbered.site g.N.Numbered.run_seed g.N.Staffed.children up ended) (sym c.self.view_is) way in
+      subst (λ (a : LaunchIs). IsClosed g.N.Numbered.site g.N.Numbered.run_seed g.N.Staffed.children (with_up a.service a.incarnation up) ended c.up.new.self) c.self.view_is
+      (closes_up g.N.Numbered.site g.N.Numbered.run_seed g.N.Staffed.children up ended c.self.inside.launcher c.up.new.self c.self.inside.service c.self.inside.incarnation c.up.ensures.journal (stays_same c.self.inside.launcher.crew c.up.new.self.crew c.up.ensures.running c.up.ensures.cells c.up.ensures.family) c.up.ensures.cells c.in-Ok.ensures.added h);
   broken = tt;
 }
 
@@ -27,5 +27,5 @@ returns-in-Err g c = record {
   whole = tt;
   broken = λ up ended way.
       let n = suc (length (cols g.N.Numbered.site c.self.inside.service)) in
-      (n, way_same g.N.Numbered.site g.N.Numbered.run_seed up ended c.self.inside.launcher c.up.new.self c.self.inside.service c.self.inside.incarnation c.up.ensures.journal (stays_same c.self.inside.launcher.crew c.up.new.self.crew c.up.ensures.running c.up.ensures.cells c.up.ensures.family) c.up.ensures.cells c.in-Err.ensures.kept n (subst (HasBooted g.N.Numbered.site g.N.Numbered.run_seed up ended) (sym c.self.view_is) way));
+      (n, way_same g.N.Numbered.site g.N.Numbered.run_seed g.N.Staffed.children up ended c.self.inside.launcher c.up.new.self c.self.inside.service c.self.inside.incarnation c.up.ensures.journal (stays_same c.self.inside.launcher.crew c.up.new.self.crew c.up.ensures.running c.up.ensures.cells c.up.ensures.family) c.up.ensures.cells c.in-Err.ensures.kept n (subst (HasBooted g.N.Numbered.site g.N.Numbered.run_seed g.N.Staffed.children up ended) (sym c.self.view_is) way));
 }

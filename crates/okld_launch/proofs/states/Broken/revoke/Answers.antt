@@ -15,5 +15,5 @@ returns-clause-out g c = subst (λ (x : LaunchIs). IsOut g.N.Numbered.site x.ser
 
 pub returns-clause-whole : goal.returns-clause-whole
 returns-clause-whole g c = λ up ended way.
-    let h = subst (BreaksOff g.N.Numbered.site g.N.Numbered.run_seed up ended) (sym c.self.view_is) way in
-    closes_off g.N.Numbered.site g.N.Numbered.run_seed up ended c.self.inside.launcher c.revoke.new.self c.self.inside.service c.self.inside.incarnation c.revoke.ensures.journal (stays_same c.self.inside.launcher.crew c.revoke.new.self.crew c.revoke.ensures.running c.revoke.ensures.cells c.revoke.ensures.family) c.revoke.ensures.cells c.revoke.ensures.own h.0 h.1
+    let h = subst (BreaksOff g.N.Numbered.site g.N.Numbered.run_seed g.N.Staffed.children up ended) (sym c.self.view_is) way in
+    closes_off g.N.Numbered.site g.N.Numbered.run_seed g.N.Staffed.children up ended c.self.inside.launcher c.revoke.new.self c.self.inside.service c.self.inside.incarnation c.revoke.ensures.journal (stays_same c.self.inside.launcher.crew c.revoke.new.self.crew c.revoke.ensures.running c.revoke.ensures.cells c.revoke.ensures.family) c.revoke.ensures.cells c.revoke.ensures.own h.0 h.1

@@ -39,6 +39,7 @@ pub returns-in-Ok : goal.returns-in-Ok
 returns-in-Ok g c =
     let C = g.N.Numbered.site in
     let seed = g.N.Numbered.run_seed in
+    let first = g.N.Staffed.children in
     let old = c.self.inside.launcher in
     let new = c.start.new.self in
     let s = c.self.inside.service in
@@ -47,8 +48,8 @@ returns-in-Ok g c =
     let on = subst (λ (x : LaunchIs). GoesOn x (launch_of new s k)) c.self.view_is (goes_on old new s k c.start.ensures.journal c.start.ensures.told) in
     record {
       closes = closes_on C c.args.self (launch_of new s k) a.1 a.0 on c.close.ensures.closes;
-      whole = λ up ended way. closes_as C seed up ended c.args.self (launch_of new s k) a.1 a.0 on
-          (c.close.ensures.whole up ended (way_starts C seed up ended old new s k c.start.ensures.journal (c.start.ensures.stays c.self.invariant.child) c.start.ensures.behind c.start.ensures.counted c.in-Ok.ensures.added (subst (HasInstalled C seed up ended) (sym c.self.view_is) way)));
+      whole = λ up ended way. closes_as C seed first up ended c.args.self (launch_of new s k) a.1 a.0 on
+          (c.close.ensures.whole up ended (way_starts C seed first up ended old new s k c.start.ensures.journal (c.start.ensures.stays c.self.invariant.child) c.start.ensures.behind c.start.ensures.counted c.in-Ok.ensures.added (subst (HasInstalled C seed first up ended) (sym c.self.view_is) way)));
       holder = c.close.ensures.holder ∙ ap (λ (j : Launches). j.holder) on.journal_is;
     }
 
@@ -56,6 +57,7 @@ pub returns-in-Failed : goal.returns-in-Failed
 returns-in-Failed g c =
     let C = g.N.Numbered.site in
     let seed = g.N.Numbered.run_seed in
+    let first = g.N.Staffed.children in
     let old = c.self.inside.launcher in
     let new = c.start.new.self in
     let s = c.self.inside.service in
@@ -68,7 +70,7 @@ returns-in-Failed g c =
         c.fail.ensures.down,
       );
       whole = λ up ended way. c.fail.ensures.whole up ended
-          (way_misses C seed up ended old new s k c.start.ensures.journal (c.start.ensures.stays c.self.invariant.child) c.start.ensures.behind c.start.ensures.counted c.in-Err.ensures.kept (length (cols C s)) (subst (HasInstalled C seed up ended) (sym c.self.view_is) way));
+          (way_misses C seed first up ended old new s k c.start.ensures.journal (c.start.ensures.stays c.self.invariant.child) c.start.ensures.behind c.start.ensures.counted c.in-Err.ensures.kept (length (cols C s)) (subst (HasInstalled C seed first up ended) (sym c.self.view_is) way));
       holder = ap (λ (j : Launches). j.holder) c.fail.ensures.journal ∙ (ap (λ (j : Launches). j.holder) same ∙ ap (λ (x : LaunchIs). x.launcher.journal.holder) c.self.view_is);
     }
 
@@ -76,6 +78,7 @@ pub returns-in-NoMemory : goal.returns-in-NoMemory
 returns-in-NoMemory g c =
     let C = g.N.Numbered.site in
     let seed = g.N.Numbered.run_seed in
+    let first = g.N.Staffed.children in
     let old = c.self.inside.launcher in
     let new = c.start.new.self in
     let s = c.self.inside.service in
@@ -84,6 +87,6 @@ returns-in-NoMemory g c =
     record {
       closes = subst (λ (x : LaunchIs). Closes C x.launcher.journal.holder x attempt.NoMemory c.revoke.result) c.self.view_is (ap (λ (j : Launches). j.past) same, c.revoke.ensures.out);
       whole = λ up ended way. c.revoke.ensures.whole up ended
-          (length (cols C s), way_misses C seed up ended old new s k c.start.ensures.journal (c.start.ensures.stays c.self.invariant.child) c.start.ensures.behind c.start.ensures.counted c.in-Err.ensures.kept (length (cols C s)) (subst (HasInstalled C seed up ended) (sym c.self.view_is) way));
+          (length (cols C s), way_misses C seed first up ended old new s k c.start.ensures.journal (c.start.ensures.stays c.self.invariant.child) c.start.ensures.behind c.start.ensures.counted c.in-Err.ensures.kept (length (cols C s)) (subst (HasInstalled C seed first up ended) (sym c.self.view_is) way));
       holder = ap (λ (j : Launches). j.holder) same ∙ ap (λ (x : LaunchIs). x.launcher.journal.holder) c.self.view_is;
     }

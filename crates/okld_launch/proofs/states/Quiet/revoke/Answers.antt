@@ -26,4 +26,4 @@ pub clear-requires-clause-cause : goal.clear-requires-clause-cause
 clear-requires-clause-cause g c = broke_may c.self.inside.service c.self.inside.incarnation c.self.inside.launcher c.self.invariant.begins.begun_is c.self.invariant.fresh
 
 pub returns-clause-way : goal.returns-clause-way
-returns-clause-way g c = λ up ended way. way_clears g.N.Numbered.site g.N.Numbered.run_seed up ended c.self.inside.launcher c.clear.new.self c.self.inside.service c.self.inside.incarnation c.clear.ensures.journal c.clear.ensures.stays c.clear.ensures.own c.clear.ensures.behind c.clear.ensures.counted (subst (HasBegun g.N.Numbered.site g.N.Numbered.run_seed up ended) (sym c.self.view_is) way)
+returns-clause-way g c = λ up ended way. way_clears g.N.Numbered.site g.N.Numbered.run_seed g.N.Staffed.children up ended c.self.inside.launcher c.clear.new.self c.self.inside.service c.self.inside.incarnation c.clear.ensures.journal c.clear.ensures.stays c.clear.ensures.own c.clear.ensures.behind c.clear.ensures.counted (subst (HasBegun g.N.Numbered.site g.N.Numbered.run_seed g.N.Staffed.children up ended) (sym c.self.view_is) way)

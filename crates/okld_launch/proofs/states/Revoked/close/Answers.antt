@@ -6,7 +6,7 @@ use Rattle.okld_launch.proofs.states.Revoked.close.Goals as goal
 pub returns-in-Ok : goal.returns-in-Ok
 returns-in-Ok g c = record {
   closes = closes_on g.N.Numbered.site c.args.self c.in-Ok.installed c.close.result.1 c.close.result.0 c.in-Ok.ensures.ok c.close.ensures.closes;
-  whole = λ up ended way. closes_as g.N.Numbered.site g.N.Numbered.run_seed up ended c.args.self c.in-Ok.installed c.close.result.1 c.close.result.0 c.in-Ok.ensures.ok (c.close.ensures.whole up ended (c.in-Ok.ensures.way up ended way));
+  whole = λ up ended way. closes_as g.N.Numbered.site g.N.Numbered.run_seed g.N.Staffed.children up ended c.args.self c.in-Ok.installed c.close.result.1 c.close.result.0 c.in-Ok.ensures.ok (c.close.ensures.whole up ended (c.in-Ok.ensures.way up ended way));
   holder = search rules;
 }
 

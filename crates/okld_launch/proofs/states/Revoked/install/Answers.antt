@@ -12,8 +12,8 @@ returns-in-Ok g c = record {
   ok = subst (λ (x : LaunchIs). GoesOn x (launch_of c.install.new.self c.self.inside.service c.self.inside.incarnation)) c.self.view_is
       (goes_on c.self.inside.launcher c.install.new.self c.self.inside.service c.self.inside.incarnation c.install.ensures.journal (more_same c.self.inside.launcher.crew.family c.install.new.self.crew.family c.install.ensures.hands.family_is));
   err = tt;
-  way = λ up ended way. way_places g.N.Numbered.site g.N.Numbered.run_seed up ended c.self.inside.launcher c.install.new.self c.self.inside.service c.self.inside.incarnation c.install.ensures.journal (hands_stay c.self.inside.launcher.crew c.install.new.self.crew c.install.ensures.hands)
-      c.install.ensures.hands.watch_is c.in-Ok.ensures.added (subst (HasCleared g.N.Numbered.site g.N.Numbered.run_seed up ended) (sym c.self.view_is) way);
+  way = λ up ended way. way_places g.N.Numbered.site g.N.Numbered.run_seed g.N.Staffed.children up ended c.self.inside.launcher c.install.new.self c.self.inside.service c.self.inside.incarnation c.install.ensures.journal (hands_stay c.self.inside.launcher.crew c.install.new.self.crew c.install.ensures.hands)
+      c.install.ensures.hands.watch_is c.in-Ok.ensures.added (subst (HasCleared g.N.Numbered.site g.N.Numbered.run_seed g.N.Staffed.children up ended) (sym c.self.view_is) way);
   broken = tt;
 }
 
@@ -25,5 +25,5 @@ returns-in-Err g c = record {
   way = tt;
   broken = λ up ended way.
       let f = c.in-Err.ensures.front in
-      (length f.1.done, way_fronts g.N.Numbered.site g.N.Numbered.run_seed up ended c.self.inside.launcher c.install.new.self c.self.inside.service c.self.inside.incarnation c.install.ensures.journal (hands_stay c.self.inside.launcher.crew c.install.new.self.crew c.install.ensures.hands) c.install.ensures.hands.watch_is f.0 f.1 (subst (HasCleared g.N.Numbered.site g.N.Numbered.run_seed up ended) (sym c.self.view_is) way));
+      (length f.1.done, way_fronts g.N.Numbered.site g.N.Numbered.run_seed g.N.Staffed.children up ended c.self.inside.launcher c.install.new.self c.self.inside.service c.self.inside.incarnation c.install.ensures.journal (hands_stay c.self.inside.launcher.crew c.install.new.self.crew c.install.ensures.hands) c.install.ensures.hands.watch_is f.0 f.1 (subst (HasCleared g.N.Numbered.site g.N.Numbered.run_seed g.N.Staffed.children up ended) (sym c.self.view_is) way));
 }

@@ -52,13 +52,13 @@ impl<N: Staffed, J: Site, C: CellNames, K: Keeper, S: Sink, F: Children> Model
 
     ghost view = { λ r. record { launcher = r.launcher; deeds = r.deeds.past } };
 
-    ghost invariant = { λ r. Rests N.site N.run_seed r.deeds.past r.launcher };
+    ghost invariant = { λ r. Rests N.site N.run_seed N.children r.deeds.past r.launcher };
 }
 
 impl<N: Staffed, J: Site, C: CellNames, K: Keeper, S: Sink, F: Children> Resting<N, J, C, K, S, F> {
     /// The launcher as it rests behind these turns.
     pub(crate) fn new(launcher: Launcher<N, J, C, K, S, F>, deeds: Deeds) -> Self
-        requires { Rests N.site N.run_seed deeds.past launcher }
+        requires { Rests N.site N.run_seed N.children deeds.past launcher }
         ensures { result ≡ record { launcher = launcher; deeds = deeds.past } }
     {
         Resting { launcher, deeds }
@@ -67,7 +67,7 @@ impl<N: Staffed, J: Site, C: CellNames, K: Keeper, S: Sink, F: Children> Resting
     /// A launcher at which nothing was launched.
     pub(crate) fn first(launcher: Launcher<N, J, C, K, S, F>) -> Self
         requires none { launcher.journal.past ≡ [] }
-        requires closed { IsClosed N.site N.run_seed (λ s k. false) (λ s k. false) launcher }
+        requires closed { IsClosed N.site N.run_seed N.children (λ s k. false) (λ s k. false) launcher }
         ensures { result ≡ record { launcher = launcher; deeds = [] } }
     {
         Resting::new(launcher, Deeds::new())
@@ -79,7 +79,7 @@ impl<N: Staffed, J: Site, C: CellNames, K: Keeper, S: Sink, F: Children> Resting
         deeds: &Deeds,
         took: &Took<'_>,
     ) -> Self
-        requires { Rests N.site N.run_seed (record { worker = took.now.worker; entered = took.now.entered.now; up = took.now.up; tended = took.now.tended } ∷ deeds.now.past) launcher }
+        requires { Rests N.site N.run_seed N.children (record { worker = took.now.worker; entered = took.now.entered.now; up = took.now.up; tended = took.now.tended } ∷ deeds.now.past) launcher }
         ensures { result ≡ record { launcher = launcher; deeds = record { worker = took.now.worker; entered = took.now.entered.now; up = took.now.up; tended = took.now.tended } ∷ deeds.now.past } }
     {
         Resting {
@@ -92,7 +92,7 @@ impl<N: Staffed, J: Site, C: CellNames, K: Keeper, S: Sink, F: Children> Resting
     pub(crate) fn into_parts(self) -> (Launcher<N, J, C, K, S, F>, Deeds)
         ensures launcher { result.0 ≡ self.launcher }
         ensures deeds { result.1.past ≡ self.deeds }
-        ensures rests { Rests N.site N.run_seed result.1.past result.0 }
+        ensures rests { Rests N.site N.run_seed N.children result.1.past result.0 }
     {
         let Resting { launcher, deeds } = self;
         (launcher, deeds)
@@ -102,7 +102,7 @@ impl<N: Staffed, J: Site, C: CellNames, K: Keeper, S: Sink, F: Children> Resting
     /// was not begun, of whose children a fault was told for each Failed and for each dialog that ended by a
     /// fault of a link that is out, and whose list is whole pieces.
     /// What was begun has its cause, what came up did so as the turns tell, and of each child that has
-    /// ended by what they tell, that is told of the children.
+    /// ended by what they tell, that is told of the children that were finished in this run or run.
     pub fn close(
         self,
     ) -> (
@@ -122,7 +122,7 @@ impl<N: Staffed, J: Site, C: CellNames, K: Keeper, S: Sink, F: Children> Resting
         ensures shown { (s : ℕ) → s < length N.site.services → slice_index result.1.recorder.sat.board s ≡ begun result.0 s }
         ensures whole { IsWhole N.site N.run_seed (up_in self.deeds) result.0 result.1.recorder.watch.cells result.1.recorder.own }
         ensures attended { Attended (crew_of result.1.recorder result.1.staff) }
-        ensures ended { EndsAreTold (ended_in self.deeds) (crew_of result.1.recorder result.1.staff) }
+        ensures ended { EndsAreTold N.children (ended_in self.deeds) (crew_of result.1.recorder result.1.staff) }
         ensures spare { length N.site.services ≤ result.1.recorder.room }
     {
         let Resting { launcher, deeds } = self;

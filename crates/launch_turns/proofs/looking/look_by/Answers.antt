@@ -14,7 +14,7 @@ use Rattle.launch_turns.proofs.looking.look_by.Goals as goal
 
 pub after-requires : goal.after-requires
 after-requires g c =
-    rests_looked g.N.Numbered.site g.N.Numbered.run_seed c.number.result c.nothing-entered.result c.into_parts-launcher.result.1.past c.into_parts-launcher.result.0 c.note_okd-note.new.self
+    rests_looked g.N.Numbered.site g.N.Numbered.run_seed g.N.Staffed.children c.number.result c.nothing-entered.result c.into_parts-launcher.result.1.past c.into_parts-launcher.result.0 c.note_okd-note.new.self
     c.into_parts-launcher.ensures.rests c.nothing-entered.ensures c.note_okd-note.ensures.same
 
 pub give-requires-clause-adds : goal.give-requires-clause-adds

@@ -15,9 +15,9 @@ use Rattle.launch_turns.proofs.turns.launch_by.Goals as goal
 pub after-requires : goal.after-requires
 after-requires g c =
     let d : Deed = record { worker = c.number.result; entered = c.launch_if_down-launcher.result.2; up = c.up_if.result; tended = false } in
-    rests_after g.N.Numbered.site g.N.Numbered.run_seed d c.into_parts-launcher.result.1.past c.into_parts-launcher.result.0 c.launch_if_down-launcher.result.0 c.into_parts-launcher.ensures.rests.entries_are
+    rests_after g.N.Numbered.site g.N.Numbered.run_seed g.N.Staffed.children d c.into_parts-launcher.result.1.past c.into_parts-launcher.result.0 c.launch_if_down-launcher.result.0 c.into_parts-launcher.ensures.rests.entries_are
     (subst (λ (n : ℕ). Enters n c.launch_if_down-launcher.result.2 c.into_parts-launcher.result.0.journal.past c.launch_if_down-launcher.result.0.journal.past) ((ap (λ (l : LauncherIs). l.journal.holder) c.into_parts-launcher.ensures.launcher ∙ c.take-resting.ensures.holder) ∙ sym (c.number.ensures ∙ ap (λ (a : SeatIs Deed). a.number) c.take-resting.ensures.seat)) c.launch_if_down-launcher.ensures.enters)
-    (subst (λ (b : Bool). IsClosed g.N.Numbered.site g.N.Numbered.run_seed (ups_after b c.launch_if_down-launcher.result.2 (up_in c.into_parts-launcher.result.1.past)) (ended_in c.into_parts-launcher.result.1.past) c.launch_if_down-launcher.result.0) (sym c.up_if.ensures) (c.launch_if_down-launcher.ensures.whole (up_in c.into_parts-launcher.result.1.past) (ended_in c.into_parts-launcher.result.1.past) c.into_parts-launcher.ensures.rests.closed))
+    (subst (λ (b : Bool). IsClosed g.N.Numbered.site g.N.Numbered.run_seed g.N.Staffed.children (ups_after b c.launch_if_down-launcher.result.2 (up_in c.into_parts-launcher.result.1.past)) (ended_in c.into_parts-launcher.result.1.past) c.launch_if_down-launcher.result.0) (sym c.up_if.ensures) (c.launch_if_down-launcher.ensures.whole (up_in c.into_parts-launcher.result.1.past) (ended_in c.into_parts-launcher.result.1.past) c.into_parts-launcher.ensures.rests.closed))
 
 pub give-requires-clause-adds : goal.give-requires-clause-adds
 give-requires-clause-adds g c =

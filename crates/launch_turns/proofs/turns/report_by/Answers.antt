@@ -16,9 +16,9 @@ use Rattle.launch_turns.proofs.turns.report_by.Goals as goal
 pub after-requires : goal.after-requires
 after-requires g c =
     let d : Deed = record { worker = c.number.result; entered = c.crashed-launcher.result.2; up = c.is_up.result; tended = false } in
-    rests_after g.N.Numbered.site g.N.Numbered.run_seed d c.into_parts-launcher.result.1.past c.into_parts-launcher.result.0 c.crashed-launcher.result.0 c.into_parts-launcher.ensures.rests.entries_are
+    rests_after g.N.Numbered.site g.N.Numbered.run_seed g.N.Staffed.children d c.into_parts-launcher.result.1.past c.into_parts-launcher.result.0 c.crashed-launcher.result.0 c.into_parts-launcher.ensures.rests.entries_are
     (subst (λ (n : ℕ). Enters n c.crashed-launcher.result.2 c.into_parts-launcher.result.0.journal.past c.crashed-launcher.result.0.journal.past) ((ap (λ (l : LauncherIs). l.journal.holder) c.into_parts-launcher.ensures.launcher ∙ c.take-resting.ensures.holder) ∙ sym (c.number.ensures ∙ ap (λ (a : SeatIs Deed). a.number) c.take-resting.ensures.seat)) (subst (λ (l : LauncherIs). Enters l.journal.holder c.crashed-launcher.result.2 l.journal.past c.crashed-launcher.result.0.journal.past) c.meet.ensures.same c.crashed-launcher.ensures.enters))
-    (subst (λ (b : Bool). IsClosed g.N.Numbered.site g.N.Numbered.run_seed (ups_after b c.crashed-launcher.result.2 (up_in c.into_parts-launcher.result.1.past)) (ended_in c.into_parts-launcher.result.1.past) c.crashed-launcher.result.0) (sym c.is_up.ensures) (c.crashed-launcher.ensures.whole (up_in c.into_parts-launcher.result.1.past) (ended_in c.into_parts-launcher.result.1.past) (closed_met g.N.Numbered.site g.N.Numbered.run_seed (up_in c.into_parts-launcher.result.1.past) (ended_in c.into_parts-launcher.result.1.past) c.into_parts-launcher.result.0 c.meet.new.self c.meet.ensures.same c.meet.ensures.behind c.meet.ensures.counted c.meet.ensures.stays c.into_parts-launcher.ensures.rests.closed)))
+    (subst (λ (b : Bool). IsClosed g.N.Numbered.site g.N.Numbered.run_seed g.N.Staffed.children (ups_after b c.crashed-launcher.result.2 (up_in c.into_parts-launcher.result.1.past)) (ended_in c.into_parts-launcher.result.1.past) c.crashed-launcher.result.0) (sym c.is_up.ensures) (c.crashed-launcher.ensures.whole (up_in c.into_parts-launcher.result.1.past) (ended_in c.into_parts-launcher.result.1.past) (closed_met g.N.Numbered.site g.N.Numbered.run_seed g.N.Staffed.children (up_in c.into_parts-launcher.result.1.past) (ended_in c.into_parts-launcher.result.1.past) c.into_parts-launcher.result.0 c.meet.new.self c.meet.ensures.same c.meet.ensures.behind c.meet.ensures.counted c.meet.ensures.stays c.into_parts-launcher.ensures.rests.closed)))
 
 pub give-requires-clause-adds : goal.give-requires-clause-adds
 give-requires-clause-adds g c =

@@ -20,8 +20,8 @@ pub returns-clause-attended : goal.returns-clause-attended
 returns-clause-attended g c = subst Attended (sym c.close-past.ensures.crew) c.self.invariant.closed.attended
 
 pub returns-clause-ended : goal.returns-clause-ended
-returns-clause-ended g c = subst (λ (r : RestingIs). EndsAreTold (ended_in r.deeds) (crew_of c.close-past.result.1.recorder c.close-past.result.1.staff)) c.self.view_is
-    (subst (EndsAreTold (ended_in c.self.inside.deeds.past)) (sym c.close-past.ensures.crew) c.self.invariant.closed.told)
+returns-clause-ended g c = subst (λ (r : RestingIs). EndsAreTold g.N.Staffed.children (ended_in r.deeds) (crew_of c.close-past.result.1.recorder c.close-past.result.1.staff)) c.self.view_is
+    (subst (EndsAreTold g.N.Staffed.children (ended_in c.self.inside.deeds.past)) (sym c.close-past.ensures.crew) c.self.invariant.closed.told)
 
 pub returns-clause-deeds : goal.returns-clause-deeds
 returns-clause-deeds g c = subst (λ (r : RestingIs). c.into_told.result.past ≡ r.deeds) c.self.view_is c.into_told.ensures

@@ -7,5 +7,5 @@ use Rattle.launch_turns.proofs.resting.RestingJournaled.hold.Goals as goal
 pub invariant_of-self : goal.invariant_of-self
 invariant_of-self g c = record {
   entries_are = c.self.invariant.entries_are ∙ sym (ap (λ (l : LauncherIs). l.journal.past) c.hold.ensures);
-  closed = closed_held g.N.Numbered.site g.N.Numbered.run_seed (up_in c.self.inside.deeds.past) (ended_in c.self.inside.deeds.past) c.self.inside.launcher c.hold.new.self c.args.number c.hold.ensures c.self.invariant.closed;
+  closed = closed_held g.N.Numbered.site g.N.Numbered.run_seed g.N.Staffed.children (up_in c.self.inside.deeds.past) (ended_in c.self.inside.deeds.past) c.self.inside.launcher c.hold.new.self c.args.number c.hold.ensures c.self.invariant.closed;
 }

@@ -1,6 +1,5 @@
 -- That the launcher's list of a run is made of whole pieces.
-use Rattle.std.specs.Prelude.{◌≡◌, ℕ, Bool, List, [], ◌++◌}
-use Rattle.std.specs.List.{list_any}
+use Rattle.std.specs.Prelude.{◌≡◌, ℕ, Bool, List, [], ◌++◌, length}
 use Rattle.okws_base.specs.declared.journal.Entry.{Entry}
 use Rattle.okws_plan.specs.declared.configuration.Config.{Config}
 use Rattle.okws_plan.specs.declared.event.LauncherEvent.{LauncherEvent}
@@ -10,10 +9,9 @@ use Rattle.monitor_model.specs.declared.record.Record.{Record}
 use Rattle.monitor_model.specs.Causes.{has_up}
 use Rattle.monitor_model.specs.Launches.{Fate, IsEnding, all_pieces, attempts}
 use Rattle.okws_outer.specs.Families.{Family}
-use Rattle.okws_outer.specs.declared.children.ChildEnd.{ChildEnd}
 use Rattle.site_cells.specs.Row.{CellsSeen}
 use Rattle.launch_crew.specs.Crews.{CrewIs}
-use Rattle.launch_crew.specs.Ended.{ended_at}
+use Rattle.launch_crew.specs.Ended.{family_ended}
 use Rattle.launch_crew.specs.Listed.{EndsPieces}
 use Rattle.site_locks.specs.Sat.{Sat}
 use Rattle.okld_launch.specs.Pieces.{AreTold, IsWhole}
@@ -36,6 +34,6 @@ pub record LaunchesAreWhole (C : Config) (seed : List ℕ) (R : Record) : Type 0
   pub list_is : R.launches ≡ ending ++ all_pieces C seed R (attempts R.launcher) fates
   pub ends : IsEnding R (all_pieces C seed R (attempts R.launcher) fates) ending
 
--- Of these children, that of incarnation k of s was finished, of which Yes was among the answers whether it has ended.
-abbrev pub ended_among : List ChildEnd → ℕ → ℕ → Bool
-ended_among finished s k = list_any (ended_at s k) finished
+-- Since `first` was told of the children, that of incarnation k of s was finished, of which Yes was among the answers whether it has ended.
+abbrev pub ended_among : Family → Family → ℕ → ℕ → Bool
+ended_among first now s k = family_ended (length first.finished) now s k

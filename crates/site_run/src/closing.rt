@@ -1,12 +1,10 @@
 //! Closing the locks of a run's columns, cells and launcher.
 
-ghost use Rattle.std.specs.List.{list_any};
 ghost use Rattle.std.specs.Prelude.{◌≡◌, ◌≤◌, ◌<◌, ◌+◌, ℕ, IsTrue, List, [], false, length, map, reverse, slice_index, vec_len, vec_capacity};
 ghost use Rattle.okws_base.specs.Turns.{of, Behind};
 ghost use Rattle.site_cells.specs.Closing.{AllCellsGrow, HasNumber};
 ghost use Rattle.site_cells.specs.Row.{link_at, seen_at};
 ghost use Rattle.launch_crew.specs.Coming.{came_up};
-ghost use Rattle.launch_crew.specs.Ended.{ended_at};
 ghost use Rattle.launch_crew.specs.Recorded.{AreOwn};
 ghost use Rattle.log_daemon.specs.Stopped.{is_stopped};
 ghost use Rattle.monitor_model.specs.Cell.{incarnation};
@@ -20,7 +18,7 @@ ghost use Rattle.okld_launch.specs.Causing.{AllCaused};
 ghost use Rattle.launch_turns.specs.Deeds.{by_deed, ended_in, entries, up_in};
 ghost use Rattle.okld_launch.specs.Failures.{FailuresAreTold, FaultsAreTold};
 ghost use Rattle.okld_launch.specs.Kin.{AreKin};
-ghost use Rattle.site_run.specs.Pieced.{EndsWhole, ended_crew};
+ghost use Rattle.site_run.specs.Pieced.{EndsWhole, ended_among, ended_crew};
 ghost use Rattle.site_cells.specs.Held.{by_event};
 ghost use Rattle.site_locks.specs.Closing.{AllSaw, SomeIs};
 ghost use Rattle.site_locks.specs.Sat.{RiseFrom};
@@ -353,7 +351,7 @@ pub(crate) fn end_launcher<
     ensures shown { (s : ℕ) → s < length N.site.services → slice_index result.stopped.seats.board s ≡ begun result.past s }
     ensures own { AreOwn N.launcher result.stopped.seats result.stopped.cells result.stopped.own }
     ensures whole { EndsWhole N.site N.run_seed (up_in result.deeds.past) result.past result.stopped.cells.cells result.stopped.own }
-    ensures ended { (s k : ℕ) → IsTrue (ended_in result.deeds.past s k) → IsTrue (list_any (ended_at s k) (F.family result.stopped.children).finished) }
+    ensures ended { (s k : ℕ) → IsTrue (ended_in result.deeds.past s k) → IsTrue (ended_among N.children (F.family result.stopped.children) s k) }
     ensures failed { FailuresAreTold N.children result.past (F.family result.stopped.children) }
     ensures kin { AreKin N.site N.run_seed N.children result.past (ended_crew result.stopped.seats result.stopped.cells (F.family result.stopped.children) result.stopped.own) }
     ensures faults { FaultsAreTold N.children result.past (ended_crew result.stopped.seats result.stopped.cells (F.family result.stopped.children) result.stopped.own) }

@@ -226,7 +226,7 @@ impl<N: Staffed, J: Site, C: CellNames, K: Keeper, S: Sink, F: Children, D: Door
         ensures drawn { AllDrawn self.hall.numbers.count self.places.places self.last }
         ensures laws { KeepLaws N.site N.run_seed N.launcher result.record }
         ensures numbers { NameNumbers N.launcher result.record }
-        ensures lives { (lives : List Life) → SeatsOf lives self.chairs → AllEnd N.launcher 0 lives result.record (ended_among (F.family result.children).finished) }
+        ensures lives { (lives : List Life) → SeatsOf lives self.chairs → AllEnd N.launcher 0 lives result.record (ended_among N.children (F.family result.children)) }
         ensures pieces { LaunchesAreWhole N.site N.run_seed result.record }
         ensures launched { LaunchesAreOwn N.launcher result.record }
         ensures failed { FailuresAreTold N.children result.record.launcher (F.family result.children) }

@@ -1,4 +1,4 @@
-use Rattle.std.proofs.Common.{◌≡◌, ◌∙◌, ℕ, Bool, true, List, [], refl, sym, ap, subst}
+use Rattle.std.proofs.Common.{◌≡◌, ◌∙◌, ℕ, Bool, true, List, [], length, refl, sym, ap, subst}
 use Rattle.std.specs.Prelude.{slice_index}
 use Rattle.site_locks.specs.Sat.{Sat}
 use Rattle.okws_base.specs.Turns.{GrowsBy, of}
@@ -64,8 +64,9 @@ returns-clause-caused g c =
 
 pub returns-clause-ended : goal.returns-clause-ended
 returns-clause-ended g c = λ s k over.
-    c.stop_all-stopped.ensures.ended c.close-past.ensures.attended s k
-    (c.close-past.ensures.ended s k (subst (λ (deeds : List Deed). ended_in deeds s k ≡ true) c.close-past.ensures.deeds over))
+    let told = c.close-past.ensures.ended in
+    c.stop_all-stopped.ensures.ended c.close-past.ensures.attended (length g.N.Staffed.children.finished) s k told.0
+    (told.1 s k (subst (λ (deeds : List Deed). ended_in deeds s k ≡ true) c.close-past.ensures.deeds over))
 
 pub returns-clause-whole : goal.returns-clause-whole
 returns-clause-whole g c =

@@ -208,7 +208,7 @@ returns-clause-lives g c = λ lives of.
     let came : (s k : ℕ) → has_up R s k ≡ up_in past.result.deeds.past s k = came_as_told C seed n R past.result.deeds.past past.result.stopped.cells.cells past.ensures.entries past.ensures.whole launched.own.okd columns.ensures.okd.1 in
     let raised = raised_all R n count columns.ensures.saw.0 chairs.seats.items c.push_reserved.new.self.items stopped.seats c.push_reserved.ensures.items columns.ensures.saw.1 total past.ensures.numbers.0
     (λ u l. past.ensures.shown u (subst (λ k. u < k) services l)) in
-    let ended = ended_among (g.F.Children.family stopped.children).finished in
+    let ended = ended_among g.N.Staffed.children (g.F.Children.family stopped.children) in
     let told : IsTold C n deeds R ended = record {
       entries_are = past.ensures.entries;
       none = λ k l. past.ensures.none k (subst (λ i. i ≤ k) (sym c.requires.held.turn_count) l);
@@ -216,8 +216,8 @@ returns-clause-lives g c = λ lives of.
       ups = came;
       ends = past.ensures.ended;
     } in
-    subst (λ (S : Record). AllEnd n 0 lives S (ended_among (g.F.Children.family c.told.result.children).finished)) (sym c.told.ensures.journals)
-    (subst (λ (f : Family). AllEnd n 0 lives R (ended_among f.finished)) (sym c.told.ensures.children)
+    subst (λ (S : Record). AllEnd n 0 lives S (ended_among g.N.Staffed.children (g.F.Children.family c.told.result.children))) (sym c.told.ensures.journals)
+    (subst (λ (f : Family). AllEnd n 0 lives R (ended_among g.N.Staffed.children f)) (sym c.told.ensures.children)
     (lives_end C t (length C.services) n R ended deeds lives chairs.seats.items c.push_reserved.new.self.items stopped.seats chairs.cells.items c.push_reserved-2.new.self.items stopped.cells chairs.turns.items told
     (subst (λ (x : ChairsAre). Seated t (length C.services) x) (sym c.chairs.view_is) c.requires.held.seated) (subst (λ (x : ChairsAre). SeatsOf lives x) (sym c.chairs.view_is) of)
     c.push_reserved.ensures.items c.push_reserved-2.ensures.items columns.ensures.grown cells.ensures.grown past.ensures.grown columns.ensures.lists raised))

@@ -40,13 +40,13 @@ pub record StartIs : Type 0 where
   pub sink_faults : ℕ
   pub children : Family
 
--- What the outside tells of a run from these doors, of which orders were taken: how much the counts of its doors and keepers rose, and those of its children and their links together; that a child had ended where one was finished that was asked and had; and whether the console failed.
+-- What the outside tells of a run from these doors, of which orders were taken: how much the counts of its doors and keepers rose, and those of its children and their links together; that a child had ended where one was finished since the run began that was asked and had; and whether the console failed.
 abbrev pub outside_of : StartIs → List Entrance → ObjectsAre → List Ordered → Bool → Outside
 outside_of start doors left orders failed = record {
   doors = door_rise 0 doors left.entrances;
   keepers = keeper_rise start.keeper_faults 0 left.keepers;
   children = children_rise start.children left.children;
-  ended = ended_among left.children.finished;
+  ended = ended_among start.children left.children;
   orders = Some orders;
   console_failed = failed;
 }
@@ -54,10 +54,10 @@ outside_of start doors left orders failed = record {
 -- A run of a site with tokens of this seed, in which number n launched and at most `most` connections were begun, or as many as were begun when it was stopped, from doors and a console as they were to objects as they are then. Its record, with the connections that its doors finished, is legal by what the outside tells, and no service asks a proxy before it was installed there. It is the record in which the lives of its workers ended: door w is number w's, and the console that of the number behind them.
 pub record Runs {X : Type 0} (wire : X → ConnWire) (C : Config) (seed : List ℕ) (n most : ℕ) (start : StartIs) (doors : List Entrance) (console : ConnWire) (ran : Ran) (left : ObjectsAre) : Type 0 where
   pub stopped : Option ℕ
-  pub served : ServesDoors wire C n most ran.record (ended_among left.children.finished) doors left.entrances ran.counts.connections ran.starved stopped
-  pub steered : ServesConsole C n ran.record (ended_among left.children.finished) (length doors) console left.console (record { stopped = stopped; failed = ran.console_failed })
-  pub door_lists : (w : ℕ) → w < length doors → ListIsPieces C ran.record (ended_among left.children.finished) is_ordered w
-  pub console_list : ListIsPieces C ran.record (ended_among left.children.finished) is_accept_item (length doors)
+  pub served : ServesDoors wire C n most ran.record (ended_among start.children left.children) doors left.entrances ran.counts.connections ran.starved stopped
+  pub steered : ServesConsole C n ran.record (ended_among start.children left.children) (length doors) console left.console (record { stopped = stopped; failed = ran.console_failed })
+  pub door_lists : (w : ℕ) → w < length doors → ListIsPieces C ran.record (ended_among start.children left.children) is_ordered w
+  pub console_list : ListIsPieces C ran.record (ended_among start.children left.children) is_accept_item (length doors)
   pub orders : OrdersAreObeyed C ran.record (length doors) console left.console (record { stopped = stopped; failed = ran.console_failed })
   pub connections : List (List Connection)
   pub finish : AllFinish wire doors left.entrances connections

@@ -11,6 +11,7 @@ ghost use Rattle.okld_launch.specs.Failures.{FailuresAreTold, FaultsAreTold};
 ghost use Rattle.okld_launch.specs.Kin.{AreKin};
 ghost use Rattle.okld_launch.specs.Pieces.{EndsAreTold, IsClosed, IsWhole};
 ghost use Rattle.launch_turns.specs.Resting.{Rests};
+ghost use Rattle.launch_turns.specs.Standing.{UpsStand};
 
 use crate::deed::{Deed, Deeds, Took};
 use launch_crew::crew::Crew;
@@ -23,7 +24,9 @@ use okws_outer::keeper::Keeper;
 use okws_outer::stream::Sink;
 use okws_plan::event::LauncherEvent;
 use site_cells::lock_names::CellNames;
+use site_locks::locks::Locks;
 use site_locks::named::Site;
+use site_locks::note::OkdNote;
 use std::marker::Model;
 use turn_lock::Journaled;
 
@@ -86,6 +89,15 @@ impl<N: Staffed, J: Site, C: CellNames, K: Keeper, S: Sink, F: Children> Resting
             launcher,
             deeds: deeds.and(took),
         }
+    }
+
+    /// A note of what the launcher has seen at okd: all that came up in its turns stands there. It takes no
+    /// turn and no memory.
+    pub(crate) fn note_okd(&mut self, locks: &Locks<N, J, K, S>) -> OkdNote<N, J>
+        ensures stand { UpsStand self.old.deeds result }
+        ensures same { self.new ≡ self.old }
+    {
+        self.launcher.note_okd(locks)
     }
 
     /// The launcher, for a turn at it, and the turns before.

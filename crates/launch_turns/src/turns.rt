@@ -5,6 +5,7 @@ ghost use Rattle.std.specs.Prelude.{◌≡◌, ◌<◌, ◌≤◌, length};
 ghost use Rattle.monitor_model.specs.Cell.{last_booted};
 ghost use Rattle.turn_lock.specs.Rows.{RestsAt};
 ghost use Rattle.okld_launch.specs.Ups.{launch_up_if};
+ghost use Rattle.launch_turns.specs.Standing.{UpsStand};
 ghost use Rattle.launch_turns.specs.Turns.{LaunchesBy, RelaunchesBy, ReportsBy, TendsBy};
 
 use crate::deed::Took;
@@ -21,6 +22,7 @@ use site_cells::locks::CellLocks;
 use site_cells::note::CellNote;
 use site_locks::locks::Locks;
 use site_locks::named::Site;
+use site_locks::note::OkdNote;
 use site_locks::noted_link::Noted;
 use std::sync::Wait;
 use turn_lock::{Seat, Turn};
@@ -75,7 +77,8 @@ pub fn launch_by<
     (answer, entered)
 }
 
-/// Launches a service that the operator asks for, in a turn.
+/// Launches a service that the operator asks for, in a turn. Like each turn below, it tells what the launcher
+/// has seen at okd then: all that came up in its turns stands there.
 pub fn relaunch_by<
     R: Wait,
     G: Gate,
@@ -93,10 +96,11 @@ pub fn relaunch_by<
     locks: &Locks<N, J, K, S>,
     cells: &CellLocks<N, C, Noted<N, J, K, S, F>>,
     service: u16,
-) -> (Launched, Entered)
+) -> (Launched, Entered, OkdNote<N, J>)
     requires rest { RestsAt turn.now seat.old }
     requires service { service < length N.site.services }
     ensures goes { RelaunchesBy N.site service seat.old result.0 result.1 seat.new }
+    ensures stand { UpsStand seat.new.seen result.2 }
     ensures seat { seat.new ≡ record seat.old { seen = seat.new.seen } }
 {
     let resting = turn.take(rt, seat);
@@ -110,8 +114,10 @@ pub fn relaunch_by<
         up: answer.is_up(),
         tended: false,
     };
-    turn.give(seat, Resting::after(launcher, &deeds, &took));
-    (answer, entered)
+    let mut rested = Resting::after(launcher, &deeds, &took);
+    let note = rested.note_okd(locks);
+    turn.give(seat, rested);
+    (answer, entered, note)
 }
 
 /// Enters that an incarnation of a service has crashed, in a turn, and launches the service where it was the
@@ -135,13 +141,14 @@ pub fn report_by<
     note: CellNote<N, C, Noted<N, J, K, S, F>>,
     service: u16,
     incarnation: u32,
-) -> (Crashed, Entered)
+) -> (Crashed, Entered, OkdNote<N, J>)
     requires rest { RestsAt turn.now seat.old }
     requires service { service < length N.site.services }
     requires here { note.service ≡ service }
     requires counted { 0 < incarnation }
     requires booted { incarnation ≤ last_booted note.seen }
     ensures goes { ReportsBy N.site service incarnation seat.old result.0 result.1 seat.new }
+    ensures stand { UpsStand seat.new.seen result.2 }
     ensures seat { seat.new ≡ record seat.old { seen = seat.new.seen } }
 {
     let resting = turn.take(rt, seat);
@@ -163,8 +170,10 @@ pub fn report_by<
         up: answer.is_up(),
         tended: false,
     };
-    turn.give(seat, Resting::after(launcher, &deeds, &took));
-    (answer, entered)
+    let mut rested = Resting::after(launcher, &deeds, &took);
+    let note = rested.note_okd(locks);
+    turn.give(seat, rested);
+    (answer, entered, note)
 }
 
 /// Looks after a service in a turn.
@@ -185,10 +194,11 @@ pub fn tend_by<
     locks: &Locks<N, J, K, S>,
     cells: &CellLocks<N, C, Noted<N, J, K, S, F>>,
     service: u16,
-) -> (Tended, Entered)
+) -> (Tended, Entered, OkdNote<N, J>)
     requires rest { RestsAt turn.now seat.old }
     requires service { service < length N.site.services }
     ensures goes { TendsBy N.site service seat.old result.0 result.1 seat.new }
+    ensures stand { UpsStand seat.new.seen result.2 }
     ensures seat { seat.new ≡ record seat.old { seen = seat.new.seen } }
 {
     let resting = turn.take(rt, seat);
@@ -202,6 +212,8 @@ pub fn tend_by<
         up: answer.is_up(),
         tended: true,
     };
-    turn.give(seat, Resting::after(launcher, &deeds, &took));
-    (answer, entered)
+    let mut rested = Resting::after(launcher, &deeds, &took);
+    let note = rested.note_okd(locks);
+    turn.give(seat, rested);
+    (answer, entered, note)
 }

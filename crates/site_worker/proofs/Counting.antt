@@ -71,12 +71,12 @@ counts_made C shown t s a b d e I P L met grows only at_okd at_pubd at_log reque
     }
 
 -- of the worker whose hands they are
-pub counts_of : (C : Config) (shown : List (Entry OkdEvent)) (t : Counted) (s now : Sat) (cells : CellsSeen) (launcher : SeatIs Deed) → CountsAt C shown t s now → Counts C shown t (life_of s cells launcher) (life_of now cells launcher)
-counts_of C shown t s now cells launcher h = record {
+pub counts_of : (C : Config) (shown : List (Entry OkdEvent)) (t : Counted) (s now : Sat) (cells : CellsSeen) (launcher : SeatIs Deed) (last : List (Entry OkdEvent)) → CountsAt C shown t s now → Counts C shown t (life_of s cells launcher last) (life_of now cells launcher last)
+counts_of C shown t s now cells launcher last h = record {
   accepts_are = h.accepts_are;
   launches_are = h.launches_are;
   publications_are = h.publications_are;
   logged_are = h.logged_are;
   met = h.met;
-  sees = sees_columns s now cells launcher h.seen_is h.same h.okd h.pubd h.oklogd;
+  sees = sees_columns s now cells launcher last h.seen_is h.same h.okd h.pubd h.oklogd;
 }

@@ -1,5 +1,6 @@
 -- What a worker does for a request. Number n launches.
 use Rattle.std.specs.Prelude.{◌≡◌, ◌⊎◌, ◌≤◌, ℕ, false, List, slice_index}
+use Rattle.okws_base.specs.Turns.{Behind}
 use Rattle.okws_base.specs.declared.journal.Entry.{Entry}
 use Rattle.okws_plan.specs.declared.configuration.Config.{Config}
 use Rattle.okws_plan.specs.declared.event.OkdEvent.{OkdEvent}
@@ -25,11 +26,20 @@ use Rattle.site_worker.specs.Lives.{Life, Working, Spends, number_of, Rises, See
 use Rattle.site_worker.specs.declared.worker.TheConstants.{TURN_ITEMS}
 use Rattle.site_worker.specs.Launching.{Reports}
 
--- The path was entered at okd as an Accept, whose verdict is this way.
+-- The path was entered at okd as an Accept, whose verdict is this way, on all that the worker had seen there.
+pub record Enters (C : Config) (path : List ℕ) (goes : Way) (J K : Life) : Type 0 where
+  pub before : List (Entry OkdEvent)
+  pub goes_is : goes ≡ accept_verdict C before path
+  pub enters : AtOkd (number_of J) (okd.Accept path) J.seen before K.seen
+  pub on : Behind J.okd before
+  pub rest : Sees K.seen J K
+
+-- The path was entered at okd as an Accept, whose verdict is this way, on all that the worker was shown of okd behind its last turn at the launcher: what came up there by then came up before.
 pub record Accepts (C : Config) (path : List ℕ) (goes : Way) (J K : Life) : Type 0 where
   pub before : List (Entry OkdEvent)
   pub goes_is : goes ≡ accept_verdict C before path
   pub enters : AtOkd (number_of J) (okd.Accept path) J.seen before K.seen
+  pub above : Behind J.shown before
   pub rest : Sees K.seen J K
 
 -- Who asks the columns.
@@ -41,6 +51,7 @@ pub record Talks (C : Config) (n : ℕ) (asked : Asked) (s k : ℕ) (answer : Sp
   pub talked : HasTalked n (asker_of C J) (λ shown. shown ≤ slice_index K.board s) asked.head asked.content k s (seen_at J.cells s) J.seen answer (seen_at K.cells s) K.seen
   pub only : OnlyAt s J.cells K.cells
   pub launcher_is : K.launcher ≡ J.launcher
+  pub shown_is : K.shown ≡ J.shown
   pub board : Rises J.board K.board
 
 -- Where a dialog crashed that wanted incarnation k, that was booted among these events.

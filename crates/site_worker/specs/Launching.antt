@@ -10,6 +10,7 @@ use Rattle.monitor_model.specs.Seen.{Seen}
 use Rattle.named_columns.specs.Launched.{by_entry}
 use Rattle.launch_turns.specs.Deeds.{by_deed, entries}
 use Rattle.okld_launch.specs.Entering.{Enters}
+use Rattle.launch_turns.specs.Standing.{UpsStand}
 use Rattle.launch_turns.specs.Turns.{RelaunchesBy, ReportsBy, TendsBy}
 use Rattle.launch_turns.specs.declared.deed.Deed.{Deed}
 use Rattle.okld_launch.specs.declared.answer.Launched.{Launched}
@@ -47,9 +48,9 @@ tend_starved tended.NoMemory = true
 abbrev pub with_launches : List LauncherEvent → Seen → Seen
 with_launches events J = record J { own = map own.Launcher events ++ J.own }
 
--- Only the seat at the launcher may have seen more, and these events were noted.
+-- Only the seat at the launcher may have seen more, and it may be shown more of okd; and these events were noted.
 abbrev pub OnlyLauncher : List LauncherEvent → Life → Life → Type 0
-OnlyLauncher events J K = K ≡ record J { launcher = record J.launcher { seen = K.launcher.seen }; seen = with_launches events J.seen }
+OnlyLauncher events J K = K ≡ record J { launcher = record J.launcher { seen = K.launcher.seen }; seen = with_launches events J.seen; shown = K.shown }
 
 -- A turn at the launcher: these events were entered there, the newest first, on what others had entered since, and each was noted. It is told of it whether the last of them is the Begun of an incarnation that came up, and whether a service was looked after.
 pub record TakesTurn (events : List LauncherEvent) (J K : Life) : Type 0 where
@@ -63,28 +64,31 @@ pub record TakesTurn (events : List LauncherEvent) (J K : Life) : Type 0 where
   pub others : GrowsBy by_deed J.launcher.number J.launcher.seen deeds
   pub did : K.launcher.seen ≡ record { worker = J.launcher.number; entered = events; up = up; tended = tended } ∷ deeds
 
--- The launcher was told that incarnation k of s has crashed; what the turn entered there was noted.
+-- The launcher was told that incarnation k of s has crashed; what the turn entered there was noted. The worker is shown okd then: all that came up in the turns that it has seen stands there.
 pub record Reports (C : Config) (s k : ℕ) (J K : Life) : Type 0 where
   pub answer : Crashed
   pub events : List LauncherEvent
   pub mid : Life
   pub only : OnlyLauncher events J mid
   pub reports : ReportsBy C s k J.launcher answer events mid.launcher
+  pub stand : UpsStand mid.launcher.seen mid.shown
   pub notes : StarvesWhere (crash_starved answer) mid K
 
--- Service s was looked after; what the turn entered at the launcher was noted.
+-- Service s was looked after; what the turn entered at the launcher was noted. The worker is shown okd so too.
 pub record Tends (C : Config) (s : ℕ) (J K : Life) : Type 0 where
   pub answer : Tended
   pub events : List LauncherEvent
   pub mid : Life
   pub only : OnlyLauncher events J mid
   pub tends : TendsBy C s J.launcher answer events mid.launcher
+  pub stand : UpsStand mid.launcher.seen mid.shown
   pub notes : StarvesWhere (tend_starved answer) mid K
 
--- The operator asked for service s; what the turn entered at the launcher was noted.
+-- The operator asked for service s; what the turn entered at the launcher was noted. The worker is shown okd so too.
 pub record Asks (C : Config) (s : ℕ) (answer : Launched) (J K : Life) : Type 0 where
   pub events : List LauncherEvent
   pub mid : Life
   pub only : OnlyLauncher events J mid
   pub relaunches : RelaunchesBy C s J.launcher answer events mid.launcher
+  pub stand : UpsStand mid.launcher.seen mid.shown
   pub notes : StarvesWhere (launch_starved answer) mid K

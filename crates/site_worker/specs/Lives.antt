@@ -15,7 +15,7 @@ use Rattle.site_worker.specs.Asking.{KeepsPasts}
 use Rattle.site_locks.specs.Sat.{Sat, seen_of}
 use Rattle.launch_turns.specs.declared.deed.Deed.{Deed}
 
--- What it has seen of each column at its own last entry there, with its own items; what it has seen of each cell, of each service on the board, and of okd, pubd and oklogd in all, also where it entered nothing; and its seat at the launcher's lock.
+-- What it has seen of each column at its own last entry there, with its own items; what it has seen of each cell, of each service on the board, and of okd, pubd and oklogd in all, also where it entered nothing; its seat at the launcher's lock; and what the launcher had seen at okd when its last turn there ended, or what it had seen there itself when it began.
 pub record Life : Type 0 where
   pub seen : Seen
   pub cells : CellsSeen
@@ -24,10 +24,11 @@ pub record Life : Type 0 where
   pub pubd : List (Entry PubdEvent)
   pub oklogd : List (Entry LogEvent)
   pub launcher : SeatIs Deed
+  pub shown : List (Entry OkdEvent)
 
--- The same, of its seats at the columns, at the cells and at the launcher's lock.
-abbrev pub life_of : Sat → CellsSeen → SeatIs Deed → Life
-life_of s cells launcher = record { seen = seen_of s; cells = cells; board = s.board; okd = s.okd; pubd = s.pubd; oklogd = s.oklogd; launcher = launcher }
+-- The same, of its seats at the columns, at the cells and at the launcher's lock, and with what it was shown of okd.
+abbrev pub life_of : Sat → CellsSeen → SeatIs Deed → List (Entry OkdEvent) → Life
+life_of s cells launcher shown = record { seen = seen_of s; cells = cells; board = s.board; okd = s.okd; pubd = s.pubd; oklogd = s.oklogd; launcher = launcher; shown = shown }
 
 -- A worker: what it has seen and done, and how many items it may note without memory.
 pub record Working : Type 0 where
@@ -51,6 +52,7 @@ pub record Sees (now : Seen) (J K : Life) : Type 0 where
   pub seen_is : K.seen ≡ now
   pub cells_is : K.cells ≡ J.cells
   pub launcher_is : K.launcher ≡ J.launcher
+  pub shown_is : K.shown ≡ J.shown
   pub board : Rises J.board K.board
   pub okd : KeepsPasts J.okd K.okd
   pub pubd : KeepsPasts J.pubd K.pubd

@@ -1,6 +1,7 @@
 //! A worker behind a door.
 
 ghost use Rattle.std.specs.Prelude.{◌≡◌, ◌<◌, ◌≤◌, ◌+◌, ◌↔◌, ℕ, IfOk, IfSome, IsTrue, OnErr, length};
+ghost use Rattle.okws_base.specs.Turns.{Behind};
 ghost use Rattle.okws_base.specs.declared.limit.TheConstants.{LONGEST_FRAME};
 ghost use Rattle.http_front.specs.Replies.{Replied};
 ghost use Rattle.http_front.specs.Requests.{HasTarget, path_text};
@@ -11,7 +12,7 @@ ghost use Rattle.site_cells.specs.Turns.{GivesLast};
 ghost use Rattle.door_worker.specs.Asking.{Asked, asked_by};
 ghost use Rattle.door_worker.specs.declared.handler.Outcome.TheVariants as outcome;
 ghost use Rattle.site_worker.specs.Lives.{Sees, Spends, Starves};
-ghost use Rattle.site_worker.specs.Handling.{Accepts, Talks, WasBooted, Follows, Goes};
+ghost use Rattle.site_worker.specs.Handling.{Accepts, Enters, Talks, WasBooted, Follows, Goes};
 ghost use Rattle.site_worker.specs.declared.worker.TheConstants.{TURN_ITEMS};
 
 use crate::worker::{TURN_ITEMS, Worker};
@@ -67,7 +68,31 @@ impl<
     S: Sink,
     F: Children,
 > Worker<'a, R, G, N, J, C, K, S, F> {
-    // Asks okd where a request goes. Where memory is refused, nothing is entered.
+    // Asks okd where a request goes, on what its seat has seen there. Where memory is refused, nothing is entered.
+    fn enter(&mut self, request: &Request) -> Result<Way, AllocError>
+        requires { HasTarget request.now }
+        ensures ok { IfOk result (λ way. Enters N.site (path_text request.now) way self.old.life self.new.life) }
+        ensures goes { IfOk result (λ way. IfSome (goes_of way) (λ (at : ℕ × ℕ). (at.0 < length N.site.services) × (0 < at.1))) }
+        ensures err { OnErr result (Sees self.old.life.seen self.old.life self.new.life) }
+        ensures spare { self.new.spare ≡ self.old.spare }
+    {
+        let path = copies(self.alloc, request.path())?;
+        self.hands.accept(Items::of(path))
+    }
+
+    // Takes in what the launcher had seen at okd when the worker's last turn there ended.
+    fn see_shown(&mut self)
+        ensures met { Behind self.old.life.shown self.new.life.okd }
+        ensures sees { Sees self.old.life.seen self.old.life self.new.life }
+        ensures spare { self.new.spare ≡ self.old.spare }
+    {
+        let locks = self.locks;
+        let note = self.shown.again(locks);
+        self.hands.meet(note);
+    }
+
+    // Asks okd where a request goes, once what came up by the worker's last turn at the launcher was seen there.
+    // Where memory is refused, nothing is entered.
     fn accept(&mut self, request: &Request) -> Result<Way, AllocError>
         requires { HasTarget request.now }
         ensures ok { IfOk result (λ way. Accepts N.site (path_text request.now) way self.old.life self.new.life) }
@@ -75,8 +100,8 @@ impl<
         ensures err { OnErr result (Sees self.old.life.seen self.old.life self.new.life) }
         ensures spare { self.new.spare ≡ self.old.spare }
     {
-        let path = copies(self.alloc, request.path())?;
-        self.hands.accept(Items::of(path))
+        self.see_shown();
+        self.enter(request)
     }
 
     // Notes want of memory, which is what became of a request.

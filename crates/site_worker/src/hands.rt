@@ -1,6 +1,7 @@
 //! The columns behind their locks, as dialogs ask them.
 
 ghost use Rattle.std.specs.Prelude.{◌≡◌, ◌<◌, ◌≤◌, ◌∷◌, ℕ, List, true, false, IfOk, IfSome, OnOk, OnErr, length, slice_index};
+ghost use Rattle.okws_base.specs.Turns.{Behind};
 ghost use Rattle.okws_base.specs.declared.journal.Entry.{Entry};
 ghost use Rattle.okws_base.specs.declared.limit.TheConstants.{LONGEST_TEMPLATE};
 ghost use Rattle.okws_plan.specs.declared.event.OkdEvent.{OkdEvent};
@@ -104,7 +105,7 @@ impl<'a, R: Wait, G: Gate, N: Backed, J: Site, K: Keeper, S: Sink> Hands<'a, R, 
     /// incarnation that is up, if one is; such a service is declared, and its incarnation is from 1 on.
     /// Where memory is refused, nothing is entered.
     pub fn accept(&mut self, path: Items<u8>) -> Result<Way, AllocError>
-        ensures ok { IfOk result (λ way. (before : List (Entry OkdEvent)) × (way ≡ accept_verdict N.site before path) × AtOkd self.old.number (okd_event.Accept path) (seen_of self.old) before (seen_of self.new)) }
+        ensures ok { IfOk result (λ way. (before : List (Entry OkdEvent)) × (way ≡ accept_verdict N.site before path) × AtOkd self.old.number (okd_event.Accept path) (seen_of self.old) before (seen_of self.new) × Behind self.old.okd before) }
         ensures goes { IfOk result (λ way. IfSome (goes_of way) (λ (at : ℕ × ℕ). (at.0 < length N.site.services) × (0 < at.1))) }
         ensures err { OnErr result (seen_of self.new ≡ seen_of self.old) }
         ensures okd { KeepsPasts self.old.okd self.new.okd }
@@ -128,6 +129,16 @@ impl<'a, R: Wait, G: Gate, N: Backed, J: Site, K: Keeper, S: Sink> Hands<'a, R, 
         ensures same { SameBoard self.old self.new }
     {
         self.seats.publish(self.rt, self.locks, template, content)
+    }
+
+    /// Takes in what another number has seen at okd. Enters nothing, and takes no turn and no memory.
+    pub fn meet(&mut self, shown: OkdNote<N, J>)
+        ensures met { Behind shown self.new.okd }
+        ensures okd { KeepsPasts self.old.okd self.new.okd }
+        ensures only { self.new ≡ record self.old { okd = self.new.okd } }
+        ensures seen { seen_of self.new ≡ seen_of self.old }
+    {
+        self.seats.meet_okd(self.locks, shown);
     }
 
     /// Takes in what another number has seen at okd, and counts what stands in the journals of okd, pubd and

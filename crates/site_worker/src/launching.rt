@@ -4,6 +4,7 @@ ghost use Rattle.std.specs.Prelude.{◌≡◌, ◌<◌, ◌≤◌, length};
 ghost use Rattle.monitor_model.specs.Cell.{last_booted};
 ghost use Rattle.site_cells.specs.Row.{seen_at};
 ghost use Rattle.okld_launch.specs.declared.entered.TheConstants.{MOST_ENTERED};
+ghost use Rattle.launch_turns.specs.Standing.{UpsStand};
 ghost use Rattle.launch_turns.specs.Turns.{RelaunchesBy, ReportsBy, TendsBy};
 ghost use Rattle.site_worker.specs.Launching.{launch_starved, crash_starved, tend_starved, Reports, Tends, Asks};
 ghost use Rattle.site_worker.specs.Lives.{Spends};
@@ -22,6 +23,7 @@ use okws_outer::stream::Sink;
 use site_cells::lock_names::CellNames;
 use site_cells::note::CellNote;
 use site_locks::named::Site;
+use site_locks::note::OkdNote;
 use site_locks::noted_link::Noted;
 use std::sync::Wait;
 
@@ -82,13 +84,14 @@ impl<
         note: CellNote<N, C, Noted<N, J, K, S, F>>,
         service: u16,
         incarnation: u32,
-    ) -> (Crashed, Entered)
+    ) -> (Crashed, Entered, OkdNote<N, J>)
         requires service { service < length N.site.services }
         requires here { note.service ≡ service }
         requires counted { 0 < incarnation }
         requires booted { incarnation ≤ last_booted note.seen }
         ensures reports { ReportsBy N.site service incarnation self.old.life.launcher result.0 result.1 self.new.life.launcher }
         ensures only { self.new.life ≡ record self.old.life { launcher = record self.old.life.launcher { seen = self.new.life.launcher.seen } } }
+        ensures stand { UpsStand self.new.life.launcher.seen result.2 }
         ensures few { length result.1 ≤ MOST_ENTERED }
         ensures spare { self.new.spare ≡ self.old.spare }
     {
@@ -112,10 +115,11 @@ impl<
     }
 
     // A turn in which a service is looked after.
-    fn tend_turn(&mut self, service: u16) -> (Tended, Entered)
+    fn tend_turn(&mut self, service: u16) -> (Tended, Entered, OkdNote<N, J>)
         requires { service < length N.site.services }
         ensures tends { TendsBy N.site service self.old.life.launcher result.0 result.1 self.new.life.launcher }
         ensures only { self.new.life ≡ record self.old.life { launcher = record self.old.life.launcher { seen = self.new.life.launcher.seen } } }
+        ensures stand { UpsStand self.new.life.launcher.seen result.2 }
         ensures few { length result.1 ≤ MOST_ENTERED }
         ensures spare { self.new.spare ≡ self.old.spare }
     {
@@ -129,10 +133,11 @@ impl<
     }
 
     // A turn in which the operator's service is launched.
-    fn relaunch_turn(&mut self, service: u16) -> (Launched, Entered)
+    fn relaunch_turn(&mut self, service: u16) -> (Launched, Entered, OkdNote<N, J>)
         requires { service < length N.site.services }
         ensures relaunches { RelaunchesBy N.site service self.old.life.launcher result.0 result.1 self.new.life.launcher }
         ensures only { self.new.life ≡ record self.old.life { launcher = record self.old.life.launcher { seen = self.new.life.launcher.seen } } }
+        ensures stand { UpsStand self.new.life.launcher.seen result.2 }
         ensures few { length result.1 ≤ MOST_ENTERED }
         ensures spare { self.new.spare ≡ self.old.spare }
     {
@@ -155,7 +160,8 @@ impl<
         ensures spends { Spends TURN_ITEMS self.old self.new }
     {
         let note = self.note_of(service);
-        let (answer, entered) = self.report_turn(note, service, incarnation);
+        let (answer, entered, shown) = self.report_turn(note, service, incarnation);
+        self.keep_shown(shown);
         self.note_entered(entered);
         self.note_where(crash_starved(answer));
     }
@@ -166,7 +172,8 @@ impl<
         requires spare { TURN_ITEMS ≤ self.old.spare }
         ensures { Asks N.site service result self.old.life self.new.life }
     {
-        let (answer, entered) = self.relaunch_turn(service);
+        let (answer, entered, shown) = self.relaunch_turn(service);
+        self.keep_shown(shown);
         self.note_entered(entered);
         self.note_where(launch_starved(answer));
         answer
@@ -178,7 +185,8 @@ impl<
         requires spare { TURN_ITEMS ≤ self.old.spare }
         ensures { Tends N.site service self.old.life self.new.life }
     {
-        let (answer, entered) = self.tend_turn(service);
+        let (answer, entered, shown) = self.tend_turn(service);
+        self.keep_shown(shown);
         self.note_entered(entered);
         self.note_where(tend_starved(answer));
     }

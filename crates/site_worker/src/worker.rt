@@ -23,6 +23,7 @@ use site_cells::locks::CellLocks;
 use site_cells::seats::CellSeats;
 use site_locks::locks::{Locks, Seats};
 use site_locks::named::Site;
+use site_locks::note::OkdNote;
 use site_locks::noted_link::Noted;
 use std::alloc::{AllocError, Global};
 use std::marker::Model;
@@ -93,6 +94,9 @@ pub struct Worker<
     pub(crate) hands: Hands<'a, R, G, N, J, K, S>,
     pub(crate) at_cells: CellSeats<N, C, Noted<N, J, K, S, F>>,
     pub(crate) at_launcher: Seat<Resting<N, J, C, K, S, F>>,
+    // What the launcher had seen at okd when the worker's last turn there ended; before that, what the worker
+    // had seen there when it began.
+    pub(crate) shown: OkdNote<N, J>,
 }
 
 impl<'a, R: Wait, G: Gate, N: Staffed, J: Site, C: CellNames, K: Keeper, S: Sink, F: Children> Drop
@@ -109,10 +113,12 @@ impl<'a, R: Wait, G: Gate, N: Staffed, J: Site, C: CellNames, K: Keeper, S: Sink
             hands,
             at_cells,
             at_launcher,
+            shown,
         } = self;
         drop(hands);
         drop(at_cells);
         drop(at_launcher);
+        drop(shown);
     }
 }
 
@@ -122,9 +128,9 @@ impl<'a, R: Wait, G: Gate, N: Staffed, J: Site, C: CellNames, K: Keeper, S: Sink
 
     ghost Value = { Working };
 
-    ghost view = { λ w. record { life = life_of w.hands w.at_cells w.at_launcher; spare = w.hands.spare } };
+    ghost view = { λ w. record { life = life_of w.hands w.at_cells w.at_launcher w.shown; spare = w.hands.spare } };
 
-    ghost invariant = { λ w. IsWorker N.site w.services w.hands.number w.launcher.now (life_of w.hands w.at_cells w.at_launcher) };
+    ghost invariant = { λ w. IsWorker N.site w.services w.hands.number w.launcher.now (life_of w.hands w.at_cells w.at_launcher w.shown) };
 }
 
 impl<
@@ -153,7 +159,7 @@ impl<
         requires few { length N.site.services ≤ MOST_SERVICES }
         requires retry { N.site.retry ≤ GREATEST_RETRY }
         requires rest { RestsAt shared.launcher.now at_launcher }
-        ensures life { result.life ≡ life_of seats at_cells at_launcher }
+        ensures life { result.life ≡ life_of seats at_cells at_launcher seats.okd }
         ensures spare { result.spare ≡ seats.spare }
     {
         let Shared {
@@ -164,6 +170,8 @@ impl<
             launcher,
         } = shared;
         let services = at_cells.services() as u16;
+        let mut seats = seats;
+        let shown = seats.note_okd(locks);
         Worker {
             alloc,
             rt,
@@ -175,6 +183,7 @@ impl<
             hands: Hands::new(rt, gate, locks, seats),
             at_cells,
             at_launcher,
+            shown,
         }
     }
 
@@ -203,7 +212,9 @@ impl<
             hands,
             at_cells,
             at_launcher,
+            shown,
         } = self;
+        drop(shown);
         (hands.into_seats(), at_cells, at_launcher)
     }
 
@@ -214,6 +225,14 @@ impl<
         ensures err { OnErr result (self.new ≡ self.old) }
     {
         self.hands.make_spare(places)
+    }
+
+    /// Keeps what the launcher had seen at okd when a turn there ended.
+    pub(crate) fn keep_shown(&mut self, note: OkdNote<N, J>)
+        ensures keeps { self.new.life ≡ record self.old.life { shown = note } }
+        ensures spare { self.new.spare ≡ self.old.spare }
+    {
+        self.shown = note;
     }
 
     /// Notes events that a turn entered at the launcher, the oldest first. Takes no memory.

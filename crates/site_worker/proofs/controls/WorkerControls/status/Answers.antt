@@ -1,4 +1,5 @@
 use Rattle.std.proofs.Common.{refl}
+use Rattle.site_worker.proofs.Turns.{only_looked}
 use Rattle.site_worker.proofs.controls.WorkerControls.status.Goals as goal
 
 pub returns-clause-surveys : goal.returns-clause-surveys
@@ -9,7 +10,7 @@ returns-clause-surveys g c =
       standing = look.result.1;
       shown = look.result.2;
       counted = c.count-counted.result;
-      only = look.ensures.only;
+      only = only_looked c.args.self.now.life look.new.self.life look.ensures.only;
       looks = look.ensures.looks;
       counts = c.count-counted.ensures;
       columns_are = (refl, refl, refl, refl);

@@ -5,7 +5,7 @@ use Rattle.site_locks.proofs.Seeing.{at_okd, okd_same}
 use Rattle.site_worker.proofs.hands.Hands.accept.Goals as goal
 
 pub returns-clause-ok : goal.returns-clause-ok
-returns-clause-ok g c = rw (← c.self.view_is) (IfOk-weaker c.accept.result _ _ (λ way q. (q.0, q.1, at_okd c.self.inside.seats c.accept.new.self (event.Accept c.args.path) q.0 q.2)) c.accept.ensures.ok)
+returns-clause-ok g c = rw (← c.self.view_is) (IfOk-weaker c.accept.result _ _ (λ way q. (q.0, q.1, at_okd c.self.inside.seats c.accept.new.self (event.Accept c.args.path) q.0 q.2, (q.2.grows.0, q.2.grows.2))) c.accept.ensures.ok)
 
 pub returns-clause-err : goal.returns-clause-err
 returns-clause-err g c = rw (← c.self.view_is) (on_err_weaker c.accept.result (λ q. okd_same c.self.inside.seats c.accept.new.self q.0 q.1) c.accept.ensures.err)

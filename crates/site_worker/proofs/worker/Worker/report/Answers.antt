@@ -11,6 +11,6 @@ returns-clause-reports g c =
     let k = c.args.incarnation in
     let t = c.report_turn-answer in
     let same = ap (λ (x : Working). x.life) c.note_of-note.ensures.same in
-    reports_made C s t.result.1 c.args.self.now.life t.new.self.life c.note_entered.new.self.life c.note_where.new.self.life c.crash_starved.result
-    (subst (λ (x : Life). t.new.self.life ≡ record x { launcher = record x.launcher { seen = t.new.self.life.launcher.seen } }) same t.ensures.only) c.note_entered.ensures.notes
+    reports_made C s t.result.1 c.args.self.now.life t.new.self.life c.keep_shown.new.self.life c.note_entered.new.self.life c.note_where.new.self.life c.crash_starved.result t.result.2
+    (subst (λ (x : Life). t.new.self.life ≡ record x { launcher = record x.launcher { seen = t.new.self.life.launcher.seen } }) same t.ensures.only) c.keep_shown.ensures.keeps c.note_entered.ensures.notes t.ensures.stand
     k t.result.0 (subst (λ (x : Life). ReportsBy C s k x.launcher t.result.0 t.result.1 t.new.self.life.launcher) same t.ensures.reports) c.crash_starved.ensures c.note_where.ensures.notes

@@ -24,8 +24,8 @@ use Rattle.site_run.specs.Tied.{IsSilent, IsWaitingChair, OnlyLaunches, AreUnuse
 -- ---- whose the seats are
 
 -- a worker that was made of these seats
-pub chair_of : (J : Life) (s : Sat) (c : CellsSeen) (a : SeatIs Deed) → J ≡ life_of s c a → IsChairOf J s c a
-chair_of J s c a e = record {
+pub chair_of : (J : Life) (s : Sat) (c : CellsSeen) (a : SeatIs Deed) (shown : List (Entry OkdEvent)) → J ≡ life_of s c a shown → IsChairOf J s c a
+chair_of J s c a shown e = record {
   seen_is = ap (λ (K : Life). K.seen) e;
   board_is = ap (λ (K : Life). K.board) e;
   okd_is = ap (λ (K : Life). K.okd) e;

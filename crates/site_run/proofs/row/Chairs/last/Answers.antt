@@ -74,4 +74,4 @@ returns-clause-whose g c =
     more_one c.new.result.life _ c.args.self.now c.in-Some.seats c.in-Some-pop.at_cells c.in-Some-pop-2.at_launcher
     (ap (λ (y : ChairsAre). y.seats) (sym c.self.view_is) ∙ c.in-Some.ensures.items)
     (ap (λ (y : ChairsAre). y.cells) (sym c.self.view_is) ∙ c.in-Some-pop.ensures.items)
-    (ap (λ (y : ChairsAre). y.turns) (sym c.self.view_is) ∙ c.in-Some-pop-2.ensures.items) (chair_of c.new.result.life c.in-Some.seats c.in-Some-pop.at_cells c.in-Some-pop-2.at_launcher c.new.ensures.life)
+    (ap (λ (y : ChairsAre). y.turns) (sym c.self.view_is) ∙ c.in-Some-pop-2.ensures.items) (chair_of c.new.result.life c.in-Some.seats c.in-Some-pop.at_cells c.in-Some-pop-2.at_launcher c.in-Some.seats.okd c.new.ensures.life)

@@ -14,7 +14,7 @@ use Rattle.okws_plan.specs.declared.configuration.Config.{Config}
 use Rattle.okws_plan.specs.declared.configuration.ProxyPlan.{ProxyPlan}
 use Rattle.okws_plan.specs.declared.configuration.Table.{Table}
 use Rattle.store_keeper.specs.Alike.{bare, AreAlike, HasRows}
-use Rattle.store_keeper.specs.Sites.{bare_plan, rows_of_plan, AreOf, HasFirstRows, HaveFirstRows, SitesAreAlike}
+use Rattle.store_keeper.specs.Sites.{bare_plan, rows_of_plan, AreOf, AreZero, HasFirstRows, HaveFirstRows, SitesAreAlike}
 
 -- the plans behind those that were opened are as they were
 pub plans_next : (old done plans next : List ProxyPlan) (at : ℕ) (p q : ProxyPlan) → plans ≡ done ++ drop at old → length done ≡ at → at < length old → next ≡ slice_set plans at q → next ≡ (done ++ q ∷ []) ++ drop (at + 1) old
@@ -56,6 +56,11 @@ areof_next tables told done ks more k q is t d h = record {
   told_are = ap (map told) is ∙ map-append told ks (k ∷ []) ∙ ap (λ (xs : List (Option (List (List (List Value))))). xs ++ told k ∷ []) h.told_are
       ∙ ap (λ (x : Option (List (List (List Value)))). map (λ (p : ProxyPlan). Some (rows_of_plan p)) done ++ x ∷ []) d ∙ sym (map-append (λ (p : ProxyPlan). Some (rows_of_plan p)) done (q ∷ []));
 }
+
+-- a keeper more of which no call failed
+pub zero_next : {K : Type 0} (faults : K → ℕ) (ks more : List K) (k : K) → more ≡ ks ++ k ∷ [] → faults k ≡ 0 → AreZero (map faults ks) → AreZero (map faults more)
+zero_next faults [] more k is new h = subst (λ xs. AreZero (map faults xs)) (sym is) (new, tt)
+zero_next faults (x ∷ ks) more k is new h = subst (λ xs. AreZero (map faults xs)) (sym is) (h.0, zero_next faults ks (ks ++ k ∷ []) k refl new h.1)
 
 -- The proxies below this number were opened: they are sound, and the site's but for their tables' first rows, and these are their keepers. Those behind them are as they were.
 pub record IsOpened {K : Type 0} (tables : K → List Table) (told : K → Option (List (List (List Value)))) (tells : Type 0) (old plans : List ProxyPlan) (at : ℕ) (ks : List K) : Type 0 where

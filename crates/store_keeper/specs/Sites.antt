@@ -1,5 +1,5 @@
 -- Sites with the rows that stores have, and keepers of these rows.
-use Rattle.std.specs.Prelude.{◌≡◌, List, [], ◌∷◌, Option, Some, IfSome, IsSome, map}
+use Rattle.std.specs.Prelude.{◌≡◌, ℕ, List, [], ◌∷◌, Option, Some, IfSome, IsSome, map}
 use Rattle.okws_base.specs.declared.value.Value.{Value}
 use Rattle.okws_plan.specs.declared.configuration.Config.{Config}
 use Rattle.okws_plan.specs.declared.configuration.ProxyPlan.{ProxyPlan}
@@ -41,3 +41,8 @@ pub record AreOf (plans : List ProxyPlan) (tables : List (List Table)) (told : L
 -- All keepers of a type tell their rows.
 pub record AllTell {K : Type 0} (told : K → Option (List (List (List Value)))) : Type 0 where
   pub all : (k : K) → IsSome (told k)
+
+-- Each of these counts is 0.
+abbrev pub AreZero : List ℕ → Type 0
+AreZero [] = Unit {0}
+AreZero (n ∷ ns) = (n ≡ 0) × AreZero ns

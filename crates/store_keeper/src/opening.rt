@@ -7,7 +7,7 @@ ghost use Rattle.okws_outer.specs.Streams.{Rose};
 ghost use Rattle.store_keeper.specs.Alike.{AreAlike};
 ghost use Rattle.store_keeper.specs.Depots.{HasAsked, HasFailed, HasTried, HasUnsoundAt, LacksStore, with_starts};
 ghost use Rattle.store_keeper.specs.Loading.{AreRead, ReadsUnsound};
-ghost use Rattle.store_keeper.specs.Sites.{AllTell, AreOf, HasFirstRows, HaveFirstRows, SitesAreAlike};
+ghost use Rattle.store_keeper.specs.Sites.{AllTell, AreOf, AreZero, HasFirstRows, HaveFirstRows, SitesAreAlike};
 
 use crate::giving::give_back;
 use crate::loading::read_tables;
@@ -86,6 +86,7 @@ fn beside<K: Keeper>(
     ensures same { IfOk result (λ o. IsSome (K.told store) → o.tables.items ≡ plan.now.tables) }
     ensures tables { IfOk result (λ o. ⟦<StoredKeeper<K> as Keeper>⟧.tables o.keeper ≡ o.tables.items) }
     ensures told { IfOk result (λ o. ⟦<StoredKeeper<K> as Keeper>⟧.told o.keeper ≡ Some (map (λ t. t.first) o.tables.items)) }
+    ensures fresh { IfOk result (λ o. ⟦<StoredKeeper<K> as Keeper>⟧.faults o.keeper ≡ 0) }
     ensures held { IfOk result (λ o. K.told o.keeper.store ≡ K.told store) }
     ensures back { IfErr result (λ e. K.told e.1 ≡ K.told store) }
     ensures sound { IfOk result (λ o. is_sound_plan (record plan.now { tables = o.tables.items }) ≡ true) }
@@ -115,6 +116,7 @@ fn open_proxy<S: Stores>(
     ensures same { IfOk result (λ o. AllTell S.Keeper.told → o.tables.items ≡ plan.now.tables) }
     ensures tables { IfOk result (λ o. ⟦<StoredKeeper<S::Keeper> as Keeper>⟧.tables o.keeper ≡ o.tables.items) }
     ensures told { IfOk result (λ o. ⟦<StoredKeeper<S::Keeper> as Keeper>⟧.told o.keeper ≡ Some (map (λ t. t.first) o.tables.items)) }
+    ensures fresh { IfOk result (λ o. ⟦<StoredKeeper<S::Keeper> as Keeper>⟧.faults o.keeper ≡ 0) }
     ensures held { IfOk result (λ o. HasFirstRows plan.now (S.Keeper.told o.keeper.store)) }
     ensures made { IfOk result (λ _. S.depot stores.new ≡ with_made file.now proxy plan.now.tables (S.depot stores.old)) }
     ensures tried { OnErr result (HasTried file.now proxy plan.now (S.depot stores.old) (S.depot stores.new)) }
@@ -140,8 +142,9 @@ fn take_plans(alloc: Global, config: &mut Config) -> Vec<ProxyPlan>
     mem::replace(&mut config.proxies, Items::of(Vec::new(alloc))).into_vec()
 }
 
-/// Makes the keepers of a site's rows over stores in a file, by the proxies' numbers. Where one can't be made, or
-/// its rows are not sound, those that were are given back. The stores keep the rows that they have.
+/// Makes the keepers of a site's rows over stores in a file, by the proxies' numbers, of which no call has failed.
+/// Where one can't be made, or its rows are not sound, those that were are given back. The stores keep the rows that
+/// they have.
 pub fn open_site<S: Stores>(
     alloc: Global,
     stores: &mut S,
@@ -152,6 +155,7 @@ pub fn open_site<S: Stores>(
     ensures alike { IfOk result (λ s. SitesAreAlike s.config config) }
     ensures same { IfOk result (λ s. AllTell S.Keeper.told → s.config ≡ config) }
     ensures keepers { IfOk result (λ s. AreOf s.config.proxies (map ⟦<StoredKeeper<S::Keeper> as Keeper>⟧.tables s.keepers.items) (map ⟦<StoredKeeper<S::Keeper> as Keeper>⟧.told s.keepers.items)) }
+    ensures fresh { IfOk result (λ s. AreZero (map ⟦<StoredKeeper<S::Keeper> as Keeper>⟧.faults s.keepers.items)) }
     ensures held { IfOk result (λ s. HaveFirstRows config.proxies (map (λ k. S.Keeper.told k.store) s.keepers.items)) }
     ensures made { IfOk result (λ _. S.depot stores.new ≡ with_starts file.now config.proxies (S.depot stores.old)) }
     ensures asked { OnErr result (HasAsked file.now config.proxies (S.depot stores.old) (S.depot stores.new)) }

@@ -11,7 +11,7 @@ use Rattle.store_keeper.specs.Depots.{beside_of, with_starts}
 use Rattle.store_keeper.specs.Sites.{AllTell, AreOf, SitesAreAlike}
 use Rattle.store_keeper.proofs.Given.{asked_back, asked_none, err_is, gives_kept, on_err, starts_one}
 use Rattle.store_keeper.proofs.Lawful.{site_with}
-use Rattle.store_keeper.proofs.Plans.{first_all, first_next, opened_all, opened_here, opened_next, opened_sound, plans_alike, plans_sound, site_alike, site_same, take_all}
+use Rattle.store_keeper.proofs.Plans.{first_all, first_next, opened_all, opened_here, opened_next, opened_sound, plans_alike, plans_sound, site_alike, site_same, take_all, zero_next}
 use Rattle.store_keeper.proofs.Unsound.{lacks_back}
 use Rattle.store_keeper.proofs.opening.open_site.Goals as goal
 
@@ -54,6 +54,7 @@ loop-proxy-preserved g c =
           c.push_reserved.ensures.items (c.in-Ok.ensures.tables ∙ sym c.of.ensures) (c.in-Ok.ensures.told ∙ ap (λ (ts : List Table). Some (map (λ (t : Table). t.first) ts)) (sym c.of.ensures)) c.loop-proxy.invariant.opened;
       first = first_next (λ k. g.S.Keeper.Keeper.told k.store) c.args.config.proxies c.loop-proxy.proxy c.index.result.now c.loop-proxy.keepers.items _ c.in-Ok.opened.keeper below
           (opened_here (stored.tables-value g.row.S-Keeper g.row.S-Keeper-Pin g.S.Keeper.Keeper g.S.Keeper.Keeper-dict g.S.Keeper.Pin.Pinned g.S.Keeper.Pin.Pinned-dict g.S.Keeper.Pin.Destruct-dict).it (stored.told-value g.row.S-Keeper g.row.S-Keeper-Pin g.S.Keeper.Keeper g.S.Keeper.Keeper-dict g.S.Keeper.Pin.Pinned g.S.Keeper.Pin.Pinned-dict g.S.Keeper.Pin.Destruct-dict).it (AllTell g.S.Keeper.Keeper.told) c.args.config.proxies c.loop-proxy.plans.items c.loop-proxy.proxy c.loop-proxy.keepers.items c.index.result.now below c.index.ensures c.loop-proxy.invariant.opened) c.push_reserved.ensures.items c.in-Ok.ensures.held c.loop-proxy.invariant.first;
+      fresh = zero_next (stored.faults-value g.row.S-Keeper g.row.S-Keeper-Pin g.S.Keeper.Keeper g.S.Keeper.Keeper-dict g.S.Keeper.Pin.Pinned g.S.Keeper.Pin.Pinned-dict g.S.Keeper.Pin.Destruct-dict).it c.loop-proxy.keepers.items _ c.in-Ok.opened.keeper c.push_reserved.ensures.items c.in-Ok.ensures.fresh c.loop-proxy.invariant.fresh;
       many = omega (arith, c.push_reserved.ensures.len, c.loop-proxy.invariant.many);
       room = c.push_reserved.ensures.capacity ∙ c.loop-proxy.invariant.room;
       plans = c.loop-proxy.invariant.plans;
@@ -107,3 +108,6 @@ returns-clause-made g c =
     omega (arith, c.loop-proxy-test.false, c.loop-proxy.auto.proxy-end, c.len-count.ensures, c.take_plans-plans.result.ok.0, ap (λ (ps : List ProxyPlan). length ps) c.take_plans-plans.ensures.plans) in
     c.loop-proxy.invariant.depot
     ∙ ap (λ (ps : List ProxyPlan). with_starts c.args.file.now ps (g.S.Stores.depot c.args.stores.now)) (ap (λ (n : ℕ). take n c.args.config.proxies) end ∙ take_all c.args.config.proxies)
+
+pub returns-clause-fresh : goal.returns-clause-fresh
+returns-clause-fresh g c = c.loop-proxy.invariant.fresh

@@ -19,12 +19,12 @@ use Rattle.okws_plan.specs.declared.configuration.Table.{Table}
 use Rattle.command_line.specs.Asked.{Serving}
 use Rattle.config_reader.specs.Ruled.{AreRuled}
 use Rattle.site_run.specs.Places.{AllIdle}
-use Rattle.site_making.specs.Keepers.{KeeperIs, IsKeeper, AreKeepers, are_steady}
+use Rattle.site_making.specs.Keepers.{KeeperIs, IsKeeper, AreKeepers, are_steady, faults_at}
 use Rattle.site_making.specs.Making.{IsServable}
 use Rattle.store_keeper.specs.Alike.{AreAlike, bare}
 use Rattle.store_keeper.proofs.Alike.{rules_alike}
-use Rattle.store_keeper.specs.Sites.{AreOf, SitesAreAlike, bare_plan, rows_of_plan}
-use Rattle.okws_server.specs.Served.{IsServing, IsStock}
+use Rattle.store_keeper.specs.Sites.{AreOf, AreZero, SitesAreAlike, bare_plan, rows_of_plan}
+use Rattle.okws_server.specs.Served.{AreFresh, IsServing, IsStock}
 
 -- the keeper of a proxy, made for its tables
 pub keeper_is : {K E : Type 0} (f : K → KeeperIs) (C : Config) (p : ℕ) (ts : List Table) (r : Result K E) → ts ≡ tables C p → IfOk r (λ k. (f k).tables ≡ ts) → IfOk r (λ k. (f k).told ≡ Some (map (λ (t : Table). t.first) ts)) →
@@ -43,6 +43,21 @@ steady_push f [] more k is h new = subst (λ x. are_steady (map f x) ≡ true) (
 steady_push f (x ∷ ks) more k is h new =
     let both = and_parts (f x).steady (are_steady (map f ks)) h in
     subst (λ y. are_steady (map f y) ≡ true) (sym is) (and_from (f x).steady (are_steady (map f (ks ++ k ∷ []))) both.0 (steady_push f ks (ks ++ k ∷ []) k refl both.1 new))
+
+-- a keeper more of which no call failed
+pub fresh_push : {K : Type 0} (f : K → KeeperIs) (ks more : List K) (k : K) → more ≡ ks ++ k ∷ [] → AreFresh (map f ks) → (f k).faults ≡ 0 → AreFresh (map f more)
+fresh_push f [] more k is h new = subst (λ x. AreFresh (map f x)) (sym is) (new, tt)
+fresh_push f (x ∷ ks) more k is h new = subst (λ y. AreFresh (map f y)) (sym is) (h.0, fresh_push f ks (ks ++ k ∷ []) k refl h.1 new)
+
+-- the counts of keepers of which none failed
+fresh_by : {K : Type 0} (f : K → KeeperIs) (ks : List K) → AreZero (map (λ k. (f k).faults) ks) → AreFresh (map f ks)
+fresh_by f [] h = tt
+fresh_by f (k ∷ ks) h = (h.0, fresh_by f ks h.1)
+
+pub none_failed : (ks : List KeeperIs) → AreFresh ks → (p : ℕ) → faults_at ks p ≡ 0
+none_failed [] h p = refl
+none_failed (k ∷ ks) h zero = h.0
+none_failed (k ∷ ks) h (suc p) = none_failed ks h.1 p
 
 -- doors at which nothing came yet
 pub entrances_new : {D : Type 0} (entrance : D → Entrance) (ds : List D) (n : ℕ) → length ds ≡ n → All (λ d. entrance d ≡ new_entrance) ds → map entrance ds ≡ replicate n new_entrance
@@ -126,11 +141,12 @@ servable_alike C D alike h = record {
 }
 
 -- the keepers of a site whose stores are open are those of its rows
-pub stock_stored : {K : Type 0} (f : K → KeeperIs) (C D : Config) (ks : List K) → SitesAreAlike D C → IsServable C → AreOf D.proxies (map (λ k. (f k).tables) ks) (map (λ k. (f k).told) ks) → IsStock D (map f ks)
-stock_stored f C D ks alike able h = record {
+pub stock_stored : {K : Type 0} (f : K → KeeperIs) (C D : Config) (ks : List K) → SitesAreAlike D C → IsServable C → AreOf D.proxies (map (λ k. (f k).tables) ks) (map (λ k. (f k).told) ks) → AreZero (map (λ k. (f k).faults) ks) → IsStock D (map f ks)
+stock_stored f C D ks alike able h zero_are = record {
   servable = servable_alike C D alike able;
   many = length-map ks f ∙ sym (length-map ks (λ k. (f k).tables)) ∙ ap (λ (xs : List (List Table)). length xs) h.tables_are ∙ length-map D.proxies (λ (p : ProxyPlan). p.tables);
   keepers_are = from_plan f D 0 D.proxies ks (λ i. ap (slice_get D.proxies) (let e : 0 + i ≡ i = omega arith in e)) h.tables_are h.told_are;
+  fresh = fresh_by f ks zero_are;
 }
 
 -- there are no more of them than there may be proxies

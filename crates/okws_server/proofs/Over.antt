@@ -21,14 +21,15 @@ use Rattle.okws_server.specs.Served.{IsUntouched, RanAt, RanLogged, RanOver, Ran
 use Rattle.okws_server.specs.Views.{Gear}
 
 over_by : {X : Type 0} (wire : X → ConnWire) (server : Serving) (C : Config) (seed : List ℕ) (a b : Gear) (ran : Ran) (given : Option (List ℕ)) (faults m : ℕ) (start : StartIs) (old new : List Entrance) (keepers : List KeeperIs) →
-    old ≡ replicate server.doors new_entrance → m ≡ server.doors → (server.store ≡ None → start.steady ≡ true) → start.sink_faults ≡ 0 → start.children ≡ a.family → b.net ≡ record (a.net) { doors = new } → b.depot ≡ a.depot →
+    old ≡ replicate server.doors new_entrance → m ≡ server.doors → (server.store ≡ None → start.steady ≡ true) → ((p : ℕ) → start.keeper_faults p ≡ 0) → start.sink_faults ≡ 0 → start.children ≡ a.family → b.net ≡ record (a.net) { doors = new } → b.depot ≡ a.depot →
     Runs wire C seed (m + 1) (limit_of server.connections) start old a.console ran (record { entrances = new; console = b.console; children = b.family; keepers = keepers; given = given; faults = faults }) →
     RanOver wire server C seed a b keepers ran given faults
-over_by wire server C seed a b ran given faults m start old new keepers o many steady none family net depot h =
+over_by wire server C seed a b ran given faults m start old new keepers o many steady fresh none family net depot h =
     let doors : (b.net).doors ≡ new = ap (λ n. n.doors) net in
     record {
       start = start;
       steady = steady;
+      fresh = fresh;
       sink = none;
       children = family;
       runs = subst (λ x. Runs wire C seed (server.doors + 1) (limit_of server.connections) start (replicate server.doors new_entrance) a.console ran (record { entrances = x; console = b.console; children = b.family; keepers = keepers; given = given; faults = faults })) (sym doors)
@@ -40,14 +41,14 @@ over_by wire server C seed a b ran given faults m start old new keepers o many s
 
 -- a run over doors that were open
 pub ran_over : {X S : Type 0} (wire : X → ConnWire) (server : Serving) (C : Config) (seed : List ℕ) (a b : Gear) (ran : Option Ran) (log : Option S) (given : S → Option (List ℕ)) (faults : S → ℕ) (m : ℕ) (start : StartIs)
-    (old new : List Entrance) (keepers : List KeeperIs) → old ≡ replicate server.doors new_entrance → m ≡ server.doors → (server.store ≡ None → start.steady ≡ true) → start.sink_faults ≡ 0 → start.children ≡ a.family → b.net ≡ record (a.net) { doors = new } →
+    (old new : List Entrance) (keepers : List KeeperIs) → old ≡ replicate server.doors new_entrance → m ≡ server.doors → (server.store ≡ None → start.steady ≡ true) → ((p : ℕ) → start.keeper_faults p ≡ 0) → start.sink_faults ≡ 0 → start.children ≡ a.family → b.net ≡ record (a.net) { doors = new } →
     b.depot ≡ a.depot → (most : ℕ) → most ≡ limit_of server.connections →
     IfSome ran (λ r. IfSome log (λ l. Runs wire C seed (m + 1) most start old a.console r (record { entrances = new; console = b.console; children = b.family; keepers = keepers; given = given l; faults = faults l }))) →
     IfSome ran (λ r. IfSome log (λ l. RanOver wire server C seed a b keepers r (given l) (faults l)))
-ran_over wire server C seed a b None log given faults m start old new keepers o many steady none family net depot most limit h = tt
-ran_over wire server C seed a b (Some r) None given faults m start old new keepers o many steady none family net depot most limit h = tt
-ran_over wire server C seed a b (Some r) (Some l) given faults m start old new keepers o many steady none family net depot most limit h =
-    over_by wire server C seed a b r (given l) (faults l) m start old new keepers o many steady none family net depot
+ran_over wire server C seed a b None log given faults m start old new keepers o many steady fresh none family net depot most limit h = tt
+ran_over wire server C seed a b (Some r) None given faults m start old new keepers o many steady fresh none family net depot most limit h = tt
+ran_over wire server C seed a b (Some r) (Some l) given faults m start old new keepers o many steady fresh none family net depot most limit h =
+    over_by wire server C seed a b r (given l) (faults l) m start old new keepers o many steady fresh none family net depot
     (subst (λ (k : ℕ). Runs wire C seed (m + 1) k start old a.console r (record { entrances = new; console = b.console; children = b.family; keepers = keepers; given = given l; faults = faults l })) limit h)
 
 -- ---- a run that never began
@@ -93,7 +94,7 @@ over_alike : {X : Type 0} (wire : X → ConnWire) (server : Serving) (C : Config
     c ≡ record a { rack = c.rack } → d ≡ record b { rack = d.rack } → RanOver wire server C seed a b keepers ran given faults → RanOver wire server C seed c d keepers ran given faults
 over_alike wire server C seed a b c d keepers ran given faults e f h =
     let made : RanOver wire server C seed (record a { rack = c.rack }) (record b { rack = d.rack }) keepers ran given faults =
-    record { start = h.start; steady = h.steady; sink = h.sink; children = h.children; runs = h.runs; net = h.net; depot = h.depot } in
+    record { start = h.start; steady = h.steady; fresh = h.fresh; sink = h.sink; children = h.children; runs = h.runs; net = h.net; depot = h.depot } in
     subst (λ x. RanOver wire server C seed x d keepers ran given faults) (sym e) (subst (λ x. RanOver wire server C seed (record a { rack = c.rack }) x keepers ran given faults) (sym f) made)
 
 -- its log's sink is closed

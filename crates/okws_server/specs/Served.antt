@@ -161,11 +161,17 @@ pub record LosesKeepers (server : Serving) (C : Config) (a b : Gear) : Type 0 wh
   pub gear : IsUntouched server (listened server a) (record b { depot = a.depot })
   pub depot : Opens server.store C.proxies a.depot b.depot
 
--- A site that can be served, and keepers of its rows.
+-- No call of any of these keepers has failed yet.
+abbrev pub AreFresh : List KeeperIs → Type 0
+AreFresh [] = Unit {0}
+AreFresh (k ∷ ks) = (k.faults ≡ 0) × AreFresh ks
+
+-- A site that can be served, and keepers of its rows, of which no call has failed yet.
 pub record IsStock (C : Config) (keepers : List KeeperIs) : Type 0 where
   pub servable : IsServable C
   pub many : length keepers ≡ length C.proxies
   pub keepers_are : AreKeepers C 0 keepers
+  pub fresh : AreFresh keepers
 
 -- The same, and doors at which nothing came yet. With rows in memory no call of a keeper fails.
 pub record IsGround (server : Serving) (C : Config) (keepers : List KeeperIs) (entrances : List Entrance) : Type 0 where
@@ -174,10 +180,11 @@ pub record IsGround (server : Serving) (C : Config) (keepers : List KeeperIs) (e
   pub words : IsServing server
   pub new : entrances ≡ replicate server.doors new_entrance
 
--- A run over doors that were opened and are closed at its end, which left these keepers, and whose log's sink was given this at last, where it tells, and had so many puts that failed: all was as the run's contract says, and with rows in memory no call of a keeper could fail.
+-- A run over doors that were opened and are closed at its end, which began when no call of its keepers had failed and left these, and whose log's sink was given this at last, where it tells, and had so many puts that failed: all was as the run's contract says, and with rows in memory no call of a keeper could fail.
 pub record RanOver {X : Type 0} (wire : X → ConnWire) (server : Serving) (C : Config) (seed : List ℕ) (a b : Gear) (keepers : List KeeperIs) (ran : Ran) (given : Option (List ℕ)) (faults : ℕ) : Type 0 where
   pub start : StartIs
   pub steady : server.store ≡ None → start.steady ≡ true
+  pub fresh : (p : ℕ) → start.keeper_faults p ≡ 0
   pub sink : start.sink_faults ≡ 0
   pub children : start.children ≡ a.family
   pub runs : Runs wire C seed (server.doors + 1) (limit_of server.connections) start (replicate server.doors new_entrance) a.console ran

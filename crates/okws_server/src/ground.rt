@@ -8,7 +8,7 @@ ghost use Rattle.config_reader.specs.Ruled.{AreRuled};
 ghost use Rattle.site_making.specs.Keepers.{AreKeepers, IsKeeper, are_steady, keeper_of};
 ghost use Rattle.store_keeper.specs.Depots.{HasAsked, LacksStore, with_starts};
 ghost use Rattle.store_keeper.specs.Sites.{AllTell, HaveFirstRows, SitesAreAlike};
-ghost use Rattle.okws_server.specs.Served.{IsStock};
+ghost use Rattle.okws_server.specs.Served.{AreFresh, IsStock};
 
 use index_keeper::IndexKeeper;
 use okws_outer::error::MakeError;
@@ -45,6 +45,7 @@ pub struct Ground<D, K> {
 fn memory_keeper(alloc: Global, config: &Config, proxy: u16) -> Result<IndexKeeper, AllocError>
     ensures is { IfOk result (λ k. IsKeeper config.now proxy (keeper_of ⟦<IndexKeeper as Keeper>⟧.tables ⟦<IndexKeeper as Keeper>⟧.told ⟦<IndexKeeper as Keeper>⟧.faults ⟦<IndexKeeper as Keeper>⟧.steady k)) }
     ensures steady { IfOk result (λ k. (keeper_of ⟦<IndexKeeper as Keeper>⟧.tables ⟦<IndexKeeper as Keeper>⟧.told ⟦<IndexKeeper as Keeper>⟧.faults ⟦<IndexKeeper as Keeper>⟧.steady k).steady ≡ true) }
+    ensures fresh { IfOk result (λ k. (keeper_of ⟦<IndexKeeper as Keeper>⟧.tables ⟦<IndexKeeper as Keeper>⟧.told ⟦<IndexKeeper as Keeper>⟧.faults ⟦<IndexKeeper as Keeper>⟧.steady k).faults ≡ 0) }
 {
     IndexKeeper::new(alloc, tables_at(config, proxy), queries_at(config, proxy))
 }
@@ -55,6 +56,7 @@ fn memory_keepers(alloc: Global, config: &Config) -> Result<Vec<IndexKeeper>, Al
     ensures many { IfOk result (λ v. vec_len v ≡ length config.now.proxies) }
     ensures keepers { IfOk result (λ v. AreKeepers config.now 0 (map (keeper_of ⟦<IndexKeeper as Keeper>⟧.tables ⟦<IndexKeeper as Keeper>⟧.told ⟦<IndexKeeper as Keeper>⟧.faults ⟦<IndexKeeper as Keeper>⟧.steady) v.items)) }
     ensures steady { IfOk result (λ v. are_steady (map (keeper_of ⟦<IndexKeeper as Keeper>⟧.tables ⟦<IndexKeeper as Keeper>⟧.told ⟦<IndexKeeper as Keeper>⟧.faults ⟦<IndexKeeper as Keeper>⟧.steady) v.items) ≡ true) }
+    ensures fresh { IfOk result (λ v. AreFresh (map (keeper_of ⟦<IndexKeeper as Keeper>⟧.tables ⟦<IndexKeeper as Keeper>⟧.told ⟦<IndexKeeper as Keeper>⟧.faults ⟦<IndexKeeper as Keeper>⟧.steady) v.items)) }
 {
     let count = config.proxies.as_slice().len();
     let mut keepers = Vec::with_capacity(alloc, count)?;

@@ -1,5 +1,5 @@
 use Rattle.std.proofs.Common.{◌∙◌, arith}
-use Rattle.okws_server.proofs.Grounds.{keepers_push, steady_push}
+use Rattle.okws_server.proofs.Grounds.{fresh_push, keepers_push, steady_push}
 use Rattle.okws_server.proofs.ground.memory_keepers.Goals as goal
 
 pub push_reserved-requires : goal.push_reserved-requires
@@ -11,4 +11,5 @@ loop-proxy-preserved c = record {
   room = c.push_reserved.ensures.capacity ∙ c.loop-proxy.invariant.room;
   keepers = keepers_push _ _ 0 c.loop-proxy.proxy c.loop-proxy.keepers.items _ c.in_ok-keeper.keeper c.push_reserved.ensures.items (omega (arith, c.loop-proxy.invariant.many, c.loop-proxy.keepers.ok.0)) c.loop-proxy.invariant.keepers c.in_ok-keeper.ensures.is;
   steady = steady_push _ c.loop-proxy.keepers.items _ c.in_ok-keeper.keeper c.push_reserved.ensures.items c.loop-proxy.invariant.steady c.in_ok-keeper.ensures.steady;
+  fresh = fresh_push _ c.loop-proxy.keepers.items _ c.in_ok-keeper.keeper c.push_reserved.ensures.items c.loop-proxy.invariant.fresh c.in_ok-keeper.ensures.fresh;
 }

@@ -13,7 +13,7 @@ pub returns-in-Ok-clause-stock : goal.returns-in-Ok-clause-stock
 returns-in-Ok-clause-stock g c =
     stock_at c.in_ok-stored.stored.config (arc_value c.in-Ok.site) _ c.in-Ok.ensures.ok
     (stock_stored (keeper_of (stored.tables-value g.row.S-Keeper g.row.S-Keeper-Pin g.S.Keeper.Keeper g.S.Keeper.Keeper-dict g.S.Keeper.Pin.Pinned g.S.Keeper.Pin.Pinned-dict g.S.Keeper.Pin.Destruct-dict).it (stored.told-value g.row.S-Keeper g.row.S-Keeper-Pin g.S.Keeper.Keeper g.S.Keeper.Keeper-dict g.S.Keeper.Pin.Pinned g.S.Keeper.Pin.Pinned-dict g.S.Keeper.Pin.Destruct-dict).it (stored.faults-value g.row.S-Keeper g.row.S-Keeper-Pin g.S.Keeper.Keeper g.S.Keeper.Keeper-dict g.S.Keeper.Pin.Pinned g.S.Keeper.Pin.Pinned-dict g.S.Keeper.Pin.Destruct-dict).it (stored.steady-value g.row.S-Keeper g.row.S-Keeper-Pin g.S.Keeper.Keeper g.S.Keeper.Keeper-dict g.S.Keeper.Pin.Pinned g.S.Keeper.Pin.Pinned-dict g.S.Keeper.Pin.Destruct-dict).it) c.args.config c.in_ok-stored.stored.config c.in_ok-stored.stored.keepers.items c.in_ok-stored.ensures.alike
-    (servable_by c.args.config c.requires.sound c.requires.rules c.read_names.ensures) c.in_ok-stored.ensures.keepers)
+    (servable_by c.args.config c.requires.sound c.requires.rules c.read_names.ensures) c.in_ok-stored.ensures.keepers c.in_ok-stored.ensures.fresh)
 
 pub returns-in-Ok-clause-sound : goal.returns-in-Ok-clause-sound
 returns-in-Ok-clause-sound g c = subst IsSound (sym c.in-Ok.ensures.ok) c.in_ok-stored.ensures.sound

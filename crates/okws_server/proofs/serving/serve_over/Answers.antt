@@ -4,7 +4,7 @@ use Rattle.std.specs.Arc.{arc_value}
 use Rattle.site_making.specs.Keepers.{KeeperIs, are_steady, faults_at, keeper_of}
 use Rattle.okws_server.specs.Served.{serving_of}
 use Rattle.okws_server.specs.Views.{Gear, gear_of}
-use Rattle.okws_server.proofs.Grounds.{doors_many, new_idle}
+use Rattle.okws_server.proofs.Grounds.{doors_many, new_idle, none_failed}
 use Rattle.okws_server.proofs.Over.{ran_over, unran_by}
 use Rattle.okws_server.proofs.serving.serve_over.Goals as goal
 
@@ -27,7 +27,7 @@ returns-clause-ran g c =
     (vec_len c.args.ground.doors) (record { steady = are_steady keepers; keeper_faults = faults_at keepers; sink_faults = g.S.Sink.faults c.args.log; children = before.family }) (map g.E.Network.Door.Door.entrance c.args.ground.doors.items)
     (map g.E.Network.Door.Door.entrance c.serve_site-left.result.doors.items) left c.requires.ground.new
     (omega (arith, c.args.ground.doors.ok.0, doors_many g.E.Network.Door.Door.entrance c.args.ground.doors.items c.args.server.now.doors c.requires.ground.new))
-    c.requires.ground.steady c.requires.log.faults refl c.close.ensures refl c.limit_of.result c.limit_of.ensures c.serve_site-left.ensures.ran
+    c.requires.ground.steady (none_failed keepers c.requires.ground.stock.fresh) c.requires.log.faults refl c.close.ensures refl c.limit_of.result c.limit_of.ensures c.serve_site-left.ensures.ran
 
 pub returns-clause-unran : goal.returns-clause-unran
 returns-clause-unran g c = λ none.

@@ -58,8 +58,8 @@ pub trait Keeper {
     fn has_parted(&self) -> bool
         ensures { result ≡ parted self.now };
 
-    /// Runs a statement with these arguments; where it has no answer the rows are as they were, and
-    /// where memory is refused the count of faults is too.
+    /// Runs a statement with these arguments; where it has no answer the rows are as they were. The count
+    /// of faults is as it was unless the keeper failed.
     fn run(
         &mut self,
         alloc: Global,
@@ -72,11 +72,12 @@ pub trait Keeper {
         ensures tables { tables self.new ≡ tables self.old }
         ensures faults { Counts (faults self.old) (faults self.new) (IsErrOf result RunError.Failed) }
         ensures spared { IsErrOf result RunError.NoMemory → faults self.new ≡ faults self.old }
+        ensures still { IfOk result (λ _. faults self.new ≡ faults self.old) }
         ensures sure { steady self.old ≡ true → IsErrOf result RunError.Failed → ⊥ }
         ensures steady { steady self.new ≡ steady self.old };
 
-    /// Takes what the answer of a SELECT on the rows as they are is found from later; the rows stay.
-    /// Where memory is refused the count of faults stays too.
+    /// Takes what the answer of a SELECT on the rows as they are is found from later; the rows stay. The
+    /// count of faults stays too, unless the keeper failed.
     fn pin(
         &mut self,
         alloc: Global,
@@ -91,6 +92,7 @@ pub trait Keeper {
         ensures tables { tables self.new ≡ tables self.old }
         ensures faults { Counts (faults self.old) (faults self.new) (IsErrOf result RunError.Failed) }
         ensures spared { IsErrOf result RunError.NoMemory → faults self.new ≡ faults self.old }
+        ensures still { IfOk result (λ _. faults self.new ≡ faults self.old) }
         ensures sure { steady self.old ≡ true → IsErrOf result RunError.Failed → ⊥ }
         ensures steady { steady self.new ≡ steady self.old };
 }

@@ -127,6 +127,7 @@ impl<K: Keeper> Keeper for StoredKeeper<K> {
         ensures tables { ⟦<IndexKeeper as Keeper>⟧.tables self.new.rows ≡ ⟦<IndexKeeper as Keeper>⟧.tables self.old.rows }
         ensures faults { Counts self.old.faults self.new.faults (IsErrOf result RunError.Failed) }
         ensures spared { IsErrOf result RunError.NoMemory → self.new.faults ≡ self.old.faults }
+        ensures still { IfOk result (λ _. self.new.faults ≡ self.old.faults) }
         ensures sure { false ≡ true → IsErrOf result RunError.Failed → ⊥ }
         ensures steady { false ≡ false }
         ensures read { is_select statement.now.action ≡ true → (self.new.store ≡ self.old.store) × (self.new.parted ≡ self.old.parted) }
@@ -165,6 +166,7 @@ impl<K: Keeper> Keeper for StoredKeeper<K> {
         ensures tables { ⟦<IndexKeeper as Keeper>⟧.tables self.new.rows ≡ ⟦<IndexKeeper as Keeper>⟧.tables self.old.rows }
         ensures faults { Counts self.old.faults self.new.faults (IsErrOf result RunError.Failed) }
         ensures spared { IsErrOf result RunError.NoMemory → self.new.faults ≡ self.old.faults }
+        ensures still { IfOk result (λ _. self.new.faults ≡ self.old.faults) }
         ensures sure { false ≡ true → IsErrOf result RunError.Failed → ⊥ }
         ensures steady { false ≡ false }
         ensures read { (self.new.store ≡ self.old.store) × (self.new.parted ≡ self.old.parted) }

@@ -101,6 +101,7 @@ impl Keeper for FileKeeper {
         ensures tables { self.new.keeper.tables.items ≡ self.old.keeper.tables.items }
         ensures faults { Counts self.old.keeper.faults self.new.keeper.faults (IsErrOf result RunError.Failed) }
         ensures spared { IsErrOf result RunError.NoMemory → self.new.keeper.faults ≡ self.old.keeper.faults }
+        ensures still { IfOk result (λ _. self.new.keeper.faults ≡ self.old.keeper.faults) }
         ensures sure { false ≡ true → IsErrOf result RunError.Failed → ⊥ }
         ensures steady { false ≡ false }
         ensures handed { HasCleanDisk (file_state self.new.keeper.conn) → RunsAs over_files self.old.keeper.tables.items statement.now args.now self.old.keeper.conn self.new.keeper.conn result }
@@ -121,6 +122,7 @@ impl Keeper for FileKeeper {
         ensures tables { self.new.keeper.tables.items ≡ self.old.keeper.tables.items }
         ensures faults { Counts self.old.keeper.faults self.new.keeper.faults (IsErrOf result RunError.Failed) }
         ensures spared { IsErrOf result RunError.NoMemory → self.new.keeper.faults ≡ self.old.keeper.faults }
+        ensures still { IfOk result (λ _. self.new.keeper.faults ≡ self.old.keeper.faults) }
         ensures sure { false ≡ true → IsErrOf result RunError.Failed → ⊥ }
         ensures steady { false ≡ false }
         ensures pinned { HasCleanDisk (file_state self.new.keeper.conn) → IfOk result (λ p. RunsAs over_files self.old.keeper.tables.items statement.now args.now self.old.keeper.conn self.new.keeper.conn (Ok (pinned_answer p))) }

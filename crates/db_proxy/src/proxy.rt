@@ -12,7 +12,7 @@ ghost use Rattle.okws_plan.specs.declared.statement.Answer.{Answer};
 ghost use Rattle.okws_plan.specs.declared.statement.Answer.TheVariants.{Rows};
 ghost use Rattle.okws_outer.specs.Streams.{Rose};
 ghost use Rattle.monitor_model.specs.Standing.{proxy_grant, live_at_proxy};
-ghost use Rattle.monitor_model.specs.Columns.{ProxyLaw};
+ghost use Rattle.monitor_model.specs.Columns.{ProxyLaw, faults};
 ghost use Rattle.token_core.specs.Token.{token_of};
 ghost use Rattle.monitor_model.specs.Proxy.{open_verdict, call_answer, call_verdict, call_denial, rows};
 ghost use Rattle.monitor_model.specs.declared.verdict.Verdict.{Verdict};
@@ -227,9 +227,10 @@ impl<K: Keeper> Proxy<K> {
     /// Decides a call, has the keeper run its query where it is allowed, and enters it. Rows are left to
     /// be found by `finish` when the turn is given back: the answer of a SELECT is pinned before the entry.
     /// Whether the rows' frame is too long is left to `finish` too. The entry is marked as a fault where the
-    /// keeper failed, which leaves the rows as they were. A call that breaks a rule leaves the count of
-    /// faults. Over a keeper that tells no rows, what is answered is what the query may answer: Duplicate
-    /// comes of an INSERT into a table with a KEY alone. Where memory is refused, all is as before.
+    /// keeper failed, which leaves the rows as they were. A call that isn't marked so leaves the count of
+    /// faults, and so does one that breaks a rule. Over a keeper that tells no rows, what is answered is what
+    /// the query may answer: Duplicate comes of an INSERT into a table with a KEY alone. Where memory is
+    /// refused, all is as before.
     pub fn start(&mut self, call: Call) -> Result<Started<K::Pin>, AllocError>
         requires { call.service < length self.old.config.services }
         ensures entry { IfOk result (λ s. (mark : Mark) × (self.new.past ≡ record { worker = self.old.holder; event = event.Call call mark } ∷ self.old.past)
@@ -243,6 +244,7 @@ impl<K: Keeper> Proxy<K> {
         ensures same { self.new ≡ record self.old { past = self.new.past; told = self.new.told; faults = self.new.faults } }
         ensures later { self.old.faults ≤ self.new.faults }
         ensures denied { IsSome (call_denial self.old.config self.old.number self.old.past call) → self.new.faults ≡ self.old.faults }
+        ensures still { OnOk result (faults self.new.past ≡ faults self.old.past → self.new.faults ≡ self.old.faults) }
         ensures err { OnErr result (self.new ≡ self.old) }
     {
         self.head.make_room()?;

@@ -46,6 +46,7 @@ pub fn begin<K: Keeper>(
     ensures tables { K.tables keeper.new ≡ K.tables keeper.old }
     ensures faults { Counts (K.faults keeper.old) (K.faults keeper.new) (IsErrOf result RunError.Failed) }
     ensures spared { IsErrOf result RunError.NoMemory → K.faults keeper.new ≡ K.faults keeper.old }
+    ensures still { IfOk result (λ _. K.faults keeper.new ≡ K.faults keeper.old) }
     ensures sure { K.steady keeper.old ≡ true → IsErrOf result RunError.Failed → ⊥ }
     ensures steady { K.steady keeper.new ≡ K.steady keeper.old }
 {

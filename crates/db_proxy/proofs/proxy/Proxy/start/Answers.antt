@@ -4,7 +4,7 @@ use Rattle.okws_plan.specs.declared.statement.Answer.TheVariants.{Duplicate, Row
 use Rattle.db_proxy.specs.Permit.{MayBeAnswered}
 use Rattle.db_proxy.specs.Seen.{Seen}
 use Rattle.db_proxy.proofs.Untold.{may_be_answered}
-use Rattle.db_proxy.proofs.Verdicts.{done_answers, done_verdict}
+use Rattle.db_proxy.proofs.Verdicts.{done_answers, done_fault, done_verdict, mark_done}
 use Rattle.db_proxy.proofs.proxy.Proxy.start.Goals as goal
 use Rattle.db_proxy.proofs.proxy.Proxy.start.Goals.{in-Err, in-Ok+in-Ok-begin, in-Ok+in-Err-Failed}
 
@@ -31,3 +31,14 @@ returns-clause-entry g c = (
     | in-Ok+in-Err-Failed w ↦ search rules
   ],
 )
+
+pub returns-clause-still : goal.returns-clause-still
+unfolding returns-clause-entry
+returns-clause-still g c = λ none.
+    let entry = returns-clause-entry g c in
+    let done = mark_done entry.0 c.args.call _ _ _ entry.1 none in
+    elim c.match-allowed.branch [
+      | in-Err w ↦ search rules
+      | in-Ok+in-Ok-begin w ↦ search rules
+      | in-Ok+in-Err-Failed w ↦ absurd (done_fault c.match-allowed.mark.0 done (ap (λ m. m.0) w.mark-is))
+    ]

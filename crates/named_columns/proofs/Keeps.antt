@@ -61,6 +61,7 @@ proxy_installed C seed n tells steady first a s k t h w vacant = record {
   steady_is = h.steady_is;
   faultless = h.faultless;
   faults_are = h.faults_are;
+  still = h.still;
 }
 
 pub proxy_revoked : (C : Config) (seed : List ℕ) (n : ℕ) (tells steady : Bool) (first : ℕ → ℕ) (a : Proxy) (s k : ℕ) → IsProxy C seed n tells steady first a → a.holder ≡ n
@@ -76,6 +77,7 @@ proxy_revoked C seed n tells steady first a s k h w = record {
   steady_is = h.steady_is;
   faultless = h.faultless;
   faults_are = h.faults_are;
+  still = h.still;
 }
 
 pub proxy_opened : (C : Config) (seed : List ℕ) (n : ℕ) (tells steady : Bool) (first : ℕ → ℕ) (a : Proxy) (s k : ℕ) (t : Token) → IsProxy C seed n tells steady first a
@@ -91,6 +93,7 @@ proxy_opened C seed n tells steady first a s k t h installed = record {
   steady_is = h.steady_is;
   faultless = h.faultless;
   faults_are = h.faults_are;
+  still = h.still;
 }
 
 faults_done : (n : ℕ) (mark : Mark) → mark ≡ Done → n ≡ 0 → n + faults_of_mark mark ≡ 0
@@ -100,14 +103,18 @@ faults_called : (first n before now : ℕ) (mark : Mark) → counted first n ≤
 faults_called first n before now Done counts later rose = omega (arith, counts, later)
 faults_called first n before now Fault counts later rose = let r = rose refl in omega (arith, counts, later, r)
 
+none_before : (n m : ℕ) → n + m ≡ 0 → n ≡ 0
+none_before n m is = omega (arith, is)
+
 pub some_mapped : {A B : Type 0} (f : A → B) (o : Option A) → is_some (option_map f o) ≡ is_some o
 some_mapped f None = refl
 some_mapped f (Some x) = refl
 
 pub proxy_called : (C : Config) (seed : List ℕ) (n : ℕ) (tells steady : Bool) (first : ℕ → ℕ) (a : Proxy) (call : Call) (mark : Mark) (told : Option (List (List (List Value)))) (now : ℕ) → IsProxy C seed n tells steady first a
     → (mark ≡ Fault → Rose a.faults now) → (a.steady ≡ true → mark ≡ Done) → a.faults ≤ now → is_some told ≡ is_some a.told → IsInstalledAt C a.number a.past call.service call.incarnation
+    → (faults (record { worker = a.holder; event = proxy_event.Call call mark } ∷ a.past) ≡ faults a.past → now ≡ a.faults)
     → IsProxy C seed n tells steady first (record a { past = record { worker = a.holder; event = proxy_event.Call call mark } ∷ a.past; told = told; faults = now })
-proxy_called C seed n tells steady first a call mark told now h rose sure later same installed = record {
+proxy_called C seed n tells steady first a call mark told now h rose sure later same installed kept = record {
   config_is = h.config_is;
   rules = h.rules;
   seed_is = h.seed_is;
@@ -118,6 +125,7 @@ proxy_called C seed n tells steady first a call mark told now h rose sure later 
   steady_is = h.steady_is;
   faultless = λ yes. faults_done (faults a.past) mark (sure (h.steady_is yes)) (h.faultless yes);
   faults_are = faults_called (first a.number) (faults a.past) a.faults now mark h.faults_are later rose;
+  still = λ none. let before = none_before (faults a.past) (faults_of_mark mark) none in kept (none ∙ sym before) ∙ h.still before;
 }
 
 -- what holds after each outcome of a call holds after it
@@ -157,8 +165,8 @@ okd_first C n a config rules fresh = record {
 }
 
 pub proxy_first : (C : Config) (seed : List ℕ) (n : ℕ) (tells steady : Bool) (first : ℕ → ℕ) (a : Proxy) → a.config ≡ C → KeepsRules C → a.seed ≡ seed → a.number < length C.proxies → a.past ≡ []
-    → (tells ≡ true → is_some a.told ≡ true) → (steady ≡ true → a.steady ≡ true) → first a.number ≤ a.faults → IsProxy C seed n tells steady first a
-proxy_first C seed n tells steady first a config rules seeded declared fresh told sure later = record {
+    → (tells ≡ true → is_some a.told ≡ true) → (steady ≡ true → a.steady ≡ true) → first a.number ≡ a.faults → IsProxy C seed n tells steady first a
+proxy_first C seed n tells steady first a config rules seeded declared fresh told sure start = record {
   config_is = config;
   rules = rules;
   seed_is = seeded;
@@ -168,7 +176,8 @@ proxy_first C seed n tells steady first a config rules seeded declared fresh tol
   told_is = told;
   steady_is = sure;
   faultless = λ yes. ap faults fresh;
-  faults_are = let none : faults a.past ≡ 0 = ap faults fresh in omega (arith, later, none);
+  faults_are = let none : faults a.past ≡ 0 = ap faults fresh in omega (arith, start, none);
+  still = λ none. sym start;
 }
 
 pub pubd_first : (C : Config) (n : ℕ) (a : Pubd) → a.config ≡ C → KeepsRules C → a.past ≡ [] → IsPubd C n a 0

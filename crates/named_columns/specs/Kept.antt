@@ -23,7 +23,7 @@ pub record IsOkd (C : Config) (n : ℕ) (okd : Okd) (accepted raised : ℕ) : Ty
   pub accepted_are : accepted ≡ capped (accepts okd.past)
   pub raised_are : raised ≡ capped (ups okd.past)
 
--- Each Open and Call stands above the Install of its incarnation, where its service has a grant. Where the run's keepers tell their rows this one does, and where none of their calls fails no Call is marked Fault; else at most as many are as the keeper's count rose since `first`.
+-- Each Open and Call stands above the Install of its incarnation, where its service has a grant. Where the run's keepers tell their rows this one does, and where none of their calls fails no Call is marked Fault; else at most as many are as the keeper's count rose since it stood at `first`, and where none is it stands there still.
 pub record IsProxy (C : Config) (seed : List ℕ) (n : ℕ) (tells steady : Bool) (first : ℕ → ℕ) (proxy : Proxy) : Type 0 where
   pub config_is : proxy.config ≡ C
   pub rules : KeepsRules C
@@ -35,6 +35,7 @@ pub record IsProxy (C : Config) (seed : List ℕ) (n : ℕ) (tells steady : Bool
   pub steady_is : steady ≡ true → proxy.steady ≡ true
   pub faultless : steady ≡ true → faults proxy.past ≡ 0
   pub faults_are : counted (first proxy.number) (faults proxy.past) ≤ proxy.faults
+  pub still : faults proxy.past ≡ 0 → proxy.faults ≡ first proxy.number
 
 -- No edition is longer than one may be, and each Drain and Get stands above the Install of its incarnation.
 pub record IsPubd (C : Config) (n : ℕ) (pubd : Pubd) (published : ℕ) : Type 0 where

@@ -69,7 +69,7 @@ impl<N: Backed, K: Keeper> SiteProxy<N, K> {
         requires rules { KeepsRules N.site }
         requires told { N.tells ≡ true → is_some proxy.told ≡ true }
         requires steady { N.steady ≡ true → proxy.steady ≡ true }
-        requires faults { N.keeper_faults proxy.number ≤ proxy.faults }
+        requires faults { N.keeper_faults proxy.number ≡ proxy.faults }
         ensures { result ≡ record { number = proxy.number; past = []; keeps = proxy.keeps; told = proxy.told; faults = proxy.faults; steady = proxy.steady; holder = proxy.holder } }
     {
         SiteProxy {
@@ -176,6 +176,7 @@ impl<N: Backed, K: Keeper> SiteProxy<N, K> {
         ensures same { self.new ≡ record self.old { past = self.new.past; told = self.new.told; faults = self.new.faults } }
         ensures later { self.old.faults ≤ self.new.faults }
         ensures denied { IsSome (call_denial N.site self.old.number self.old.past call) → self.new.faults ≡ self.old.faults }
+        ensures still { OnOk result (faults self.new.past ≡ faults self.old.past → self.new.faults ≡ self.old.faults) }
         ensures err { OnErr result (self.new ≡ self.old) }
         ensures adds { AddsBy by_entry self.old.holder self.old.past self.new.past }
     {
@@ -185,7 +186,7 @@ impl<N: Backed, K: Keeper> SiteProxy<N, K> {
     /// What was entered, where each entry fits the entries before it, what was launched names the launcher's
     /// number, and each Open and Call stands above the Install of its incarnation; and the keeper, which is as the column showed it: its rows, where it tells them,
     /// are those of what was entered. At most as many Calls are marked Fault as the keeper's count rose in
-    /// the run, and none where none of its calls fails.
+    /// the run, which did not rise where none is, and none is where none of its calls fails.
     pub fn close(self) -> (Past<Entry<ProxyEvent>>, K)
         ensures past { result.0 ≡ self.past }
         ensures law { ProxyLaw N.site N.run_seed self.number result.0 }
@@ -200,6 +201,7 @@ impl<N: Backed, K: Keeper> SiteProxy<N, K> {
         ensures tables { K.tables result.1 ≡ tables N.site self.number }
         ensures marked { counted (N.keeper_faults self.number) (faults result.0) ≤ self.faults }
         ensures faultless { N.steady ≡ true → faults result.0 ≡ 0 }
+        ensures still { faults result.0 ≡ 0 → self.faults ≡ N.keeper_faults self.number }
     {
         let SiteProxy { proxy, of: _ } = self;
         proxy.close()

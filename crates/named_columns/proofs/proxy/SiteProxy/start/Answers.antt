@@ -9,6 +9,7 @@ use Rattle.okws_plan.specs.declared.event.Mark.{Mark}
 use Rattle.okws_plan.specs.declared.event.ProxyEvent.{ProxyEvent}
 use Rattle.okws_plan.specs.declared.event.ProxyEvent.TheVariants as event
 use Rattle.okws_plan.specs.declared.statement.Answer.TheVariants.{Rows}
+use Rattle.monitor_model.specs.Columns.{faults}
 use Rattle.monitor_model.specs.Proxy.{rows}
 use Rattle.started_call.specs.Starting.{verdict_of}
 use Rattle.service_cell.specs.Asking.{IsNarrow}
@@ -34,7 +35,7 @@ invariant_of-self g c =
     let rows_are : b.told ≡ option_map rows_now a.told = subst (λ r. OnOk r (b.told ≡ option_map rows_now a.told)) is c.start.ensures.rows in
     let told = ap is_some rows_are ∙ some_mapped rows_now a.told in
     subst keeps (sym c.start.ensures.same) (subst (λ (J : List (Entry ProxyEvent)). keeps (record a { past = J; told = b.told; faults = b.faults })) (sym q.1)
-    (proxy_called g.N.Numbered.site g.N.Numbered.run_seed g.N.Numbered.launcher g.N.Backed.tells g.N.Backed.steady g.N.Backed.keeper_faults a call q.0 b.told b.faults c.self.invariant (λ fault. (q.2 fault).1) q.3 c.start.ensures.later told installed)))
+    (proxy_called g.N.Numbered.site g.N.Numbered.run_seed g.N.Numbered.launcher g.N.Backed.tells g.N.Backed.steady g.N.Backed.keeper_faults a call q.0 b.told b.faults c.self.invariant (λ fault. (q.2 fault).1) q.3 c.start.ensures.later told installed (λ e. subst (λ r. OnOk r (faults b.past ≡ faults a.past → b.faults ≡ a.faults)) is c.start.ensures.still (ap faults q.1 ∙ e)))))
     c.self.invariant
 
 pub returns-clause-narrow : goal.returns-clause-narrow

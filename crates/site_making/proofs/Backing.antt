@@ -24,7 +24,7 @@ backed_from C steady first all before (k ∷ ks) p f q e s h =
     let n : length (before ++ k ∷ []) ≡ length before + 1 = length-append before (k ∷ []) in (
       h.0,
       λ t. and_first k.steady (are_steady ks) (s t),
-      omega arith,
+      at,
       backed_from C steady first all (before ++ k ∷ []) ks (suc p) f (q ∙ sym (append_assoc before (k ∷ []) ks)) (omega arith) (λ t. and_second k.steady (are_steady ks) (s t)) h.1,
     )
 

@@ -1,5 +1,5 @@
 -- The keepers of a run's proxies.
-use Rattle.std.specs.Prelude.{◌≡◌, ◌≤◌, ℕ, suc, Bool, true, ◌&&◌, List, [], ◌∷◌, Some, map, slice_index}
+use Rattle.std.specs.Prelude.{◌≡◌, ℕ, suc, Bool, true, ◌&&◌, List, [], ◌∷◌, Some, map, slice_index}
 use Rattle.std.specs.declared.option.Option.{Option}
 use Rattle.okws_base.specs.declared.value.Value.{Value}
 use Rattle.okws_plan.specs.Configuration.{tables, first_rows}
@@ -39,4 +39,4 @@ faults_at ks p = slice_index (map (λ (k : KeeperIs). k.faults) ks) p
 -- They are those of the proxies from p on, in a run that says whether no call of theirs fails, and what their counts were when it began.
 abbrev pub AreBacked : Config → Bool → (ℕ → ℕ) → ℕ → List KeeperIs → Type 0
 AreBacked C steady first p [] = Unit {0}
-AreBacked C steady first p (k ∷ ks) = IsKeeper C p k × (steady ≡ true → k.steady ≡ true) × (first p ≤ k.faults) × AreBacked C steady first (suc p) ks
+AreBacked C steady first p (k ∷ ks) = IsKeeper C p k × (steady ≡ true → k.steady ≡ true) × (first p ≡ k.faults) × AreBacked C steady first (suc p) ks

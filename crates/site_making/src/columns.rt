@@ -44,7 +44,7 @@ fn proxy<N: Backed, K: Keeper + Drop>(
     requires declared { number < length N.site.proxies }
     requires keeper { IsKeeper N.site number (keeper_of K.tables K.told K.faults K.steady keeper) }
     requires steady { N.steady ≡ true → K.steady keeper ≡ true }
-    requires faults { N.keeper_faults number ≤ K.faults keeper }
+    requires faults { N.keeper_faults number ≡ K.faults keeper }
     ensures { IfOk result (λ x. (x.past ≡ []) × (x.number ≡ number)) }
 {
     let site = shared(site)?;

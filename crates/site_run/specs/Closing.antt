@@ -21,13 +21,14 @@ pub record WritesLog (C : Config) (J : List (Entry LogEvent)) (given : Option (L
   pub still : failed ≡ false → after ≡ before
   pub later : before ≤ after
 
--- A keeper of proxy p, whose journal this is, in a run in which keepers tell their rows where `tells` says so, in which no call of a keeper fails where `steady` says so, and which began when the keeper's count was `first`: it has the proxy's tables, and its rows are those of the journal; at most as many Calls were marked Fault as its count rose.
+-- A keeper of proxy p, whose journal this is, in a run in which keepers tell their rows where `tells` says so, in which no call of a keeper fails where `steady` says so, and which began when the keeper's count was `first`: it has the proxy's tables, and its rows are those of the journal; at most as many Calls were marked Fault as its count rose, and where none was it stands at `first` still.
 pub record KeeperEnds (C : Config) (tells steady : Bool) (first p : ℕ) (k : KeeperIs) (J : List (Entry ProxyEvent)) : Type 0 where
   pub tables_are : k.tables ≡ tables C p
   pub tells_them : tells ≡ true → is_some k.told ≡ true
   pub rows_are : IfSome k.told (λ T. T ≡ rows C p J)
   pub faults_are : counted first (faults J) ≤ k.faults
   pub faultless : steady ≡ true → faults J ≡ 0
+  pub still : faults J ≡ 0 → k.faults ≡ first
 
 -- The same of the keepers of the proxies from p on.
 abbrev pub AllKept : Config → Bool → Bool → (ℕ → ℕ) → ℕ → List KeeperIs → List (List (Entry ProxyEvent)) → Type 0

@@ -72,6 +72,7 @@ loop-proxy-preserved g c =
             rows_are = c.close-past.ensures.rows;
             faults_are = subst (λ m. counted (g.N.Backed.keeper_faults (number x)) (faults J) ≤ m) (sym c.close-past.ensures.faults) c.close-past.ensures.marked;
             faultless = c.close-past.ensures.faultless;
+            still = λ none. c.close-past.ensures.faults ∙ c.close-past.ensures.still none;
           })));
       many = search rules;
       alike = search rules;

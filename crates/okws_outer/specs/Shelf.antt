@@ -9,8 +9,9 @@ pub record Shelf : Type 0 where
   pub opened : List (List ℕ)
   pub faults : ℕ
 
--- Nothing changed but that files were opened at just these paths, the last one first, and that calls may have failed: at least one where this fault came.
+-- Nothing changed but that files were opened at just these paths, the last one first, and that calls may have failed: at least one where this fault came, and none where it didn't.
 pub record Reads (before after : Shelf) (paths : List (List ℕ)) (fault : Type 0) : Type 0 where
   pub held : after.held ≡ before.held
   pub opened : after.opened ≡ paths ++ before.opened
   pub faults : Counts before.faults after.faults fault
+  pub still : (fault → ⊥) → after.faults ≡ before.faults

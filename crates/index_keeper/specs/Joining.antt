@@ -9,10 +9,11 @@ use Rattle.okws_plan.specs.declared.statement.Condition.{Condition}
 use Rattle.okws_plan.specs.declared.statement.Join.{Join}
 use Rattle.okws_plan.specs.declared.statement.Selection.{Selection}
 
--- The join's column of the first table, which has n columns, and that of the second.
+-- The join's column of the first table, which has n columns.
 abbrev pub own_column : ℕ → Join → ℕ
 own_column n join = if nat_lt join.left n then join.left else join.right
 
+-- The join's column of the second table, as that table counts it: in the join it stands behind the n columns of the first.
 abbrev pub other_column : ℕ → Join → ℕ
 other_column n join = (if nat_lt join.left n then join.right else join.left) - n
 

@@ -6,7 +6,7 @@ use Rattle.atomic_table.specs.Table.{Splits, Joins, Final, Seen, opening}
 use Rattle.atomic_table.proofs.Lists.{set_else}
 use Rattle.turn_lock.specs.declared.board_rule.View.{View}
 use Rattle.turn_lock.specs.declared.board_rule.Part.{Part}
-use Rattle.turn_lock.specs.Board.{services, spent_number, AllUnder, drawn_by, World, IsSpent, Owns, Fits, AllFit, Knows, Kept, none_begun, opening_view, dealer, dealt, joined, spent_view, parts_of, AllSaw, AllDrew}
+use Rattle.turn_lock.specs.Board.{services, spent_number, AllUnder, drawn_by, World, IsSpent, Owns, Fits, AllFit, Knows, Kept, none_begun, opening_view, dealer, dealt, glimpse_of, joined, spent_view, parts_of, AllSaw, AllDrew}
 use Rattle.turn_lock.proofs.BoardLists.{all_stay, last_or, up_to-refl, drawn-none, pick, pick_here, pick_else, total_set, total_snoc}
 
 module _ (n : ℕ) (W : World) (owner : ℕ → ℕ) where
@@ -77,6 +77,27 @@ module _ (n : ℕ) where
               olds_fit = tt;
               spares = λ i from to _. absurd (omega arith);
             }) (last_or (set s.views id a) w u j e);
+      }
+
+  pub glimpses : (id : ℕ) (v : View) → Splits (Kept n) id v v (glimpse_of v)
+  glimpses id v s r at =
+      let W = r.world in
+      let k = r.each id v at in
+      let w : View = glimpse_of v in
+      let few = r.few in
+      record {
+        world = W;
+        words = r.words;
+        few = r.few;
+        narrow = r.narrow;
+        seated = r.seated;
+        counted = let q = total_set s.views id v v at in let y = total_snoc (set s.views id v) w in let x = r.counted in omega arith;
+        each = λ j u e. ⊎_elim (λ (x : (j < length (set s.views id v)) × (get_elem? (set s.views id v) j ≡ maybe.some u)). all_stay (Knows n W) s.views id v k (λ i y ne f. r.each i y f) j u x.1)
+            (λ (x : (j ≡ length (set s.views id v)) × (w ≡ u)). subst (Knows n W j) x.1 record {
+              fits = record { behind = k.fits.behind; owned = inl record { is = refl; none = refl } };
+              olds_fit = tt;
+              spares = λ i from to _. absurd (omega arith);
+            }) (last_or (set s.views id v) w u j e);
       }
 
   pub joins : (id : ℕ) (v : View) (other : ℕ) (u : View) → Joins (Kept n) id v other u (joined v u) spent_view

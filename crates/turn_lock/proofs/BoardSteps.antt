@@ -10,7 +10,7 @@ use Rattle.std.proofs.lemmas.Bool.{cases_lt, ltb-true, ltb-false}
 use Rattle.std.proofs.lemmas.List.{set-get_or}
 use Rattle.turn_lock.specs.declared.board_rule.View.{View}
 use Rattle.turn_lock.specs.declared.board_rule.Part.{Part}
-use Rattle.turn_lock.specs.Board.{most_drawn, spent_number, UpTo, AllUnder, drawn_by, World, IsSpent, Owns, Fits, AllFit, Knows, total, Kept, from_on, saw, with_number, M, looked, raised, drew, with_rest, drew_rest}
+use Rattle.turn_lock.specs.Board.{most_drawn, spent_number, UpTo, AllUnder, drawn_by, World, IsSpent, Owns, Fits, AllFit, Knows, total, Kept, from_on, saw, with_number, M, looked, raised, view_of, glimpse_of, joined, but_last, LastSaw, compared, drew, with_rest, drew_rest}
 use Rattle.turn_lock.proofs.BoardLists.{all_stay, up_to-refl, up_to-at, up_to-look, up_to-raise, under-at, under-set, drawn-under, hand_after, drawn-own, drawn-other, hand_rest, rest_here, rest_else, rest-own, rest-other, pick_here, pick_else, total_set}
 
 module _ (n : ℕ) (W : World) (greatest : List ℕ) (count : ℕ) (hand : ℕ → ℕ) where
@@ -45,6 +45,19 @@ apart n W number id j p few own ne f below e = ⊎_elim (λ (x : IsSpent p). let
 -- a seat's own part is owned
 pub own_part : (n : ℕ) (W : World) (i : ℕ) (p : Part) → p.number ≢ spent_number → Fits n W i p → Owns n W i p
 own_part n W i p numbered f = ⊎_elim (λ (x : IsSpent p). absurd (numbered x.is)) (λ (x : Owns n W i p). x) f.owned
+
+but_last-fit : (n : ℕ) (W : World) (i at : ℕ) (ps : List Part) → AllFit n W i at ps → AllFit n W i at (but_last ps)
+but_last-fit n W i at [] f = tt
+but_last-fit n W i at (p ∷ ps) f = f.2
+
+last-saw : (n : ℕ) (W : World) (i at : ℕ) (ps : List Part) → AllFit n W i at ps → LastSaw ps W.greatest
+last-saw n W i at [] f = tt
+last-saw n W i at (p ∷ ps) f = f.0.behind
+
+-- what a part has seen that was joined just before, as a glimpse of another view
+pub after_compare : (j g v u : M) → j ≡ (joined v.0 g.0, v.1) → g ≡ (glimpse_of u.0, []) → LastSaw j.0.olds j.0.part.seen → (s : ℕ) → get_or u.0.part.seen s 0 ≤ get_or v.0.part.seen s 0
+after_compare j g v u e f h s =
+    up_to-at u.0.part.seen v.0.part.seen s (subst (λ (m : M). UpTo m.0.part.seen v.0.part.seen) f (subst (λ (m : M). LastSaw m.0.olds m.0.part.seen) e h))
 
 module _ (n : ℕ) where
   abbrev St : Type 0
@@ -136,6 +149,30 @@ module _ (n : ℕ) where
               });
         },
         refl,
+      )
+
+  pub compares : (slots id : ℕ) (me : M) → suc me.0.part.number ≡ n → me.0.part.number ≢ spent_number → Allows (Kept n) slots id me 0 (λ r. r) (compared (step slots 0 0 0 maybe.none) me)
+  compares slots id me last numbered st r _ at _ =
+      let W = r.world in
+      let v = me.0 in
+      let k = r.each id v at in
+      let own = own_part n W id v.part numbered k.fits in
+      let w : View = view_of v.part (but_last v.olds) v.spare v.room in (
+        w,
+        keeps,
+        tt,
+        record {
+          world = W;
+          words = set-get_or st.words 0 0 ∙ r.words;
+          few = r.few;
+          narrow = r.narrow;
+          seated = r.seated;
+          counted = let q = total_set st.views id v w at in let x = r.counted in omega arith;
+          each = all_stay (Knows n W) st.views id w
+              record { fits = k.fits; olds_fit = but_last-fit n W id v.part.number v.olds k.olds_fit; spares = k.spares }
+              (λ j u ne e. r.each j u e);
+        },
+        (refl, subst (LastSaw v.olds) (sym (own.launcher last)) (last-saw n W id v.part.number v.olds k.olds_fit)),
       )
 
   abbrev room_after : (r room : ℕ) → ℕ

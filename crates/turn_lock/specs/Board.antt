@@ -135,6 +135,15 @@ dealt v = view_of (part_of v.spare v.part.seen []) [] spent_number 1
 abbrev pub joined : View → View → View
 joined v w = view_of v.part (w.part ∷ w.olds ++ v.olds) v.spare v.room
 
+-- What a seat has seen, in a view that has no number.
+abbrev pub glimpse_of : View → View
+glimpse_of v = view_of (part_of spent_number v.part.seen []) [] spent_number 0
+
+-- The old parts but the one that was joined last.
+abbrev pub but_last : List Part → List Part
+but_last [] = []
+but_last (p ∷ ps) = ps
+
 -- What a join leaves of the second.
 abbrev pub spent_view : View
 spent_view = view_of (part_of spent_number [] []) [] spent_number 0
@@ -162,6 +171,15 @@ drew st m r m' = (m' ≡ (with_number r m.0, m.1)) × AllUnder r m.0.part.drawn
 -- The seat draws all numbers that are left below the limit, from the one that it found on, which is above all that it drew.
 abbrev pub drew_rest : Step ℕ → M → ℕ → M → Type 0
 drew_rest st m r m' = (m' ≡ (with_rest r m.0, m.1)) × AllUnder r m.0.part.drawn
+
+-- What the part that was joined last has seen is at most this.
+abbrev pub LastSaw : List Part → List ℕ → Type 0
+LastSaw [] seen = Unit {0}
+LastSaw (p ∷ ps) seen = UpTo p.seen seen
+
+-- The launcher's seat has seen at least what the part has that was joined last, and lets it go.
+abbrev pub compared : Step ℕ → M → ℕ → M → Type 0
+compared st m r m' = (m' ≡ (view_of m.0.part (but_last m.0.olds) m.0.spare m.0.room, m.1)) × LastSaw m.0.olds m.0.part.seen
 
 -- The parts' seen numbers are at most these, and those of the launcher's part are these.
 abbrev pub AllSaw : ℕ → List ℕ → List Part → Type 0

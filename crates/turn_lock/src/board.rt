@@ -3,7 +3,9 @@ ghost use Rattle.std.specs.Prelude.{◌≡◌, ◌≢◌, ℕ, List, ◌<◌, �
 ghost use Rattle.turn_lock.specs.Board.{services, most_drawn, spent_number, opening_view, dealer, dealt, part_of, view_of, none_begun, AllUnder, AllSaw, AllDrew, from_on};
 ghost use Rattle.turn_lock.specs.BoardSeats.{parts, seat_of, IsSeat, MayDraw, AreFresh, AreRising, AllAt, SeatsSaw, SeatsDrew};
 
-use crate::board_rule::{Current, Deal, Draw, DrawRest, Raise, Rises, TakeIn, View};
+use crate::board_rule::{
+    Compare, Current, Deal, Draw, DrawRest, Glimpse, Raise, Rises, TakeIn, View,
+};
 use atomic_table::Table;
 use std::alloc::{AllocError, Global};
 use std::marker::Model;
@@ -162,6 +164,19 @@ impl Board {
     {
         let words = &self.table.shared;
         words.store::<Raise>(&mut seat.place, 1 + service as usize, incarnation as u64);
+    }
+
+    /// The launcher's seat has seen at least what another one has of each service: it alone writes them.
+    pub fn compare(&self, launcher: &mut Seat, other: &mut Seat)
+        requires board { (launcher.old.board ≡ self.now.id) × (other.old.board ≡ self.now.id) }
+        requires launcher { launcher.old.number + 1 ≡ self.now.count }
+        ensures least { (s : ℕ) → slice_index other.old.seen s ≤ slice_index launcher.old.seen s }
+        ensures same { (launcher.new ≡ launcher.old) × (other.new ≡ other.old) }
+    {
+        let words = &self.table.shared;
+        let glimpse = words.split_seat::<Glimpse>(&mut other.place);
+        words.join_seat::<TakeIn>(&mut launcher.place, glimpse);
+        words.load::<Compare>(&mut launcher.place, DRAWN);
     }
 
     /// Draws a connection number, above all that the seat drew. No other seat is given it.

@@ -49,6 +49,14 @@ impl Play<u8, View> for Raise {
     ghost then = { raised };
 }
 
+pub struct Compare;
+
+impl Play<u8, View> for Compare {
+    ghost use Rattle.turn_lock.specs.Board.{compared};
+
+    ghost then = { compared };
+}
+
 pub struct Draw;
 
 impl Play<u8, View> for Draw {
@@ -73,6 +81,16 @@ impl Split<View> for Deal {
     ghost left = { dealer };
 
     ghost right = { dealt };
+}
+
+pub struct Glimpse;
+
+impl Split<View> for Glimpse {
+    ghost use Rattle.turn_lock.specs.Board.{glimpse_of};
+
+    ghost left = { λ v. v };
+
+    ghost right = { glimpse_of };
 }
 
 pub struct TakeIn;

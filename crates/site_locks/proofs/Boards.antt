@@ -1,9 +1,5 @@
 -- What is seen on the board.
-use Rattle.std.proofs.Common.{◌≡◌, ◌∙◌, ℕ, zero, suc, ◌<◌, ◌≤◌, List, [], ◌∷◌, length, get_or, set, refl, ap, arith}
-use Rattle.std.proofs.Math.ListN.{length-set}
-use Rattle.atomic_table.specs.Seated.{TableId}
-use Rattle.turn_lock.specs.BoardSeats.{SeatIs as BoardSeat}
-use Rattle.site_locks.specs.Sat.{AtBoard}
+use Rattle.std.proofs.Common.{ℕ, zero, suc, ◌≤◌, List, [], ◌∷◌, get_or, set, arith}
 
 -- no number fell
 pub no_fall : (xs : List ℕ) (i r s : ℕ) → get_or xs i 0 ≤ r → get_or xs s 0 ≤ get_or (set xs i r) s 0

@@ -1,6 +1,6 @@
 -- Gathering the seats of all numbers.
 use Rattle.std.proofs.Common.{◌≡◌, ◌∙◌, ◌⊎◌, inl, inr, ⊎_elim, ℕ, suc, List, [], ◌∷◌, ◌++◌, map, reverse, length, refl, sym, ap, subst}
-use Rattle.std.proofs.lemmas.List.{append_assoc, append-nil, length-map, length-reverse}
+use Rattle.std.proofs.lemmas.List.{append_assoc, length-map, length-reverse}
 use Rattle.okws_base.specs.Turns.{GrowsBy}
 use Rattle.okws_base.specs.declared.journal.Entry.{Entry}
 use Rattle.okws_plan.specs.declared.event.OkdEvent.{OkdEvent}

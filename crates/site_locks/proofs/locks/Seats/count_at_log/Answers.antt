@@ -1,4 +1,4 @@
-use Rattle.std.proofs.Common.{List, [], refl, sym, ap}
+use Rattle.std.proofs.Common.{[], refl, sym, ap}
 use Rattle.okws_base.specs.declared.journal.Entry.{Entry}
 use Rattle.okws_plan.specs.declared.event.LogEvent.{LogEvent}
 use Rattle.turn_lock.specs.Seats.{SeatIs}

@@ -1,7 +1,6 @@
-use Rattle.std.proofs.Common.{rules, arith, ◌≡◌, ◌∙◌, ◌<◌, length, refl, sym, ap, subst}
+use Rattle.std.proofs.Common.{rules, arith, ◌≡◌, ◌∙◌, ◌<◌, length, refl, sym, subst}
 use Rattle.okws_base.specs.Turns.{Behind}
 use Rattle.monitor_model.specs.Seen.{proxy_past}
-use Rattle.site_locks.specs.Sat.{Sat}
 use Rattle.site_locks.proofs.Heard.{heard_one, sees_none, sees_one}
 use Rattle.site_locks.proofs.locks.Seats.hear_proxies.Goals as goal
 

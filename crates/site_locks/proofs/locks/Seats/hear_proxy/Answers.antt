@@ -1,11 +1,10 @@
-use Rattle.std.proofs.Common.{rules, ◌≡◌, ◌∙◌, ◌<◌, length, refl, sym, ap, subst}
+use Rattle.std.proofs.Common.{rules, ◌∙◌, ◌<◌, length, refl, sym, ap, subst}
 use Rattle.okws_base.specs.Turns.{Behind}
 use Rattle.okws_base.specs.declared.journal.Entry.{Entry}
 use Rattle.okws_plan.specs.declared.event.ProxyEvent.{ProxyEvent}
 use Rattle.monitor_model.specs.Seen.{proxy_past}
 use Rattle.turn_lock.specs.Seats.{NoteIs}
 use Rattle.site_locks.specs.Sat.{LockIds}
-use Rattle.named_columns.specs.Turns.{Sees}
 use Rattle.site_locks.proofs.Heard.{met_sees, note_at, note_kept, note_seen, notes_many}
 use Rattle.site_locks.proofs.Placing.{within, there, moved_there, seen_moves, sees_there}
 use Rattle.site_locks.proofs.locks.Seats.hear_proxy.Goals as goal

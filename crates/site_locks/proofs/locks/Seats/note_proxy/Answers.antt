@@ -3,7 +3,7 @@ use Rattle.atomic_table.specs.Seated.{TableId}
 use Rattle.okws_base.specs.declared.journal.Entry.{Entry}
 use Rattle.okws_plan.specs.declared.event.ProxyEvent.{ProxyEvent}
 use Rattle.monitor_model.specs.Seen.{proxy_past}
-use Rattle.turn_lock.specs.Seats.{NoteIs, SeatIs}
+use Rattle.turn_lock.specs.Seats.{NoteIs}
 use Rattle.site_locks.specs.Sat.{LockIds, Sat, AreSeats}
 use Rattle.site_locks.proofs.Heard.{seat_kept}
 use Rattle.site_locks.proofs.Placing.{within, there, seen_there}

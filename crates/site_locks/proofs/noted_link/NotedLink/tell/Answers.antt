@@ -1,4 +1,4 @@
-use Rattle.std.proofs.Common.{◌≡◌, ◌∙◌, sym, ap, subst}
+use Rattle.std.proofs.Common.{◌∙◌, sym, ap, subst}
 use Rattle.okws_outer.specs.Wire.{Wire}
 use Rattle.site_locks.specs.Heard.{AreInstalled, columns_of}
 use Rattle.site_locks.proofs.Heard.{told_installed}

@@ -1,5 +1,5 @@
 -- The children that are finished, against what was seen of their cells.
-use Rattle.std.proofs.Common.{if◌then◌else◌, ◌≡◌, ◌≢◌, ◌∙◌, ℕ, ◌+◌, ◌<◌, ◌≤◌, Bool, true, false, List, [], ◌∷◌, Option, Some, None, refl, sym, ap, subst, arith, eq-eqb, ne_eqb}
+use Rattle.std.proofs.Common.{if◌then◌else◌, ◌≡◌, ◌≢◌, ◌∙◌, ℕ, ◌+◌, ◌≤◌, Bool, true, false, List, [], ◌∷◌, Option, Some, None, refl, sym, ap, subst, arith, eq-eqb, ne_eqb}
 use Rattle.std.specs.Prelude.{IfSome, ◌==◌, ◌&&◌, count_by, is_some, nat_lt, slice_set}
 use Rattle.std.proofs.lemmas.Bool.{false≢true, lt-ltb}
 use mathlib.Core.Logic.{dite}

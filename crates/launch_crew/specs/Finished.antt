@@ -1,5 +1,5 @@
 -- What is told of children that were started and finished, against what was seen of their services' cells.
-use Rattle.std.specs.Prelude.{◌≡◌, ◌⊎◌, ◌<◌, ◌≤◌, ℕ, zero, suc, ◌+◌, Bool, true, false, not, List, [], ◌∷◌, ◌++◌, Option, Some, None, IfSome, IsTrue, ◌==◌, ◌&&◌, if◌then◌else◌, count_by, nat_lt}
+use Rattle.std.specs.Prelude.{◌≡◌, ◌⊎◌, ◌≤◌, ℕ, zero, suc, ◌+◌, Bool, true, false, not, List, [], ◌∷◌, ◌++◌, Option, Some, None, IfSome, ◌==◌, ◌&&◌, if◌then◌else◌, count_by, nat_lt}
 use Rattle.std.specs.Io.KnownBytes.{Consumes}
 use Rattle.okws_base.specs.Runs.{Each}
 use Rattle.okws_base.specs.Turns.{Behind}

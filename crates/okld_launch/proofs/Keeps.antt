@@ -1,11 +1,11 @@
 -- What each step of a launch leaves of the launcher.
-use Rattle.std.proofs.Common.{◌≡◌, ◌≢◌, ◌∙◌, ⊎_elim, ℕ, ◌<◌, ◌≤◌, [], Option, None, length, refl, sym, ap, subst, arith, get_or-set_other}
+use Rattle.std.proofs.Common.{◌≡◌, ◌≢◌, ◌∙◌, ⊎_elim, ℕ, ◌<◌, ◌≤◌, [], Option, None, length, sym, ap, subst, arith, get_or-set_other}
 use Rattle.std.specs.Prelude.{slice_index, slice_set}
 use Rattle.std.proofs.lemmas.Bool.{cases_eq}
 use Rattle.okws_plan.specs.declared.configuration.Config.{Config}
 use Rattle.okws_plan.specs.declared.script.Place.{Place}
 use Rattle.okws_plan.specs.declared.script.Place.TheVariants.{Proxy, Pubd, Oklogd}
-use Rattle.monitor_model.specs.Cell.{incarnation, last_booted}
+use Rattle.monitor_model.specs.Cell.{last_booted}
 use Rattle.monitor_model.specs.Launcher.{begun}
 use Rattle.site_cells.specs.Row.{CellsSeen, seen_at, OnlyAt}
 use Rattle.site_locks.specs.Sat.{Sat}

@@ -3,7 +3,6 @@ use Rattle.std.proofs.Common.{◌≡◌, ◌≢◌, ◌∙◌, ℕ, zero, suc, �
 use Rattle.std.specs.Prelude.{slice_index, slice_set, slice_index_or, Result, OnOk, OnErr}
 use Rattle.okws_plan.specs.declared.configuration.Config.{Config}
 use Rattle.okws_outer.specs.Lives.{Life}
-use Rattle.monitor_model.specs.Cell.{incarnation}
 use Rattle.monitor_model.specs.Launcher.{begun}
 use Rattle.monitor_model.specs.Standing.{up_at_okd}
 use Rattle.launch_journal.specs.Launches.{Launches}

@@ -31,7 +31,7 @@ use Rattle.launch_turns.specs.declared.deed.Deed.{Deed}
 use Rattle.launch_turns.proofs.Deeds.{entries_behind}
 use Rattle.site_worker.specs.Commands.{Commands, Oversees, StepsAt}
 use Rattle.site_worker.specs.Launching.{OnlyLauncher}
-use Rattle.site_worker.specs.Lives.{Life, Sees, Starves, StarvesWhere}
+use Rattle.site_worker.specs.Lives.{Life, Sees, StarvesWhere}
 use Rattle.site_worker.specs.Steering.{Publishes, Relaunches, Surveys}
 use Rattle.site_worker.specs.declared.console.Overseen.{Overseen}
 use Rattle.site_run.specs.Tied.{LifeEnds}

@@ -61,7 +61,13 @@ reads_whole told text (Err config_stop.ReadFault) front m = tt
 reads_whole told text (Err (config_stop.Refused refusal)) front m = (front.0, front.1, sym (meaning_front front.0 text front.2) ∙ ap meaning m.1 ∙ m.2)
 reads_whole told text (Err config_stop.NoMemory) front m = tt
 
--- ---- one file and another
+-- ---- what was counted of a read
 
-pub reads_as : (a b : Shelf) (paths : List (List ℕ)) (f h : Type 0) → Reads a b paths f → (h → f) → Reads a b paths h
-reads_as a b paths f h reads is = record { held = reads.held; opened = reads.opened; faults = record { later = reads.faults.later; cause = λ x. reads.faults.cause (is x) } }
+-- where no fault came the count stands
+pub reads_still : (a b : Shelf) (paths : List (List ℕ)) (fault : Type 0) → Reads a b paths fault → (fault → ⊥) → Reads a b paths ⊥
+reads_still a b paths fault reads none = record {
+  held = reads.held;
+  opened = reads.opened;
+  faults = record { later = reads.faults.later; cause = λ x. absurd x };
+  still = λ x. reads.still none;
+}

@@ -1,6 +1,6 @@
 //! What a number does at the board.
 
-ghost use Rattle.std.specs.Prelude.{◌≡◌, ◌<◌, ◌≤◌, ◌∷◌, length, slice_index, slice_set};
+ghost use Rattle.std.specs.Prelude.{◌≡◌, ◌<◌, ◌≤◌, ◌∷◌, ℕ, length, slice_index, slice_set};
 ghost use Rattle.turn_lock.specs.Board.{AllUnder};
 ghost use Rattle.turn_lock.specs.BoardSeats.{MayDraw};
 
@@ -39,5 +39,14 @@ impl<N: Backed, J: Site, K: Keeper, S: Sink> Seats<N, J, K, S> {
         ensures seen { self.new ≡ record self.old { board = slice_set self.old.board service incarnation } }
     {
         locks.board.raise(&mut self.board, service, incarnation);
+    }
+
+    /// The launcher has seen at least what another number has of each service: it alone writes there.
+    pub fn compare(&mut self, locks: &Locks<N, J, K, S>, other: &mut Seats<N, J, K, S>)
+        requires { self.old.number ≡ N.launcher }
+        ensures least { (s : ℕ) → slice_index other.old.board s ≤ slice_index self.old.board s }
+        ensures same { (self.new ≡ self.old) × (other.new ≡ other.old) }
+    {
+        locks.board.compare(&mut self.board, &mut other.board);
     }
 }

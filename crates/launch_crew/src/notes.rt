@@ -1,6 +1,6 @@
-//! What the launcher has seen, for other numbers to take in.
+//! What the launcher has seen, for other numbers to take in, and what others have seen of the board.
 
-ghost use Rattle.std.specs.Prelude.{◌≡◌, ◌<◌, IfOk, length};
+ghost use Rattle.std.specs.Prelude.{◌≡◌, ◌<◌, ◌≤◌, ℕ, IfOk, length, slice_index};
 ghost use Rattle.site_cells.specs.Row.{seen_at};
 ghost use Rattle.site_locks.specs.Heard.{columns_of};
 
@@ -12,7 +12,7 @@ use site_cells::lock_names::CellNames;
 use site_cells::locks::CellLocks;
 use site_cells::note::CellNote;
 use site_locks::column_notes::ColumnNotes;
-use site_locks::locks::Locks;
+use site_locks::locks::{Locks, Seats};
 use site_locks::named::Site;
 use site_locks::note::OkdNote;
 use site_locks::noted_link::NotedLink;
@@ -26,6 +26,16 @@ impl<N: Backed, J: Site, C: CellNames, K: Keeper, S: Sink, L: Link> Recorder<N, 
     {
         let _own = &self.own;
         self.seats.note_okd(locks)
+    }
+
+    /// On the board at least what another number has seen of each service was seen, for nobody else writes
+    /// there. It takes no turn and no memory.
+    pub fn compare(&mut self, locks: &Locks<N, J, K, S>, other: &mut Seats<N, J, K, S>)
+        ensures least { (s : ℕ) → slice_index other.old.board s ≤ slice_index self.old.sat.board s }
+        ensures same { (self.new ≡ self.old) × (other.new ≡ other.old) }
+    {
+        let _own = &self.own;
+        self.seats.compare(locks, other);
     }
 
     /// Notes of what was seen at the proxies, at pubd and at oklogd. It takes no turn. Where memory is refused,

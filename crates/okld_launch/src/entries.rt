@@ -1,6 +1,6 @@
 //! What the launcher enters in its journal, and what it knows by it.
 
-ghost use Rattle.std.specs.Prelude.{◌≡◌, ◌<◌, ◌≤◌, ◌+◌, ◌==◌, OnOk, IfNone, IfSome, Some, None, true, if◌then◌else◌, length};
+ghost use Rattle.std.specs.Prelude.{◌≡◌, ◌<◌, ◌≤◌, ◌+◌, ◌==◌, ℕ, OnOk, IfNone, IfSome, Some, None, true, if◌then◌else◌, length, slice_index};
 ghost use Rattle.okws_base.specs.declared.limit.TheConstants.{MOST_INCARNATIONS, MOST_PROXIES};
 ghost use Rattle.okws_plan.specs.declared.event.LauncherEvent.TheVariants as event;
 ghost use Rattle.monitor_model.specs.Cell.{last_booted};
@@ -26,7 +26,7 @@ use okws_plan::event::LauncherEvent;
 use site_cells::lock_names::CellNames;
 use site_cells::locks::CellLocks;
 use site_cells::note::CellNote;
-use site_locks::locks::Locks;
+use site_locks::locks::{Locks, Seats};
 use site_locks::named::Site;
 use site_locks::note::OkdNote;
 use site_locks::noted_link::Noted;
@@ -201,6 +201,14 @@ impl<N: Staffed, J: Site, C: CellNames, K: Keeper, S: Sink, F: Children> Launche
     {
         self.crew.recorder.keeps();
         self.crew.recorder.meet(cells, note);
+    }
+
+    /// What another number has seen on the board of each service was begun. It takes no turn and no memory.
+    pub fn compare(&mut self, locks: &Locks<N, J, K, S>, other: &mut Seats<N, J, K, S>)
+        ensures begun { (s : ℕ) → s < length N.site.services → slice_index other.old.board s ≤ begun self.old.journal.past s }
+        ensures same { (self.new ≡ self.old) × (other.new ≡ other.old) }
+    {
+        self.crew.recorder.compare(locks, other);
     }
 
     /// A note of what was seen at okd.

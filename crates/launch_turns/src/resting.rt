@@ -24,7 +24,7 @@ use okws_outer::keeper::Keeper;
 use okws_outer::stream::Sink;
 use okws_plan::event::LauncherEvent;
 use site_cells::lock_names::CellNames;
-use site_locks::locks::Locks;
+use site_locks::locks::{Locks, Seats};
 use site_locks::named::Site;
 use site_locks::note::OkdNote;
 use std::marker::Model;
@@ -107,6 +107,23 @@ impl<N: Staffed, J: Site, C: CellNames, K: Keeper, S: Sink, F: Children> Resting
         ensures rests { Rests N.site N.run_seed N.children result.1.past result.0 }
     {
         let Resting { launcher, deeds } = self;
+        (launcher, deeds)
+    }
+
+    /// The same, where what another number has seen on the board of each service was begun in the turns before.
+    pub(crate) fn into_parts_for(
+        self,
+        locks: &Locks<N, J, K, S>,
+        other: &mut Seats<N, J, K, S>,
+    ) -> (Launcher<N, J, C, K, S, F>, Deeds)
+        ensures launcher { result.0 ≡ self.launcher }
+        ensures deeds { result.1.past ≡ self.deeds }
+        ensures rests { Rests N.site N.run_seed N.children result.1.past result.0 }
+        ensures begun { (s : ℕ) → s < length N.site.services → slice_index other.old.board s ≤ begun (entries self.deeds) s }
+        ensures other { other.new ≡ other.old }
+    {
+        let (mut launcher, deeds) = self.into_parts();
+        launcher.compare(locks, other);
         (launcher, deeds)
     }
 

@@ -5,7 +5,7 @@ ghost use Rattle.std.specs.Prelude.{◌≡◌, ◌<◌, ◌≤◌, length};
 ghost use Rattle.monitor_model.specs.Cell.{last_booted};
 ghost use Rattle.turn_lock.specs.Rows.{RestsAt};
 ghost use Rattle.okld_launch.specs.Ups.{launch_up_if};
-ghost use Rattle.launch_turns.specs.Standing.{UpsStand};
+ghost use Rattle.launch_turns.specs.Standing.{BegunBefore, UpsStand};
 ghost use Rattle.launch_turns.specs.Turns.{LaunchesBy, RelaunchesBy, ReportsBy, TendsBy};
 
 use crate::deed::Took;
@@ -20,7 +20,7 @@ use okws_outer::stream::Sink;
 use site_cells::lock_names::CellNames;
 use site_cells::locks::CellLocks;
 use site_cells::note::CellNote;
-use site_locks::locks::Locks;
+use site_locks::locks::{Locks, Seats};
 use site_locks::named::Site;
 use site_locks::note::OkdNote;
 use site_locks::noted_link::Noted;
@@ -137,6 +137,7 @@ pub fn report_by<
     turn: &Turn<Resting<N, J, C, K, S, F>>,
     seat: &mut Seat<Resting<N, J, C, K, S, F>>,
     locks: &Locks<N, J, K, S>,
+    hands: &mut Seats<N, J, K, S>,
     cells: &CellLocks<N, C, Noted<N, J, K, S, F>>,
     note: CellNote<N, C, Noted<N, J, K, S, F>>,
     service: u16,
@@ -149,10 +150,12 @@ pub fn report_by<
     requires booted { incarnation ≤ last_booted note.seen }
     ensures goes { ReportsBy N.site service incarnation seat.old result.0 result.1 seat.new }
     ensures stand { UpsStand seat.new.seen result.2 }
+    ensures shown { BegunBefore N.site hands.old.board seat.new.seen }
+    ensures hands { hands.new ≡ hands.old }
     ensures seat { seat.new ≡ record seat.old { seen = seat.new.seen } }
 {
     let resting = turn.take(rt, seat);
-    let (mut launcher, deeds) = resting.into_parts();
+    let (mut launcher, deeds) = resting.into_parts_for(locks, hands);
     launcher.keeps();
     launcher.meet(cells, note);
     let (launcher, answer, entered) = launcher.crashed(
@@ -192,6 +195,7 @@ pub fn tend_by<
     turn: &Turn<Resting<N, J, C, K, S, F>>,
     seat: &mut Seat<Resting<N, J, C, K, S, F>>,
     locks: &Locks<N, J, K, S>,
+    hands: &mut Seats<N, J, K, S>,
     cells: &CellLocks<N, C, Noted<N, J, K, S, F>>,
     service: u16,
 ) -> (Tended, Entered, OkdNote<N, J>)
@@ -199,10 +203,12 @@ pub fn tend_by<
     requires service { service < length N.site.services }
     ensures goes { TendsBy N.site service seat.old result.0 result.1 seat.new }
     ensures stand { UpsStand seat.new.seen result.2 }
+    ensures shown { BegunBefore N.site hands.old.board seat.new.seen }
+    ensures hands { hands.new ≡ hands.old }
     ensures seat { seat.new ≡ record seat.old { seen = seat.new.seen } }
 {
     let resting = turn.take(rt, seat);
-    let (launcher, deeds) = resting.into_parts();
+    let (launcher, deeds) = resting.into_parts_for(locks, hands);
     launcher.keeps();
     let (launcher, answer, entered) = launcher.tend(rt, gate, locks, cells, service);
     launcher.keeps();

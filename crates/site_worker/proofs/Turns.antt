@@ -4,7 +4,7 @@ use Rattle.okws_base.specs.declared.journal.Entry.{Entry}
 use Rattle.okws_plan.specs.declared.configuration.Config.{Config}
 use Rattle.okws_plan.specs.declared.event.LauncherEvent.{LauncherEvent}
 use Rattle.okws_plan.specs.declared.event.OkdEvent.{OkdEvent}
-use Rattle.launch_turns.specs.Standing.{UpsStand}
+use Rattle.launch_turns.specs.Standing.{BegunBefore, UpsStand}
 use Rattle.launch_turns.specs.Turns.{RelaunchesBy, ReportsBy, TendsBy}
 use Rattle.okld_launch.specs.declared.answer.Launched.{Launched}
 use Rattle.okld_launch.specs.declared.answer.Crashed.{Crashed}
@@ -36,25 +36,30 @@ module _ (C : Config) (s : ℕ) (events : List LauncherEvent) (J A B M K : Life)
   stand_made : UpsStand M.launcher.seen M.shown
   stand_made = subst (λ (x : SeatIs Deed × List (Entry OkdEvent)). UpsStand x.0.seen x.1) (λ i. (same_seat i, same_shown i)) stands
 
-  pub reports_made : (k : ℕ) (answer : Crashed) → ReportsBy C s k J.launcher answer events A.launcher → b ≡ crash_starved answer → StarvesWhere b M K → Reports C s k J K
-  reports_made k answer reports is starves = record {
+  begun_made : BegunBefore C J.board A.launcher.seen → BegunBefore C J.board M.launcher.seen
+  begun_made = subst (λ (x : SeatIs Deed). BegunBefore C J.board x.seen) same_seat
+
+  pub reports_made : BegunBefore C J.board A.launcher.seen → (k : ℕ) (answer : Crashed) → ReportsBy C s k J.launcher answer events A.launcher → b ≡ crash_starved answer → StarvesWhere b M K → Reports C s k J K
+  reports_made shows k answer reports is starves = record {
     answer = answer;
     events = events;
     mid = M;
     only = only_made;
     reports = subst (λ (x : SeatIs Deed). ReportsBy C s k J.launcher answer events x) same_seat reports;
     stand = stand_made;
+    begun = begun_made shows;
     notes = subst (λ (x : Bool). StarvesWhere x M K) is starves;
   }
 
-  pub tends_made : (answer : Tended) → TendsBy C s J.launcher answer events A.launcher → b ≡ tend_starved answer → StarvesWhere b M K → Tends C s J K
-  tends_made answer tends is starves = record {
+  pub tends_made : BegunBefore C J.board A.launcher.seen → (answer : Tended) → TendsBy C s J.launcher answer events A.launcher → b ≡ tend_starved answer → StarvesWhere b M K → Tends C s J K
+  tends_made shows answer tends is starves = record {
     answer = answer;
     events = events;
     mid = M;
     only = only_made;
     tends = subst (λ (x : SeatIs Deed). TendsBy C s J.launcher answer events x) same_seat tends;
     stand = stand_made;
+    begun = begun_made shows;
     notes = subst (λ (x : Bool). StarvesWhere x M K) is starves;
   }
 

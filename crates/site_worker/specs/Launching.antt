@@ -10,7 +10,7 @@ use Rattle.monitor_model.specs.Seen.{Seen}
 use Rattle.named_columns.specs.Launched.{by_entry}
 use Rattle.launch_turns.specs.Deeds.{by_deed, entries}
 use Rattle.okld_launch.specs.Entering.{Enters}
-use Rattle.launch_turns.specs.Standing.{UpsStand}
+use Rattle.launch_turns.specs.Standing.{BegunBefore, UpsStand}
 use Rattle.launch_turns.specs.Turns.{RelaunchesBy, ReportsBy, TendsBy}
 use Rattle.launch_turns.specs.declared.deed.Deed.{Deed}
 use Rattle.okld_launch.specs.declared.answer.Launched.{Launched}
@@ -64,7 +64,7 @@ pub record TakesTurn (events : List LauncherEvent) (J K : Life) : Type 0 where
   pub others : GrowsBy by_deed J.launcher.number J.launcher.seen deeds
   pub did : K.launcher.seen ≡ record { worker = J.launcher.number; entered = events; up = up; tended = tended } ∷ deeds
 
--- The launcher was told that incarnation k of s has crashed; what the turn entered there was noted. The worker is shown okd then: all that came up in the turns that it has seen stands there.
+-- The launcher was told that incarnation k of s has crashed; what the turn entered there was noted. The worker is shown okd then: all that came up in the turns that it has seen stands there. What it has seen on the board was begun before that turn.
 pub record Reports (C : Config) (s k : ℕ) (J K : Life) : Type 0 where
   pub answer : Crashed
   pub events : List LauncherEvent
@@ -72,9 +72,10 @@ pub record Reports (C : Config) (s k : ℕ) (J K : Life) : Type 0 where
   pub only : OnlyLauncher events J mid
   pub reports : ReportsBy C s k J.launcher answer events mid.launcher
   pub stand : UpsStand mid.launcher.seen mid.shown
+  pub begun : BegunBefore C J.board mid.launcher.seen
   pub notes : StarvesWhere (crash_starved answer) mid K
 
--- Service s was looked after; what the turn entered at the launcher was noted. The worker is shown okd so too.
+-- Service s was looked after; what the turn entered at the launcher was noted. The worker is shown okd so too, and what it has seen on the board was begun so too.
 pub record Tends (C : Config) (s : ℕ) (J K : Life) : Type 0 where
   pub answer : Tended
   pub events : List LauncherEvent
@@ -82,6 +83,7 @@ pub record Tends (C : Config) (s : ℕ) (J K : Life) : Type 0 where
   pub only : OnlyLauncher events J mid
   pub tends : TendsBy C s J.launcher answer events mid.launcher
   pub stand : UpsStand mid.launcher.seen mid.shown
+  pub begun : BegunBefore C J.board mid.launcher.seen
   pub notes : StarvesWhere (tend_starved answer) mid K
 
 -- The operator asked for service s; what the turn entered at the launcher was noted. The worker is shown okd so too.

@@ -54,7 +54,7 @@ pub struct Hands<'a, R: Wait, G: Gate, N: Backed, J: Site, K: Keeper, S: Sink> {
     rt: &'a R,
     gate: &'a G,
     locks: &'a Locks<N, J, K, S>,
-    seats: Seats<N, J, K, S>,
+    pub(crate) seats: Seats<N, J, K, S>,
 }
 
 impl<'a, R: Wait, G: Gate, N: Backed, J: Site, K: Keeper, S: Sink> Drop

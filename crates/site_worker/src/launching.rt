@@ -4,7 +4,7 @@ ghost use Rattle.std.specs.Prelude.{◌≡◌, ◌<◌, ◌≤◌, length};
 ghost use Rattle.monitor_model.specs.Cell.{last_booted};
 ghost use Rattle.site_cells.specs.Row.{seen_at};
 ghost use Rattle.okld_launch.specs.declared.entered.TheConstants.{MOST_ENTERED};
-ghost use Rattle.launch_turns.specs.Standing.{UpsStand};
+ghost use Rattle.launch_turns.specs.Standing.{BegunBefore, UpsStand};
 ghost use Rattle.launch_turns.specs.Turns.{RelaunchesBy, ReportsBy, TendsBy};
 ghost use Rattle.site_worker.specs.Launching.{launch_starved, crash_starved, tend_starved, Reports, Tends, Asks};
 ghost use Rattle.site_worker.specs.Lives.{Spends};
@@ -92,6 +92,7 @@ impl<
         ensures reports { ReportsBy N.site service incarnation self.old.life.launcher result.0 result.1 self.new.life.launcher }
         ensures only { self.new.life ≡ record self.old.life { launcher = record self.old.life.launcher { seen = self.new.life.launcher.seen } } }
         ensures stand { UpsStand self.new.life.launcher.seen result.2 }
+        ensures shown { BegunBefore N.site self.old.life.board self.new.life.launcher.seen }
         ensures few { length result.1 ≤ MOST_ENTERED }
         ensures spare { self.new.spare ≡ self.old.spare }
     {
@@ -101,12 +102,14 @@ impl<
         let locks = self.locks;
         let cells = self.cells;
         let seat = &mut self.at_launcher;
+        let hands = &mut self.hands.seats;
         report_by(
             rt,
             gate,
             turn,
             seat,
             locks,
+            hands,
             cells,
             note,
             service,
@@ -120,6 +123,7 @@ impl<
         ensures tends { TendsBy N.site service self.old.life.launcher result.0 result.1 self.new.life.launcher }
         ensures only { self.new.life ≡ record self.old.life { launcher = record self.old.life.launcher { seen = self.new.life.launcher.seen } } }
         ensures stand { UpsStand self.new.life.launcher.seen result.2 }
+        ensures shown { BegunBefore N.site self.old.life.board self.new.life.launcher.seen }
         ensures few { length result.1 ≤ MOST_ENTERED }
         ensures spare { self.new.spare ≡ self.old.spare }
     {
@@ -129,7 +133,8 @@ impl<
         let locks = self.locks;
         let cells = self.cells;
         let seat = &mut self.at_launcher;
-        tend_by(rt, gate, turn, seat, locks, cells, service)
+        let hands = &mut self.hands.seats;
+        tend_by(rt, gate, turn, seat, locks, hands, cells, service)
     }
 
     // A turn in which the operator's service is launched.

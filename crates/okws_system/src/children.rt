@@ -1,10 +1,10 @@
 //! Children of the system.
 
-ghost use Rattle.std.specs.Prelude.{◌≡◌, ◌≢◌, ℕ, List, [], true, None, IfOk, IfSome, codes};
-ghost use Rattle.std.specs.Process.{clears_env, command_var};
+ghost use Rattle.std.specs.Prelude.{◌≡◌, [], None, IfOk};
 ghost use Rattle.okws_outer.specs.Lives.{new_life};
 ghost use Rattle.okws_outer.specs.Families.{IsNewLink};
 
+use crate::command::{command_of, search_path, with_path};
 use crate::link::PipeLink;
 use crate::notice;
 use crate::pipes::{ChildInput, ChildOutput};
@@ -18,12 +18,11 @@ use okws_outer::error::MakeError;
 use okws_outer::stream::{Link, Pull, Put};
 use real_network::trying::{count, refusal};
 use std::alloc::{AllocError, Global};
-use std::env::VarError;
 use std::fs::Files;
+use std::io;
 use std::io::{ErrorKind, PipeWriter, Stderr};
 use std::process::{Child as Spawned, ChildStdout, Command, Processes, Stdio, SystemProcess};
 use std::rt::Env;
-use std::{env, io, str};
 
 /// The link of a child: its standard output, and the pipe that is its standard input.
 pub struct ChildLink {
@@ -189,47 +188,6 @@ impl<'r, R: Processes<Started = SystemProcess> + Files + Env + AllocGlobal> Real
     {
         self.faults
     }
-}
-
-/// A word as text; a program's words are UTF-8.
-fn text_of(word: &Items<u8>) -> io::Result<&str> {
-    match str::from_utf8(word.as_slice()) {
-        Ok(text) => Ok(text),
-        Err(_) => Err(io::Error::from(ErrorKind::InvalidInput)),
-    }
-}
-
-/// The command of a program's name and its words.
-fn command_of(alloc: Global, words: &[Items<u8>]) -> io::Result<Command> {
-    let Some((program, args)) = words.split_first() else {
-        return Err(io::Error::from(ErrorKind::InvalidInput));
-    };
-    let mut command = Command::new(alloc, text_of(program)?)?;
-    for arg in args {
-        command.arg(text_of(arg)?)?;
-    }
-    Ok(command)
-}
-
-/// The server's own PATH, where it has one that is text. Fails only where memory is refused.
-fn search_path<R: Env + AllocGlobal>(rt: &R) -> io::Result<Option<String>> {
-    match env::var(rt, "PATH") {
-        Ok(path) => Ok(Some(path)),
-        Err(VarError::OutOfMemory) => Err(io::Error::from(ErrorKind::OutOfMemory)),
-        Err(_) => Ok(None),
-    }
-}
-
-/// The command with an environment that has PATH alone, or nothing.
-fn with_path(mut command: Command, path: Option<&str>) -> io::Result<Command>
-    ensures clears { IfOk result (λ c. clears_env c ≡ true) }
-    ensures others { IfOk result (λ c. (k : List ℕ) → k ≢ codes "PATH" → command_var c k ≡ None) }
-{
-    command.env_clear();
-    if let Some(path) = path {
-        command.env("PATH", path)?;
-    }
-    Ok(command)
 }
 
 /// A process whose standard output is a pipe, and the end of the pipe that is its standard input. The

@@ -4,6 +4,7 @@
 #![tactic(auto)]
 
 pub mod children;
+mod command;
 pub mod console;
 pub mod files;
 pub mod link;

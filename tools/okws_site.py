@@ -6,6 +6,7 @@ import dataclasses, os, re, shutil, subprocess, sys
 ROOT = os.path.dirname(os.path.dirname(os.path.realpath(__file__)))
 MOST_CONNECTIONS = 1_000_000
 MOST_DOORS = 64
+MOST_PATIENCE = 3600
 MOST_BYTES = 262_144
 
 STATUSES = {

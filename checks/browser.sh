@@ -3,6 +3,7 @@
 #   checks/browser.sh PROGRAM [FOLDER [CHROMIUM]]     FOLDER has svc_guest, or the crates; CHROMIUM is the browser, chromium without it
 # It is steered over two pipes. Loopback only, on a port that the system gives. Every process that is started is ended, by its id.
 set -uo pipefail
+: "${1:?where is the program, as bin/okws?}"
 program=$(realpath "$1")
 examples=$(realpath "$(dirname "$0")/../examples")
 services=$(realpath "${2:-$(dirname "$0")/../crates}")

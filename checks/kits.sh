@@ -5,6 +5,7 @@
 # Loopback only, on ports that the system gives. Every process that is started is ended, by its id. The last line is 'N passed, N failed', and
 # behind it ', N skipped' where some were.
 set -uo pipefail
+: "${1:?where is the program, as bin/okws?}"
 program=$(realpath "$1")
 only=${2:-}
 top=$(realpath "$(dirname "$0")/..")

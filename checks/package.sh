@@ -4,6 +4,7 @@
 # It needs root and, without SYSTEM, mmdebstrap and a mirror of Debian, so it isn't in the gate. It prints how long each step took; the page has to be there
 # within a minute of the package's coming, and Lintian, where it is there, must find no error in the package. Loopback only, on a port that the system gives.
 set -euo pipefail
+: "${1:?where is the package, as dist/okws_VERSION.deb?}"
 package=$(realpath "$1")
 if command -v lintian >/dev/null; then
     lintian --fail-on error "$package"

@@ -4,6 +4,7 @@
 # It needs Python 3.11; what else is tried where it is there, docs/OPERATE.md says. The last line is 'N passed, N failed, N skipped', of all. It fails too where one
 # of the three doesn't come to its end, or has nothing passed and nothing skipped.
 set -uo pipefail
+: "${1:?where is the program, as bin/okws?}"
 here=$(dirname "$0")
 passed=0 failed=0 skipped=0
 

@@ -5,6 +5,7 @@
 # process that is started is ended, by its id.
 # The last line is 'N passed, M failed'.
 set -uo pipefail
+: "${1:?where is the program, as bin/okws?}"
 program=$(realpath "$1")
 services=$(realpath "${2:-$(dirname "$0")/../crates}")
 only=${3:-}

@@ -4,6 +4,7 @@
 #   checks/store.sh PROGRAM [TIMES [FOLDER [SEED]]]     so many times (20), with the services of FOLDER, or of this repository's crates
 # Loopback only, on ports that the system gives. Every process that is started is ended, by its id. The last line is 'N passed, M failed'.
 set -uo pipefail
+: "${1:?where is the program, as bin/okws?}"
 program=$(realpath "$1")
 times=${2:-20}
 services=$(realpath "${3:-$(dirname "$0")/../crates}")

@@ -4,6 +4,7 @@
 #   checks/unit.sh PACKAGE.deb [SYSTEM]     SYSTEM is a folder that mmdebstrap has filled with systemd, systemd-sysv, python3 and logrotate; it is left as it was
 # It needs root, systemd-nspawn and, without SYSTEM, mmdebstrap and a mirror of Debian, so it isn't in the gate. The container has a loopback interface alone.
 set -euo pipefail
+: "${1:?where is the package, as dist/okws_VERSION.deb?}"
 package=$(realpath "$1")
 work=$(mktemp -d)
 trap 'rm -rf "$work"' EXIT

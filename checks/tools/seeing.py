@@ -42,6 +42,29 @@ def a_compartment_is_on_one_screen():
     assert 'other' not in found and len(found.splitlines()) < 24, found
 
 
+JOINED = """okws 1
+proxy main
+table main msgs id INT KEY who TEXT note TEXT
+table main ON id INT KEY msg INT JOIN TEXT
+query main 1 SELECT msgs.who, ON.JOIN FROM msgs JOIN ON ON msgs.id = ON.msg WHERE ON.JOIN <> 'x FROM y' ORDER BY msgs.note
+query main 2 SELECT ON.id FROM ON JOIN msgs ON msgs.id = ON.msg WHERE ON.id = ?1
+service guest /bin/true
+uri /guest guest
+grant guest main 1 2
+"""
+
+
+def a_join_reads_two_tables():
+    write('joined.okws', JOINED)
+    found = [' '.join(line.split()) for line in run('okws-show', 'joined.okws').splitlines()]
+    for line in ('msgs and ON: reads msgs.who, ON.JOIN; joins on msgs.id, ON.msg; tests ON.JOIN; sorts by msgs.note',
+                 'id INT KEY tested by guest', 'who TEXT read by guest', 'note TEXT tested by guest',
+                 'id INT KEY read by guest; tested by guest', 'msg INT tested by guest', 'JOIN TEXT read by guest; tested by guest'):
+        assert line in found, (line, found)
+    odd = [line for line in found if 'has no LIMIT' in line]
+    assert len(odd) == 1 and odd[0].startswith('guest: query main 1 '), odd
+
+
 def a_text_may_have_other_ends_of_lines():
     write('lines.okws', f"okws 1\nproxy main\ntable main m who TEXT\nquery main 1 SELECT who FROM m WHERE who = 'a{chr(0x2028)}b{chr(0x85)}c' LIMIT 1\n")
     has(run('okws-show', 'lines.okws'), 'query main 1: granted to nobody')
@@ -250,7 +273,7 @@ def words_are_completed():
 
 
 CHECKS = [
-    a_compartment_is_on_one_screen, a_text_may_have_other_ends_of_lines, tables_tell_who_uses_which_column, what_is_odd_is_told, what_okws_run_gives_is_shown, a_refused_configuration_is_shown_in_words,
+    a_compartment_is_on_one_screen, a_join_reads_two_tables, a_text_may_have_other_ends_of_lines, tables_tell_who_uses_which_column, what_is_odd_is_told, what_okws_run_gives_is_shown, a_refused_configuration_is_shown_in_words,
     refusals_are_explained_with_a_guess, a_script_is_explained_frame_by_frame, what_a_server_tells_of_a_service_is_explained,
     each_rule_of_the_page_has_words, frames_are_taken_apart,
     a_run_is_drawn, a_refused_script_is_drawn_to_its_line, each_answer_of_a_run_is_drawn, the_page_shows_in_a_browser, words_are_completed,

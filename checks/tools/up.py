@@ -344,8 +344,11 @@ def systemd_is_told():
 
 def words_that_are_none_are_refused():
     write('words/site.okws', SITE)
-    for words in ([], ['site.okws'], ['site.okws', '--port', 'x'], ['site.okws', '--port', '1', '--nothing'], ['site.okws', '--port', '1', '--count', '0']):
+    for words in ([], ['site.okws'], ['site.okws', '--port', 'x'], ['site.okws', '--port', '0'], ['site.okws', '--port', '1', '--nothing']):
         run('okws-up', *words, status=2, cwd='words')
+    for option, number in (('--count', '0'), ('--doors', '65'), ('--patience', '3601'), ('--patience', '-1')):
+        run('okws-up', 'site.okws', '--port', '1', option, number, status=2, cwd='words')
+    run('okws-ctl', '--site', 'one', '--run', 'another', 'status', status=2)
     run('okws-up', 'nowhere', '--port', '1', status=3, cwd='words')
     run('okws-ctl', 'status', status=3, cwd='words')
 

@@ -15,6 +15,9 @@ def options(words, *known):
     given = {}
     while words and words[0].startswith('--'):
         name = words.pop(0)
+        if name == '--help':
+            print(sys.modules['__main__'].__doc__)
+            sys.exit()
         if name + '=' in known and words:
             given[name] = words.pop(0)
         elif name in known:

@@ -162,6 +162,8 @@ def words_that_ask_for_nothing_are_refused():
                   ['--all', 'x', '/bin/true'], ['--env', 'A', '/bin/true'], ['nowhere'], ['./nowhere']):
         run = run_confined([], words)
         same((words, run.returncode, run.stdout, run.stderr.startswith('okws-run: ')), (words, 126, '', True))
+    run = run_confined([], ['--help'])
+    same((run.returncode, run.stdout.startswith('okws-run [--read PATH]..'), run.stderr), (0, True, ''))
 
 def a_dialog_that_takes_too_long_is_ended():
     words = f'./okws-run --seconds 8 --read {TOP}/checks/kits/slow.py --read {TOP}/kits/python {PYTHON} {TOP}/checks/kits/slow.py {TOP}/kits/python'

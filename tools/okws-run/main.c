@@ -100,17 +100,31 @@ static void take(struct asked *a, const char *option, char *value) {
     a->env[2 + a->names++] = value;
 }
 
+#define CALLED "okws-run [--read PATH].. [--write PATH].. [--run PATH].. [--env NAME=VALUE].. [--network] [--memory MIB] [--seconds N] PROGRAM WORD.."
+
+static const char help[] =
+    CALLED "\n\n"
+    "Starts PROGRAM, a service of okws, with no more of the machine than its words name, or, where the kernel can't confine it, not at all.\n"
+    "It reads /usr, /lib*, /bin and itself, has an environment of PATH and LANG, its two pipes and a third one for standard error.\n\n"
+    "  --read, --write  a file that it may read, or write and read, or a folder with all below it\n"
+    "  --run            likewise, and it may start what stands there, which is confined as it is\n"
+    "  --env            a variable more\n"
+    "  --network        sockets of the internet's kinds\n"
+    "  --memory         at most so many mebibytes of data, each process for itself\n"
+    "  --seconds        it is killed where one dialog takes longer\n\n"
+    "It ends with PROGRAM's status, and with 126 and a sentence where PROGRAM isn't started.\n";
+
 int main(int count, char **words) {
     static struct asked a = {.env = {"PATH=" SEARCHED, "LANG=C.UTF-8"}};
     int i = 1;
     for (; i < count && words[i][0] == '-'; i++) {
+        if (!strcmp(words[i], "--help")) return fputs(help, stdout) == EOF;
         if (!strcmp(words[i], "--network")) a.network = 1;
         else if (!strcmp(words[i], "--memory")) a.memory = (uint64_t)(number(words[i], words[i + 1]) * 1048576), i++;
         else if (!strcmp(words[i], "--seconds")) a.seconds = number(words[i], words[i + 1]), i++;
         else take(&a, words[i], words[i + 1]), i++;
     }
-    if (i >= count) stop("no program. It is called so:",
-        "okws-run [--read PATH].. [--write PATH].. [--run PATH].. [--env NAME=VALUE].. [--network] [--memory MIB] [--seconds N] PROGRAM WORD..");
+    if (i >= count) stop("no program. It is called so:", CALLED);
     a.program = words + i;
     if (a.seconds > 0) return watch(&a);
     become(&a);

@@ -226,6 +226,8 @@ def kept(path, spent):
 
 def main():
     words = sys.argv[1:]
+    if words == ["--help"]:
+        return print(__doc__)
     if words == ["--check"]:
         return check()
     if words[:1] == ["--read"]:

@@ -15,7 +15,7 @@ STATUSES = {
     3: 'a file could not be read',
     4: 'the configuration is refused',
     5: 'the port could not be opened: another program listens there',
-    6: 'a store of rows could not be opened: another server has it, its folder is missing, or its tables are other ones, for which there is okws-migrate',
+    6: 'a store of rows could not be opened: another server has it, its folder is missing, its tables are other ones, for which there is okws-migrate, or its rows don\'t fit them',
     7: 'the log could not be written, which is told at the end alone',
     8: 'standard output failed',
     9: 'the script is refused',
